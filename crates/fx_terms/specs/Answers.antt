@@ -1,0 +1,18 @@
+-- What an answer says where want of memory, and nothing else, is free.
+use Rattle.std.specs.Prelude.{◌≡◌, Result, Ok, Err}
+use Rattle.fx_terms.specs.declared.iris.TermError.{TermError}
+use Rattle.fx_terms.specs.declared.iris.TermError.TheVariants as term
+use Rattle.fx_terms.specs.declared.names.NameError.{NameError}
+use Rattle.fx_terms.specs.declared.names.NameError.TheVariants as name
+
+-- unless memory ran out, the answer is the wanted one
+abbrev pub AnswersTerm : {X : Type 0} → Result X TermError → Result X TermError → Type 0
+AnswersTerm (Ok x) wanted = wanted ≡ Ok x
+AnswersTerm (Err term.Memory) wanted = Unit {0}
+AnswersTerm (Err e) wanted = wanted ≡ Err e
+
+-- unless memory ran out, the answer is the wanted one
+abbrev pub AnswersName : {X : Type 0} → Result X NameError → Result X NameError → Type 0
+AnswersName (Ok x) wanted = wanted ≡ Ok x
+AnswersName (Err name.Memory) wanted = Unit {0}
+AnswersName (Err name.BadName) wanted = wanted ≡ Err name.BadName

@@ -1,0 +1,19 @@
+//! Want of memory.
+
+use std::alloc::{AllocError, AllocFailed};
+
+/// Memory ran out: the one answer of a call that no clause ties to a cause.
+#[derive(Clone, Copy, Debug, PartialEq, Eq)]
+pub struct Memory;
+
+impl From<AllocError> for Memory {
+    fn from(_error: AllocError) -> Memory {
+        Memory
+    }
+}
+
+impl<T: Drop> From<AllocFailed<T>> for Memory {
+    fn from(_error: AllocFailed<T>) -> Memory {
+        Memory
+    }
+}

@@ -1,0 +1,42 @@
+//! Terms, triples, patterns and graphs of RDF: the values that everything else speaks of.
+//!
+//! Texts are shared: a copy of a term or a name takes no memory for its text.
+#![tactic(auto)]
+
+pub mod allocation;
+pub mod graphs;
+pub mod iris;
+pub mod literals;
+pub mod names;
+pub mod patterns;
+pub mod terms;
+pub mod triples;
+
+pub use allocation::Memory;
+pub use graphs::Graph;
+pub use iris::{Iri, TermError};
+pub use literals::{Literal, LiteralError};
+pub use names::{Name, NameError};
+pub use patterns::{Pattern, PatternTerm};
+pub use sqlite_items::{Boxed, Items};
+pub use terms::Term;
+pub use triples::Triple;
+
+/// A call of this shows that a type may be shared between threads and sent to them.
+pub fn shareable<T: Send + Sync>() {}
+
+/// Every type of this crate may be shared between threads and sent to them.
+pub fn all_shareable() {
+    shareable::<Memory>();
+    shareable::<Iri>();
+    shareable::<TermError>();
+    shareable::<Literal>();
+    shareable::<LiteralError>();
+    shareable::<Name>();
+    shareable::<NameError>();
+    shareable::<Term>();
+    shareable::<Triple>();
+    shareable::<PatternTerm>();
+    shareable::<Pattern>();
+    shareable::<Graph>();
+}
