@@ -1,0 +1,6 @@
+pub mod Answers
+pub mod BasicGraphPatterns
+pub mod Graphs
+pub mod Scopes
+pub mod Sequences
+pub mod Solutions

@@ -1,0 +1,31 @@
+//! Queries, solutions and answers, and the definitions of what a query means.
+#![tactic(auto)]
+
+pub mod answers;
+pub mod expressions;
+pub mod queries;
+pub mod scopes;
+pub mod solutions;
+
+pub use answers::Answer;
+pub use expressions::{Compare, Expr, Function, Sign};
+use fx_terms::shareable;
+pub use queries::{Element, Form, Group, Inline, Order, Query};
+pub use scopes::scope;
+pub use solutions::Solution;
+
+/// Every type of this crate may be shared between threads and sent to them.
+pub fn all_shareable() {
+    shareable::<Answer>();
+    shareable::<Compare>();
+    shareable::<Expr>();
+    shareable::<Function>();
+    shareable::<Sign>();
+    shareable::<Element>();
+    shareable::<Form>();
+    shareable::<Group>();
+    shareable::<Inline>();
+    shareable::<Order>();
+    shareable::<Query>();
+    shareable::<Solution>();
+}

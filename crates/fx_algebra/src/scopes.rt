@@ -1,0 +1,102 @@
+//! The scope of a group.
+ghost use Rattle.std.specs.Prelude.{◌≡◌, fold, map, IfOk, OnOk};
+ghost use Rattle.fx_algebra.specs.Scopes as spec;
+
+use crate::queries::{Element, Group};
+use fx_terms::{Memory, Name, Pattern, PatternTerm};
+use std::alloc::Global;
+
+/// The names that a group binds (SPARQL 1.1 section 18.2.1), in text order, each once. A triple gives its variables, BIND its
+/// variable, VALUES its columns, UNION, nested groups, OPTIONAL and SERVICE what their groups give; FILTER and MINUS give
+/// nothing.
+pub fn scope(alloc: Global, group: &Group) -> Result<Vec<Name>, Memory>
+    ensures { IfOk result (λ names. names.items ≡ spec.scope group.now) }
+{
+    let mut names = Vec::new(alloc);
+    add_group(&mut names, group)?;
+    Ok(names)
+}
+
+/// Whether a name stands among names.
+pub fn is_among(names: &[Name], name: &Name) -> bool
+    ensures { result ≡ spec.is_among names.now name.now }
+{
+    names.iter().any(|other| *other == *name)
+}
+
+/// Adds a name at the end, where it is new.
+#[tactic(auto, unfolding(crate::specs::Scopes::with_name))]
+pub fn add_name(names: &mut Vec<Name>, name: &Name) -> Result<(), Memory>
+    ensures { OnOk result (names.new.items ≡ spec.with_name names.old.items name.now) }
+{
+    if !is_among(names.as_slice(), name) {
+        names.push(name.copy()?)?;
+    }
+    Ok(())
+}
+
+fn add_names(names: &mut Vec<Name>, more: &[Name]) -> Result<(), Memory>
+    ensures { OnOk result (names.new.items ≡ fold spec.with_name names.old.items more.now) }
+{
+    for name in more {
+        add_name(names, name)?;
+    }
+    Ok(())
+}
+
+fn add_part(names: &mut Vec<Name>, part: &PatternTerm) -> Result<(), Memory>
+    ensures { OnOk result (names.new.items ≡ fold spec.with_name names.old.items (spec.part_names part.now)) }
+{
+    match part {
+        PatternTerm::Variable(name) => add_name(names, name),
+        PatternTerm::Constant(_) => Ok(()),
+    }
+}
+
+fn add_pattern(names: &mut Vec<Name>, pattern: &Pattern) -> Result<(), Memory>
+    ensures { OnOk result (names.new.items ≡ fold spec.with_name names.old.items (spec.pattern_names pattern.now)) }
+{
+    add_part(names, &pattern.subject)?;
+    add_part(names, &pattern.predicate)?;
+    add_part(names, &pattern.object)
+}
+
+#[cycle(scope)]
+fn add_element(names: &mut Vec<Name>, element: &Element) -> Result<(), Memory>
+    ensures { OnOk result (names.new.items ≡ fold spec.with_name names.old.items (spec.mentions element.now)) }
+{
+    match element {
+        Element::Triple(pattern) => add_pattern(names, pattern),
+        Element::Filter(_) => Ok(()),
+        Element::Optional(group) => add_group(names, group),
+        Element::Union(groups) => add_groups(names, groups.as_slice()),
+        Element::Minus(_) => Ok(()),
+        Element::Bind { expr: _, name } => add_name(names, name),
+        Element::Values(inline) => add_names(names, inline.columns.as_slice()),
+        Element::Service {
+            silent: _,
+            iri: _,
+            group,
+        } => add_group(names, group),
+    }
+}
+
+#[cycle(scope)]
+fn add_groups(names: &mut Vec<Name>, groups: &[Group]) -> Result<(), Memory>
+    ensures { OnOk result (names.new.items ≡ fold spec.with_name names.old.items (spec.all_of (map spec.group_mentions groups.now))) }
+{
+    for group in groups {
+        add_group(names, group)?;
+    }
+    Ok(())
+}
+
+#[cycle(scope)]
+fn add_group(names: &mut Vec<Name>, group: &Group) -> Result<(), Memory>
+    ensures { OnOk result (names.new.items ≡ fold spec.with_name names.old.items (spec.group_mentions group.now)) }
+{
+    for element in group.elements.as_slice() {
+        add_element(names, element)?;
+    }
+    Ok(())
+}
