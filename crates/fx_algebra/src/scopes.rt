@@ -1,5 +1,5 @@
 //! The scope of a group.
-ghost use Rattle.std.specs.Prelude.{◌≡◌, fold, map, IfOk, OnOk};
+ghost use Rattle.std.specs.Prelude.{◌≡◌, ◌++◌, fold, map, IfOk, OnOk};
 ghost use Rattle.fx_algebra.specs.Scopes as spec;
 
 use crate::queries::{Element, Group};
@@ -12,9 +12,20 @@ use std::alloc::Global;
 pub fn scope(alloc: Global, group: &Group) -> Result<Vec<Name>, Memory>
     ensures { IfOk result (λ names. names.items ≡ spec.scope group.now) }
 {
-    let mut names = Vec::new(alloc);
-    add_group(&mut names, group)?;
-    Ok(names)
+    let mut mentions = Vec::new(alloc);
+    add_group(&mut mentions, group)?;
+    once(alloc, mentions.as_slice())
+}
+
+/// Names, each once, at its first place.
+pub fn once(alloc: Global, names: &[Name]) -> Result<Vec<Name>, Memory>
+    ensures { IfOk result (λ all. all.items ≡ spec.once names.now) }
+{
+    let mut all = Vec::new(alloc);
+    for name in names {
+        add_new(&mut all, name)?;
+    }
+    Ok(all)
 }
 
 /// Whether a name stands among names.
@@ -24,9 +35,9 @@ pub fn is_among(names: &[Name], name: &Name) -> bool
     names.iter().any(|other| *other == *name)
 }
 
-/// Adds a name at the end, where it is new.
+// Adds a name at the end, where it is new.
 #[tactic(auto, unfolding(crate::specs::Scopes::with_name))]
-pub fn add_name(names: &mut Vec<Name>, name: &Name) -> Result<(), Memory>
+fn add_new(names: &mut Vec<Name>, name: &Name) -> Result<(), Memory>
     ensures { OnOk result (names.new.items ≡ spec.with_name names.old.items name.now) }
 {
     if !is_among(names.as_slice(), name) {
@@ -36,25 +47,28 @@ pub fn add_name(names: &mut Vec<Name>, name: &Name) -> Result<(), Memory>
 }
 
 fn add_names(names: &mut Vec<Name>, more: &[Name]) -> Result<(), Memory>
-    ensures { OnOk result (names.new.items ≡ fold spec.with_name names.old.items more.now) }
+    ensures { OnOk result (names.new.items ≡ names.old.items ++ more.now) }
 {
     for name in more {
-        add_name(names, name)?;
+        names.push(name.copy()?)?;
     }
     Ok(())
 }
 
 fn add_part(names: &mut Vec<Name>, part: &PatternTerm) -> Result<(), Memory>
-    ensures { OnOk result (names.new.items ≡ fold spec.with_name names.old.items (spec.part_names part.now)) }
+    ensures { OnOk result (names.new.items ≡ names.old.items ++ spec.part_names part.now) }
 {
     match part {
-        PatternTerm::Variable(name) => add_name(names, name),
+        PatternTerm::Variable(name) => {
+            names.push(name.copy()?)?;
+            Ok(())
+        }
         PatternTerm::Constant(_) => Ok(()),
     }
 }
 
 fn add_pattern(names: &mut Vec<Name>, pattern: &Pattern) -> Result<(), Memory>
-    ensures { OnOk result (names.new.items ≡ fold spec.with_name names.old.items (spec.pattern_names pattern.now)) }
+    ensures { OnOk result (names.new.items ≡ names.old.items ++ spec.pattern_names pattern.now) }
 {
     add_part(names, &pattern.subject)?;
     add_part(names, &pattern.predicate)?;
@@ -63,7 +77,7 @@ fn add_pattern(names: &mut Vec<Name>, pattern: &Pattern) -> Result<(), Memory>
 
 #[cycle(scope)]
 fn add_element(names: &mut Vec<Name>, element: &Element) -> Result<(), Memory>
-    ensures { OnOk result (names.new.items ≡ fold spec.with_name names.old.items (spec.mentions element.now)) }
+    ensures { OnOk result (names.new.items ≡ names.old.items ++ spec.mentions element.now) }
 {
     match element {
         Element::Triple(pattern) => add_pattern(names, pattern),
@@ -71,7 +85,10 @@ fn add_element(names: &mut Vec<Name>, element: &Element) -> Result<(), Memory>
         Element::Optional(group) => add_group(names, group),
         Element::Union(groups) => add_groups(names, groups.as_slice()),
         Element::Minus(_) => Ok(()),
-        Element::Bind { expr: _, name } => add_name(names, name),
+        Element::Bind { expr: _, name } => {
+            names.push(name.copy()?)?;
+            Ok(())
+        }
         Element::Values(inline) => add_names(names, inline.columns.as_slice()),
         Element::Service {
             silent: _,
@@ -83,7 +100,7 @@ fn add_element(names: &mut Vec<Name>, element: &Element) -> Result<(), Memory>
 
 #[cycle(scope)]
 fn add_groups(names: &mut Vec<Name>, groups: &[Group]) -> Result<(), Memory>
-    ensures { OnOk result (names.new.items ≡ fold spec.with_name names.old.items (spec.all_of (map spec.group_mentions groups.now))) }
+    ensures { OnOk result (names.new.items ≡ names.old.items ++ spec.all_of (map spec.group_mentions groups.now)) }
 {
     for group in groups {
         add_group(names, group)?;
@@ -93,7 +110,7 @@ fn add_groups(names: &mut Vec<Name>, groups: &[Group]) -> Result<(), Memory>
 
 #[cycle(scope)]
 fn add_group(names: &mut Vec<Name>, group: &Group) -> Result<(), Memory>
-    ensures { OnOk result (names.new.items ≡ fold spec.with_name names.old.items (spec.group_mentions group.now)) }
+    ensures { OnOk result (names.new.items ≡ names.old.items ++ spec.group_mentions group.now) }
 {
     for element in group.elements.as_slice() {
         add_element(names, element)?;

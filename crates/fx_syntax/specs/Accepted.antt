@@ -1,0 +1,14 @@
+-- Which texts are which query.
+use Rattle.std.specs.Prelude.{ℕ, List}
+use Rattle.std.specs.Str.{IsUtf8}
+use Rattle.fx_algebra.specs.declared.queries.Query.{Query}
+use Rattle.fx_syntax.specs.declared.words.Word.{Word}
+use Rattle.fx_syntax.specs.Words.{texts_of, AreWords}
+use Rattle.fx_syntax.specs.FirstForm.{SpellsQuery}
+
+-- the bytes are UTF-8, and their words are the query
+pub record Accepted (bytes : List ℕ) (q : Query) : Type 0 where
+  pub utf8 : IsUtf8 bytes
+  pub words : List Word
+  pub read : AreWords (texts_of bytes) words
+  pub spelled : SpellsQuery words q
