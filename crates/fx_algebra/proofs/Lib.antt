@@ -1,1 +1,4 @@
+pub mod BgpLemmas
+pub mod ForcedLemmas
+pub mod MemberLemmas
 pub mod PairLemmas

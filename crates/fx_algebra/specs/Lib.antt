@@ -1,5 +1,6 @@
 pub mod Answers
 pub mod BasicGraphPatterns
+pub mod Evaluation
 pub mod Graphs
 pub mod Scopes
 pub mod Sequences

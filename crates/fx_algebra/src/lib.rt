@@ -3,6 +3,7 @@
 
 pub mod answers;
 pub mod expressions;
+pub mod laws;
 pub mod queries;
 pub mod scopes;
 pub mod solutions;

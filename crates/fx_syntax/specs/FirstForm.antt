@@ -18,9 +18,12 @@ use Rattle.fx_syntax.specs.declared.words.Word.TheVariants.{Select, Star, Where,
 abbrev pub group_of : List Pattern → Group
 group_of patterns = roll-Group (record { elements = map element.Triple patterns })
 
--- the query that selects columns of the solutions of some triples
+-- the query that selects columns of a group's solutions, and does nothing else to them
+abbrev pub selects : List (List ℕ) → Group → Query
+selects columns group = record { form = form.Select false columns; group = group; order = []; offset = 0; limit = None; inline = None }
+
 abbrev pub plain_query : List (List ℕ) → List Pattern → Query
-plain_query columns patterns = record { form = form.Select false columns; group = group_of patterns; order = []; offset = 0; limit = None; inline = None }
+plain_query columns patterns = selects columns (group_of patterns)
 
 -- a word that is a part of a triple
 abbrev pub SpellsPart : Word → PatternTerm → Type 0

@@ -1,6 +1,6 @@
 -- How the first form is read from left to right. `Accepted` says what is read; these functions only say how.
-use Rattle.std.specs.Prelude.{◌≡◌, ℕ, ◌-◌, Bool, true, false, List, [], ◌∷◌, ◌++◌, map, length, take, drop, Option, Some, None, Result, Ok, Err, ◌==◌, ◌&&◌, nat_le, slice_index, codes, if◌then◌else◌, option_and_then, option_map}
-use Rattle.std.specs.Borrow.{Bor}
+use Rattle.std.specs.Prelude.{◌≡◌, ℕ, ◌-◌, Bool, true, false, List, [], ◌∷◌, ◌++◌, map, length, take, drop, Option, Some, None, ◌==◌, ◌&&◌, nat_le, slice_index, codes, is_some, if◌then◌else◌, option_and_then, option_map}
+use Rattle.std.specs.List.{list_all, filter_map, prefix_len}
 use Rattle.std.specs.Result.{result_ok}
 use Rattle.std.specs.Str.{is_utf8, bytes_eq}
 use Rattle.fx_terms.specs.Iris.{read_iri}
@@ -10,11 +10,9 @@ use Rattle.fx_terms.specs.declared.patterns.PatternTerm.{PatternTerm}
 use Rattle.fx_terms.specs.declared.patterns.PatternTerm.TheVariants as part
 use Rattle.fx_algebra.specs.Scopes.{scope, once}
 use Rattle.fx_algebra.specs.declared.queries.Query.{Query}
-use Rattle.fx_syntax.specs.declared.words.FirstError.{FirstError}
-use Rattle.fx_syntax.specs.declared.words.FirstError.TheVariants.{NotFirst, Memory}
 use Rattle.fx_syntax.specs.declared.words.Word.{Word}
 use Rattle.fx_syntax.specs.declared.words.Word.TheVariants.{Select, Star, Where, Open, Close, Dot, Variable, Iri}
-use Rattle.fx_syntax.specs.Words.{texts_of, is_variable_name}
+use Rattle.fx_syntax.specs.Words.{texts_of, is_some_text, is_name_byte}
 use Rattle.fx_syntax.specs.FirstForm.{group_of, plain_query}
 
 -- ---- words
@@ -30,10 +28,10 @@ keyword text =
     else if bytes_eq text (codes ".") then Some Dot
     else None
 
--- the name behind a question mark
-abbrev pub variable_name : List ℕ → Option (List ℕ)
-variable_name [] = None
-variable_name (b ∷ bs) = if (b == 63) && is_variable_name bs then Some bs else None
+-- a question mark and a name
+abbrev pub is_variable : List ℕ → Bool
+is_variable [] = false
+is_variable (b ∷ bs) = b == 63 && is_some_text bs && list_all is_name_byte bs
 
 -- what stands in < and >
 abbrev pub bracketed : List ℕ → Option (List ℕ)
@@ -53,7 +51,7 @@ or_else None other = other
 
 -- what a word says
 abbrev pub word_of : List ℕ → Option Word
-word_of text = or_else (keyword text) (or_else (option_map Variable (variable_name text)) (option_map Iri (iri_of text)))
+word_of text = or_else (keyword text) (if is_variable text then Some (Variable (drop 1 text)) else option_map Iri (iri_of text))
 
 abbrev pub in_front : {X : Type 0} → Option X → Option (List X) → Option (List X)
 in_front None rest = None
@@ -70,6 +68,66 @@ abbrev pub behind : {X : Type 0} → List X → Option (List X) → Option (List
 behind front rest = option_map (λ xs. front ++ xs) rest
 
 -- ---- triples
+
+abbrev pub is_select : Word → Bool
+is_select Select = true
+is_select Star = false
+is_select Where = false
+is_select Open = false
+is_select Close = false
+is_select Dot = false
+is_select (Variable name) = false
+is_select (Iri iri) = false
+
+abbrev pub is_star : Word → Bool
+is_star Star = true
+is_star Select = false
+is_star Where = false
+is_star Open = false
+is_star Close = false
+is_star Dot = false
+is_star (Variable name) = false
+is_star (Iri iri) = false
+
+abbrev pub is_where : Word → Bool
+is_where Where = true
+is_where Select = false
+is_where Star = false
+is_where Open = false
+is_where Close = false
+is_where Dot = false
+is_where (Variable name) = false
+is_where (Iri iri) = false
+
+abbrev pub is_open : Word → Bool
+is_open Open = true
+is_open Select = false
+is_open Star = false
+is_open Where = false
+is_open Close = false
+is_open Dot = false
+is_open (Variable name) = false
+is_open (Iri iri) = false
+
+abbrev pub is_close : Word → Bool
+is_close Close = true
+is_close Select = false
+is_close Star = false
+is_close Where = false
+is_close Open = false
+is_close Dot = false
+is_close (Variable name) = false
+is_close (Iri iri) = false
+
+abbrev pub is_dot : Word → Bool
+is_dot Dot = true
+is_dot Select = false
+is_dot Star = false
+is_dot Where = false
+is_dot Open = false
+is_dot Close = false
+is_dot (Variable name) = false
+is_dot (Iri iri) = false
 
 abbrev pub part_of : Word → Option PatternTerm
 part_of (Variable name) = Some (part.Variable name)
@@ -90,26 +148,6 @@ pattern_parts None p o = None
 
 abbrev pub pattern_of : Word → Word → Word → Option Pattern
 pattern_of s p o = pattern_parts (part_of s) (part_of p) (part_of o)
-
-abbrev pub is_close : Word → Bool
-is_close Close = true
-is_close Dot = false
-is_close Select = false
-is_close Star = false
-is_close Where = false
-is_close Open = false
-is_close (Variable name) = false
-is_close (Iri iri) = false
-
-abbrev pub is_dot : Word → Bool
-is_dot Dot = true
-is_dot Close = false
-is_dot Select = false
-is_dot Star = false
-is_dot Where = false
-is_dot Open = false
-is_dot (Variable name) = false
-is_dot (Iri iri) = false
 
 -- nothing is left
 abbrev pub at_end : List Word → Option (List Pattern)
@@ -158,13 +196,6 @@ abbrev pub behind_where : List Word → Option (List Word)
 behind_where [] = None
 behind_where (w ∷ []) = None
 behind_where (w ∷ v ∷ ws) = if is_where w && is_open v then Some ws else None
-  where
-    is_where : Word → Bool
-    is_where Where = true
-    is_where _ = false
-    is_open : Word → Bool
-    is_open Open = true
-    is_open _ = false
 
 abbrev pub where_body : List Word → Option (List Pattern)
 where_body ws = option_and_then body_of (behind_where ws)
@@ -179,34 +210,29 @@ name_of Open = None
 name_of Close = None
 name_of Dot = None
 
--- the names in front, and the words behind them
-abbrev pub names_of : List Word → List (List ℕ) × List Word
-names_of [] = ([], [])
-names_of (w ∷ ws) = taken (name_of w) (names_of ws) (w ∷ ws)
-  where
-    taken : Option (List ℕ) → List (List ℕ) × List Word → List Word → List (List ℕ) × List Word
-    taken (Some name) rest all = (name ∷ rest.0, rest.1)
-    taken None rest all = ([], all)
+abbrev pub is_name : Word → Bool
+is_name w = is_some (name_of w)
+
+abbrev pub names_in : List Word → List (List ℕ)
+names_in ws = filter_map name_of ws
 
 abbrev pub star_query : List Word → Option Query
 star_query ws = option_map (λ ps. plain_query (scope (group_of ps)) ps) (where_body ws)
 
-abbrev pub columns_query : List (List ℕ) → List Word → Option Query
-columns_query [] ws = None
-columns_query (n ∷ ns) ws = option_map (plain_query (once (n ∷ ns))) (where_body ws)
+-- so many variables in front are selected
+abbrev pub columns_query : ℕ → List Word → Option Query
+columns_query count ws = if count == 0 then None else option_map (plain_query (once (names_in (take count ws)))) (where_body (drop count ws))
 
 abbrev pub named_query : List Word → Option Query
-named_query ws = columns_query (names_of ws).0 (names_of ws).1
+named_query ws = columns_query (prefix_len is_name ws) ws
 
 abbrev pub selected : List Word → Option Query
 selected [] = None
-selected (Star ∷ ws) = star_query ws
-selected (w ∷ ws) = named_query (w ∷ ws)
+selected (w ∷ ws) = if is_star w then star_query ws else named_query (w ∷ ws)
 
 abbrev pub query_of : List Word → Option Query
 query_of [] = None
-query_of (Select ∷ ws) = selected ws
-query_of (w ∷ ws) = None
+query_of (w ∷ ws) = if is_select w then selected ws else None
 
 -- the query that bytes are
 abbrev pub read_query : List ℕ → Option Query

@@ -1,7 +1,8 @@
 //! Words, and what each of them says.
-ghost use Rattle.std.specs.Prelude.{◌≡◌, IfOk, map, true};
+ghost use Rattle.std.specs.Prelude.{◌≡◌, IfOk, map, drop, true};
 ghost use Rattle.std.specs.List.{list_all, slice_split};
 ghost use Rattle.std.specs.Option.{option_copied};
+ghost use Rattle.std.specs.Str.{bytes_eq};
 ghost use Rattle.fx_syntax.specs.Words as word;
 ghost use Rattle.fx_syntax.specs.Reading as reading;
 ghost use Rattle.fx_syntax.specs.Answers.{Gives, GivesItems};
@@ -109,21 +110,27 @@ fn word_of(alloc: Global, text: &[u8]) -> Result<Word, FirstError>
 fn keyword(text: &[u8]) -> Option<Word>
     ensures { result ≡ reading.keyword text.now }
 {
-    if text == b"SELECT" {
+    if is_text(text, b"SELECT") {
         Some(Word::Select)
-    } else if text == b"*" {
+    } else if is_text(text, b"*") {
         Some(Word::Star)
-    } else if text == b"WHERE" {
+    } else if is_text(text, b"WHERE") {
         Some(Word::Where)
-    } else if text == b"{" {
+    } else if is_text(text, b"{") {
         Some(Word::Open)
-    } else if text == b"}" {
+    } else if is_text(text, b"}") {
         Some(Word::Close)
-    } else if text == b"." {
+    } else if is_text(text, b".") {
         Some(Word::Dot)
     } else {
         None
     }
+}
+
+fn is_text(text: &[u8], other: &[u8]) -> bool
+    ensures { result ≡ bytes_eq text.now other.now }
+{
+    text == other
 }
 
 fn is_blank(b: u8) -> bool
@@ -155,7 +162,7 @@ fn is_variable(text: &[u8]) -> bool
 
 fn read_name(alloc: Global, text: &[u8]) -> Result<Name, Memory>
     requires { reading.is_variable text.now ≡ true }
-    ensures { IfOk result (λ name. reading.variable_name text.now ≡ Some name) }
+    ensures { IfOk result (λ name. name ≡ drop 1 text.now) }
 {
     let [_, name @ ..] = text else { unreachable!() };
     match str::from_utf8(name) {
