@@ -1,5 +1,5 @@
 -- Words as texts.
-use Rattle.std.proofs.Common.{tests, length, suc, take, ◌-◌, ◌==◌, ◌≡◌, ◌∙◌, ℕ, ◌<◌, Bool, true, false, List, [], ◌∷◌, Some, None, Ok, Err, refl, ap, sym, cond, drop, arith, get_or, slice_index, ◌&&◌}
+use Rattle.std.proofs.Common.{tests, length, suc, take, ◌-◌, ◌==◌, ◌≡◌, ◌∙◌, ℕ, ◌<◌, Bool, true, false, List, [], ◌∷◌, Option, Some, None, Ok, Err, refl, ap, sym, cond, drop, arith, get_or, slice_index, ◌&&◌}
 use Rattle.std.proofs.Math.Seq.{take-length}
 use Rattle.std.specs.List.{list_all, All}
 use Rattle.std.specs.Str.{IsUtf8, is_utf8, IsAscii, chars}
@@ -7,9 +7,10 @@ use Rattle.std.proofs.lemmas.Str.{IsUtf8-from_is_utf8, is_utf8-from_IsUtf8, IsUt
 use Rattle.std.proofs.lemmas.List.Elements.{All-cons, All-nil}
 use Rattle.std.proofs.lemmas.Str.Ascii.{IsAscii-from_all}
 use Rattle.fx_terms.specs.Iris.{read_iri}
-use Rattle.fx_terms.specs.Names.{is_name, is_name_char, is_name_start, starts_as_name}
-use Rattle.fx_syntax.specs.Words.{is_name_byte, is_some_text}
-use Rattle.fx_syntax.specs.Reading.{iri_text, is_variable}
+use Rattle.fx_terms.specs.Names.{read_name, is_name, is_name_char, is_name_start, starts_as_name}
+use Rattle.fx_syntax.specs.Words.{texts_of, is_name_byte, is_some_text}
+use Rattle.fx_syntax.specs.declared.words.Word.{Word}
+use Rattle.fx_syntax.specs.Reading.{iri_text, is_variable, words_of, query_of, read_query}
 
 -- a choice at a test that is false
 at_false : {X : Type 0} (b : Bool) (x y : X) → (b ≡ true → ⊥) → cond b x y ≡ y
@@ -21,6 +22,12 @@ iri_text_not bs other = at_false (is_utf8 bs) _ None (λ e. other (IsUtf8-from_i
 
 pub iri_text_is : (bs t : List ℕ) → IsUtf8 bs → read_iri bs ≡ Ok t → iri_text bs ≡ Some t
 iri_text_is bs t u r = rw (is_utf8-from_IsUtf8 bs u) (rw r refl)
+
+pub not_utf8 : {X : Type 0} (bs : List ℕ) (x : Option X) → (IsUtf8 bs → ⊥) → cond (is_utf8 bs) x None ≡ None
+not_utf8 bs x other = at_false (is_utf8 bs) x None (λ e. other (IsUtf8-from_is_utf8 bs e))
+
+pub read_is : (bs : List ℕ) (ws : List Word) → IsUtf8 bs → words_of (texts_of bs) ≡ Some ws → read_query bs ≡ query_of ws
+read_is bs ws u r = rw (is_utf8-from_IsUtf8 bs u) (rw r refl)
 
 -- a word byte is ASCII, and may stand in a name
 name_byte_ascii : (b : ℕ) → is_name_byte b ≡ true → b < 128
@@ -64,3 +71,6 @@ name_is_name [] h = cc
 name_is_name (b ∷ bs) h =
     let t = both ((b == 63) && is_some_text bs) (list_all is_name_byte bs) h in
     rw (front_is (b ∷ bs), chars-IsAscii bs (IsAscii-from_all bs (all_ascii bs t.1)), starts bs (both (b == 63) (is_some_text bs) t.0).1 t.1) (all_names bs t.1)
+
+pub name_reads : (w : List ℕ) → is_variable w ≡ true → read_name (take (length w - 1) (drop 1 w)) ≡ Ok (take (length w - 1) (drop 1 w))
+name_reads w h = rw (name_is_name w h) refl
