@@ -1,8 +1,10 @@
 //! Queries of the first form.
-ghost use Rattle.std.specs.Prelude.{◌≡◌, ◌≤◌, ◌<◌, IfOk, IfSome, OnOk, option_map, map, length};
+ghost use Rattle.std.specs.Prelude.{◌≡◌, ◌≤◌, ◌<◌, IfOk, IfSome, OnOk, MatchResult, option_map, map, length};
 ghost use Rattle.std.specs.List.{prefix_len};
 ghost use Rattle.std.specs.Option.{option_copied};
 ghost use Rattle.fx_syntax.specs.Reading as reading;
+ghost use Rattle.fx_algebra.specs.declared.queries.Query.{Query as QueryTree};
+ghost use Rattle.fx_syntax.specs.Accepted.{Accepted};
 ghost use Rattle.fx_syntax.specs.FirstForm as first;
 ghost use Rattle.fx_syntax.specs.Answers.{Gives, GivesItems, GivesNext};
 
@@ -13,8 +15,22 @@ use fx_terms::{Items, Memory, Name, Pattern, PatternTerm, Term};
 use std::alloc::Global;
 use std::str;
 
-/// The query that a text of the first form is.
+/// The query that a text of the first form is: UTF-8 text of words with spaces, tabs, CR or LF between and perhaps at both
+/// ends. The words are `SELECT`; then `*`, or one or more variables; then `WHERE`, `{`, triples, `}`. A triple is three words,
+/// each a variable (`?` and ASCII letters, digits or `_`) or an IRI in `<` and `>`; the word `.` stands between two triples and
+/// perhaps after the last. There may be no triple.
+///
+/// `NotFirst` comes exactly where the text is not of this form.
 pub fn parse(alloc: Global, bytes: &[u8]) -> Result<Query, FirstError>
+    ensures found { IfOk result (Accepted bytes.now) }
+
+    // What is accepted is read, as this query and no other, unless memory runs out.
+    ensures only { (q : QueryTree) → Accepted bytes.now q → MatchResult result (λ r. r ≡ q) (λ e. e ≡ FirstError.Memory) }
+{
+    read_query(alloc, bytes)
+}
+
+fn read_query(alloc: Global, bytes: &[u8]) -> Result<Query, FirstError>
     ensures { Gives result (reading.read_query bytes.now) }
 {
     let Ok(_) = str::from_utf8(bytes) else {
