@@ -108,7 +108,7 @@ iri_text_is m = pick (is_utf8 m) refl (read_iri m) refl
     pick true e (Err x) f = tt
     pick true e (Ok x) f = let same = after_place m x _ f in (same, record { utf8 = IsUtf8-from_is_utf8 m e; iri = f ∙ ap Ok same })
 
-iri_of_is : (t : List ℕ) → IfSome (iri_of t) (λ i. IsWord t (Iri i))
+pub iri_of_is : (t : List ℕ) → IfSome (iri_of t) (λ i. IsWord t (Iri i))
 iri_of_is t =
     if_then iri_text (λ m. t ≡ 60 ∷ (m ++ 62 ∷ [])) (λ i. IsWord t (Iri i)) (bracketed t) (bracketed_from t) (λ m h. renamed m h (iri_text m) (iri_text_is m))
   where
@@ -116,7 +116,7 @@ iri_of_is t =
     renamed m h None k = tt
     renamed m h (Some i) k = subst (λ (j : List ℕ). IsWord t (Iri j)) (sym k.0) (h, k.1)
 
-iri_from : (i : List ℕ) → IsIri i → iri_of (60 ∷ (i ++ 62 ∷ [])) ≡ Some i
+pub iri_from : (i : List ℕ) → IsIri i → iri_of (60 ∷ (i ++ 62 ∷ [])) ≡ Some i
 iri_from i h = rw (bracketed_is i) (rw (is_utf8-from_IsUtf8 i h.utf8) (rw h.iri refl))
 
 -- ---- words

@@ -1,0 +1,37 @@
+//! The outside: what is written to and read from, in memory and over the system, with a count of each one's faults.
+//!
+//! A call that answers a fault has counted it, or its count stands at the end of `u64`.
+#![tactic(auto)]
+
+pub mod memory_storage;
+pub mod memory_streams;
+mod name_counts;
+pub mod storage;
+pub mod streams;
+pub mod system_storage;
+pub mod system_streams;
+pub mod writing;
+
+use fx_terms::shareable;
+pub use memory_storage::MemoryFiles;
+pub use memory_streams::MemorySink;
+pub use storage::{FileError, Files};
+pub use streams::{Ends, ReadFailed, Sink, WriteFailed};
+pub use system_storage::Folder;
+pub use system_streams::StdSink;
+pub use writing::write_all;
+
+/// Every type of this crate may be shared between threads and sent to them; one that holds a runtime or a writer may
+/// where that may.
+pub fn all_shareable<T: Send + Sync>() {
+    shareable::<ReadFailed>();
+    shareable::<WriteFailed>();
+    shareable::<FileError>();
+    shareable::<MemorySink>();
+    shareable::<MemoryFiles>();
+    shareable::<Folder<T>>();
+    shareable::<StdSink<T>>();
+}
+
+#[cfg(test)]
+mod tests;

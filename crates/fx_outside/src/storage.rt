@@ -1,0 +1,57 @@
+//! Files by name.
+ghost use Rattle.std.specs.Prelude.{◌≡◌, ◌<◌, ◌≤◌, ◌+◌, ℕ, List, Option, take, IfOk, IfSome, IsErrOf, vec_len};
+
+use std::alloc::{AllocError, AllocFailed, Global};
+
+/// Why a file wasn't given.
+#[derive(Clone, Copy, Debug, PartialEq, Eq)]
+pub enum FileError {
+    /// The file can't be opened or read, and this was counted as a fault of its name.
+    Failed,
+    /// Memory ran out, or the count of faults of the name stands at the end of `u64`.
+    Memory,
+}
+
+impl From<AllocError> for FileError {
+    ghost use Rattle.std.specs.Prelude.{◌≡◌};
+    ghost use Rattle.fx_outside.specs.declared.storage.FileError.TheVariants.{Memory};
+
+    ghost from_gives = { λ _ e. e ≡ Memory };
+
+    fn from(_error: AllocError) -> FileError {
+        FileError::Memory
+    }
+}
+
+impl<T: Drop> From<AllocFailed<T>> for FileError {
+    ghost use Rattle.std.specs.Prelude.{◌≡◌};
+    ghost use Rattle.fx_outside.specs.declared.storage.FileError.TheVariants.{Memory};
+
+    ghost from_gives = { λ _ e. e ≡ Memory };
+
+    fn from(_error: AllocFailed<T>) -> FileError {
+        FileError::Memory
+    }
+}
+
+/// Where files are taken from by name.
+pub trait Files {
+    /// The content of a name, where it is told.
+    ghost content: { Self → List ℕ → Option (List ℕ) };
+
+    /// How many times the file of a name has failed.
+    ghost faults: { Self → List ℕ → ℕ };
+
+    /// The first bytes of the file of this name: all of them where it has at most `limit` bytes, and else `limit + 1`,
+    /// which shows that it has more.
+    ///
+    /// `Failed` comes where the file can't be opened or read, and the count of faults of its name rose in this call.
+    /// `Memory` comes where memory runs out, or where that count stands at the end of `u64`, so that it can't rise.
+    fn take(&mut self, alloc: Global, name: &str, limit: u64) -> Result<Vec<u8>, FileError>
+        requires { limit ≤ 134217728 }
+        ensures size { IfOk result (λ bytes. vec_len bytes ≤ limit + 1) }
+        ensures told { IfOk result (λ bytes. IfSome (content self.old name.now) (λ all. bytes.items ≡ take (limit + 1) all)) }
+        ensures failed { IsErrOf result FileError.Failed → faults self.old name.now < faults self.new name.now }
+        ensures kept { (other : List ℕ) → faults self.old other ≤ faults self.new other }
+        ensures same { (other : List ℕ) → content self.new other ≡ content self.old other };
+}

@@ -1,0 +1,52 @@
+//! What is written to, and what is known of it.
+ghost use Rattle.std.specs.Prelude.{◌≡◌, ◌<◌, ◌≤◌, ◌++◌, ℕ, List, Bool, length, take, IsTrue, IsErr, IfOk, OnErr};
+ghost use Rattle.fx_outside.specs.Faults.{HasRisen};
+
+/// A read failed, and was counted as a read fault.
+#[derive(Clone, Copy, Debug, PartialEq, Eq)]
+pub struct ReadFailed;
+
+/// A write failed, and was counted as a write fault.
+#[derive(Clone, Copy, Debug, PartialEq, Eq)]
+pub struct WriteFailed;
+
+/// What is known of something that is read or written: the bytes left to read, the bytes that were written to it, and
+/// how many reads and writes have failed.
+///
+/// A content that a type doesn't have, or can't know, isn't told. A count that it doesn't have is 0.
+pub trait Ends {
+    /// Whether values of this type tell what is left.
+    ghost tells_left: { Bool };
+
+    /// The bytes that are left to read.
+    ghost left: { Self → List ℕ };
+
+    /// Whether values of this type tell what they hold.
+    ghost tells_held: { Bool };
+
+    /// The bytes that were written, in order.
+    ghost held: { Self → List ℕ };
+
+    /// How many reads have failed.
+    ghost read_faults: { Self → ℕ };
+
+    /// How many writes have failed.
+    ghost write_faults: { Self → ℕ };
+}
+
+/// What bytes are written to.
+pub trait Sink: Ends {
+    /// Writes bytes from the front of a piece, and gives their number: at least one where the piece isn't empty.
+    ///
+    /// `WriteFailed` comes where the write failed. The count of write faults rose in this call then, or stands at the
+    /// end of `u64`, and a sink that tells what it holds, holds the same.
+    fn write(&mut self, piece: &[u8]) -> Result<usize, WriteFailed>
+        ensures within { IfOk result (λ n. n ≤ length piece.now) }
+        ensures some { 0 < length piece.now → IfOk result (λ n. 0 < n) }
+        ensures written { IsTrue Self.tells_held → IfOk result (λ n. Self.held self.new ≡ Self.held self.old ++ take n piece.now) }
+        ensures unwritten { IsTrue Self.tells_held → OnErr result (Self.held self.new ≡ Self.held self.old) }
+        ensures kept { Self.write_faults self.old ≤ Self.write_faults self.new }
+        ensures failed { IsErr result → HasRisen (Self.write_faults self.old) (Self.write_faults self.new) }
+        ensures left { IsTrue Self.tells_left → Self.left self.new ≡ Self.left self.old }
+        ensures reads { Self.read_faults self.new ≡ Self.read_faults self.old };
+}

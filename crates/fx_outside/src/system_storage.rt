@@ -1,0 +1,104 @@
+//! The files of the system.
+ghost use Rattle.std.specs.Prelude.{◌≤◌, ◌+◌, ◌≡◌, List, ℕ, IfOk, length, vec_len};
+ghost use Rattle.fx_outside.specs.SystemStorage.{faults_of_folder};
+
+use crate::name_counts::NameCounts;
+use crate::storage::{FileError, Files};
+use crate::system_streams::TRIES;
+use std::alloc::Global;
+use std::io::{ErrorKind, Read};
+use std::{fs, io, rt};
+
+/// The files that a runtime reaches, with a count of the faults of each name. It tells nothing of their content.
+///
+/// A name is a path, as the system reads it.
+#[derive(Debug, Drop)]
+pub struct Folder<R> {
+    runtime: R,
+    faults: NameCounts,
+}
+
+impl<R> Folder<R> {
+    /// The files that this runtime reaches, with no fault yet.
+    pub fn new(alloc: Global, runtime: R) -> Folder<R>
+        ensures { (name : List ℕ) → faults_of_folder result name ≡ 0 }
+    {
+        Folder {
+            runtime,
+            faults: NameCounts::new(alloc),
+        }
+    }
+}
+
+impl<R: rt::Files> Files for Folder<R> {
+    ghost use Rattle.std.specs.Prelude.{None};
+    ghost use Rattle.fx_outside.specs.SystemStorage.{faults_of_folder};
+
+    ghost content = { λ _ _. None };
+
+    ghost faults = { λ folder name. faults_of_folder folder name };
+
+    fn take(&mut self, alloc: Global, name: &str, limit: u64) -> Result<Vec<u8>, FileError> {
+        let place = self.faults.place(name)?;
+        match read_front(&self.runtime, alloc, name, limit as usize + 1) {
+            Ok(bytes) => Ok(bytes),
+            Err(FileError::Memory) => Err(FileError::Memory),
+            Err(FileError::Failed) => {
+                self.faults.raise(place);
+                Err(FileError::Failed)
+            }
+        }
+    }
+}
+
+// The first `most` bytes of a file, or all of it.
+fn read_front<R: rt::Files>(
+    runtime: &R,
+    alloc: Global,
+    name: &str,
+    most: usize,
+) -> Result<Vec<u8>, FileError>
+    ensures { IfOk result (λ bytes. vec_len bytes ≤ most) }
+{
+    let mut file = fs::open(runtime, name).map_err(|error| file_error(&error))?;
+    let mut bytes = Vec::new(alloc);
+    let mut buffer = [0u8; 4096];
+    for _ in 0..u64::MAX {
+        let room = buffer.len().min(most - bytes.len());
+        if room == 0 {
+            return Ok(bytes);
+        }
+        let count = read_some(&mut file, &mut buffer[..room]).map_err(|error| file_error(&error))?;
+        if count == 0 {
+            return Ok(bytes);
+        }
+        bytes.extend_from_slice(&buffer[..count])?;
+    }
+    Err(FileError::Failed)
+}
+
+// Reads some bytes. A read that was interrupted is tried again, but not for ever.
+fn read_some<F: Read>(file: &mut F, into: &mut [u8]) -> io::Result<usize>
+    ensures { IfOk result (λ n. n ≤ length into.old) }
+{
+    for _ in 1..TRIES {
+        match file.read(into) {
+            Ok(count) => return Ok(count),
+            Err(error) => {
+                if error.kind() != ErrorKind::Interrupted {
+                    return Err(error);
+                }
+            }
+        }
+    }
+    file.read(into)
+}
+
+// Want of memory is told apart from a fault of the file.
+fn file_error(error: &io::Error) -> FileError {
+    if error.kind() == ErrorKind::OutOfMemory {
+        FileError::Memory
+    } else {
+        FileError::Failed
+    }
+}

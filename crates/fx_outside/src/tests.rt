@@ -1,0 +1,187 @@
+//! What the calls answer at given values.
+use crate::{
+    FileError, Files, Folder, MemoryFiles, MemorySink, Sink, StdSink, WriteFailed, write_all,
+};
+use fx_terms::Memory;
+use std::alloc::Global;
+use std::io::{ErrorKind, Write};
+use std::test::Fail;
+use std::{env, fs, io};
+
+#[test]
+fn a_memory_sink_moves_a_step_and_fails_where_it_is_to(rt: HostRuntime) -> Result<(), Fail> {
+    let fails = vec![in rt.alloc(); 2u64, 6]?;
+    let mut sink = MemorySink::new(rt.alloc(), 5, 2, fails)?;
+    for (piece, want, held) in [
+        ("abc", Ok(2), "ab"),
+        ("c", Err(WriteFailed), "ab"),
+        ("c", Ok(1), "abc"),
+        ("", Ok(0), "abc"),
+        ("def", Ok(2), "abcde"),
+        ("", Err(WriteFailed), "abcde"),
+        ("f", Err(WriteFailed), "abcde"),
+        ("", Ok(0), "abcde"),
+    ] {
+        assert_eq!(rt; sink.write(piece.as_bytes()), want, "at {piece}");
+        assert_eq!(rt; sink.bytes(), held.as_bytes());
+    }
+    Ok(())
+}
+
+#[test]
+fn a_room_past_all_memory_is_want_of_memory(rt: HostRuntime) {
+    for room in [u64::MAX, u64::MAX / 2 + 1] {
+        let made = MemorySink::new(rt.alloc(), room, 1, Vec::new(rt.alloc()));
+        assert_eq!(rt; made.err(), Some(Memory), "at {room}");
+    }
+}
+
+#[test]
+fn write_all_stops_at_the_first_fault(rt: HostRuntime) -> Result<(), Fail> {
+    for (room, fails, want, held) in [
+        (10, 0, Ok(()), "abcdefg"),
+        (7, 5, Ok(()), "abcdefg"),
+        (10, 3, Err(WriteFailed), "abcd"),
+        (10, 1, Err(WriteFailed), ""),
+        (3, 0, Err(WriteFailed), "abc"),
+    ] {
+        let mut sink = MemorySink::new(rt.alloc(), room, 2, vec![in rt.alloc(); fails]?)?;
+        assert_eq!(rt;
+            write_all(&mut sink, b"abcdefg"),
+            want,
+            "at {room}, {fails}"
+        );
+        assert_eq!(rt; sink.bytes(), held.as_bytes());
+    }
+    Ok(())
+}
+
+#[test]
+fn memory_files_give_what_they_hold(rt: HostRuntime) -> Result<(), Fail> {
+    let files = vec![in rt.alloc();
+        held(rt.alloc(), "a.nt", "12345")?,
+        held(rt.alloc(), "b.nt", "")?,
+        held(rt.alloc(), "a.nt", "6")?,
+    ]?;
+    let fails = vec![in rt.alloc();
+        (String::from_str(rt.alloc(), "b.nt")?, 2u64),
+        (String::from_str(rt.alloc(), "a.nt")?, 4),
+    ]?;
+    let mut files = MemoryFiles::new(rt.alloc(), files, fails)?;
+    for (name, limit, want) in [
+        ("a.nt", 10, Ok("12345")),
+        ("a.nt", 3, Ok("1234")),
+        ("a.nt", 5, Ok("12345")),
+        ("a.nt", 5, Err(FileError::Failed)),
+        ("a.nt", 0, Ok("1")),
+        ("b.nt", 5, Ok("")),
+        ("b.nt", 5, Err(FileError::Failed)),
+        ("b.nt", 5, Ok("")),
+        ("c.nt", 5, Err(FileError::Failed)),
+        ("", 5, Err(FileError::Failed)),
+    ] {
+        let bytes = files.take(rt.alloc(), name, limit);
+        assert_eq!(rt;
+            as_text(&bytes),
+            want.map(str::as_bytes),
+            "at {name}, {limit}"
+        );
+    }
+    Ok(())
+}
+
+#[test]
+fn a_folder_reads_the_files_of_the_system(rt: HostRuntime) -> Result<(), Fail> {
+    let folder = env::temp_dir(&rt)?;
+    let folder = folder.as_path().to_str().ok_or("no text")?;
+    let name = format!(in rt.alloc(); "{folder}/fx_outside_a_folder_reads_the_files.txt")?;
+    let missing = format!(in rt.alloc(); "{folder}/fx_outside_no_such_file/none.txt")?;
+    fs::write(&rt, name.as_str(), "12345")?;
+    let mut files = Folder::new(rt.alloc(), rt.clone()?);
+    for (name, limit, want) in [
+        (name.as_str(), 10, Ok("12345")),
+        (name.as_str(), 5, Ok("12345")),
+        (name.as_str(), 3, Ok("1234")),
+        (missing.as_str(), 10, Err(FileError::Failed)),
+        (folder, 10, Err(FileError::Failed)),
+    ] {
+        let bytes = files.take(rt.alloc(), name, limit);
+        assert_eq!(rt;
+            as_text(&bytes),
+            want.map(str::as_bytes),
+            "at {name}, {limit}"
+        );
+    }
+    fs::remove_file(&rt, name.as_str())?;
+    Ok(())
+}
+
+#[test]
+fn a_std_sink_hands_on_and_counts(rt: HostRuntime) -> Result<(), Fail> {
+    let mut bytes = Vec::new(rt.alloc());
+    let mut sink = StdSink::new(&mut bytes);
+    assert_eq!(rt; write_all(&mut sink, b"hello"), Ok(()));
+    assert_eq!(rt; bytes.as_slice(), b"hello".as_slice());
+
+    let mut room = [0u8; 3];
+    let mut sink = StdSink::new(room.as_mut_slice());
+    for (piece, want) in [
+        ("ab", Ok(2)),
+        ("cd", Ok(1)),
+        ("", Ok(0)),
+        ("d", Err(WriteFailed)),
+    ] {
+        assert_eq!(rt; sink.write(piece.as_bytes()), want, "at {piece}");
+    }
+
+    let mut sink = StdSink::new(Failing {
+        kind: ErrorKind::Interrupted,
+        times: 3,
+    });
+    assert_eq!(rt; sink.write(b"ab"), Ok(2));
+    let mut sink = StdSink::new(Failing {
+        kind: ErrorKind::Interrupted,
+        times: u64::MAX,
+    });
+    assert_eq!(rt; sink.write(b"ab"), Err(WriteFailed));
+    let mut sink = StdSink::new(Failing {
+        kind: ErrorKind::BrokenPipe,
+        times: 1,
+    });
+    assert_eq!(rt; sink.write(b"ab"), Err(WriteFailed));
+    assert_eq!(rt; sink.write(b"ab"), Ok(2));
+    Ok(())
+}
+
+// A writer whose first writes fail.
+#[derive(Drop)]
+struct Failing {
+    kind: ErrorKind,
+    times: u64,
+}
+
+impl Write for Failing {
+    fn write(&mut self, piece: &[u8]) -> io::Result<usize> {
+        if self.times > 0 {
+            self.times -= 1;
+            return Err(io::Error::from(self.kind));
+        }
+        Ok(piece.len())
+    }
+
+    fn flush(&mut self) -> io::Result<()> {
+        Ok(())
+    }
+}
+
+fn held(alloc: Global, name: &str, content: &str) -> Result<(String, Vec<u8>), Memory> {
+    let bytes = Vec::from_slice(alloc, content.as_bytes())?;
+    Ok((String::from_str(alloc, name)?, bytes))
+}
+
+fn as_text(bytes: &Result<Vec<u8>, FileError>) -> Result<&[u8], FileError> {
+    match bytes {
+        Ok(bytes) => Ok(bytes.as_slice()),
+        Err(error) => Err(*error),
+    }
+}
