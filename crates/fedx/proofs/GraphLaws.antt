@@ -15,6 +15,9 @@ use Rattle.fx_terms.specs.declared.triples.Triple.{Triple}
 use Rattle.std.proofs.lemmas.Bool.Decides.{nat_tests}
 use Rattle.fx_syntax.specs.Words.{IsIri, IsWord}
 use Rattle.fx_syntax.specs.declared.words.Word.TheVariants.{Iri}
+use Rattle.fx_syntax.specs.declared.words.FirstError.{FirstError}
+use Rattle.fx_syntax.specs.declared.words.FirstError.TheVariants.{NotFirst, Memory}
+use Rattle.fx_syntax.specs.Answers.{GivesItems}
 use Rattle.fx_syntax.proofs.WordLaws.{iri_of_is, iri_from}
 use Rattle.fx_syntax.specs.Reading.{iri_of, in_front}
 use Rattle.fx_algebra.proofs.ForcedLemmas.{of_outcome}
@@ -149,3 +152,8 @@ spelled bytes ts h = of_outcome (SpellsFile bytes) (file_triples bytes) ts h (fi
 
 pub file_of_lines : (bytes : List ℕ) → IsUtf8 bytes → file_triples bytes ≡ lines_triples (slice_split (λ b. b == 10) bytes)
 file_of_lines bytes u = rw (is_utf8-from_IsUtf8 bytes u) refl
+
+-- a refusal of what is spelled is want of memory
+pub only_memory : (e : FirstError) (wanted : Option (List Triple)) (ts : List Triple) → GivesItems (Err e) wanted → wanted ≡ Some ts → e ≡ Memory
+only_memory NotFirst wanted ts h k = cc
+only_memory Memory wanted ts h k = refl
