@@ -1,1 +1,3 @@
+pub mod GainLemmas
 pub mod GraphLaws
+pub mod LoadLemmas

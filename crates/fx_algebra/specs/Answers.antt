@@ -15,7 +15,7 @@ use Rattle.fx_algebra.specs.Solutions.{Bindings}
 use Rattle.fx_algebra.specs.BasicGraphPatterns.{bgp}
 use Rattle.fx_algebra.specs.Sequences.{sequence}
 
--- the pattern that an element is, where it is one
+-- the pattern of one element
 abbrev pub element_pattern : Element-F (Option Pattern) (List Pattern) → Option Pattern
 element_pattern (Element-F.Triple pattern) = Some pattern
 element_pattern (Element-F.Filter expr) = None
@@ -28,6 +28,10 @@ element_pattern (Element-F.Service silent iri patterns) = None
 
 abbrev pub group_patterns : Group-F (Option Pattern) (List Pattern) → List Pattern
 group_patterns g = filter_map (λ pattern. pattern) g.elements
+
+-- the pattern that an element is, where it is one
+abbrev pub pattern_in : Element → Option Pattern
+pattern_in = fold-Element (Option Pattern) (List Pattern) element_pattern group_patterns
 
 -- the patterns of a group
 abbrev pub patterns_of : Group → List Pattern

@@ -1,0 +1,71 @@
+//! Files, and the graph and the query that they hold.
+ghost use Rattle.std.specs.Prelude.{◌≡◌, ◌≤◌, ℕ, List, IfOk};
+ghost use Rattle.fedx.specs.Local.{file_read};
+ghost use Rattle.fedx.specs.PlainQueries.{IsPlain};
+ghost use Rattle.fedx.specs.LocalSteps.{GivesFile, GivesGraph, GivesQuery};
+
+use crate::graphs::read_graph;
+use crate::limits::{GRAPH_LIMIT, QUERY_LIMIT};
+use crate::refusals::FileRefusal;
+use fx_algebra::Query;
+use fx_outside::{FileError, Files};
+use fx_syntax::{FirstError, parse};
+use fx_terms::Graph;
+use std::alloc::Global;
+
+/// The graph of a file.
+pub fn load_graph<F: Files>(alloc: Global, files: &mut F, name: &str) -> Result<Graph, FileRefusal>
+    ensures outcome { GivesGraph (file_read F.content F.faults files.old files.new name.now) result }
+    ensures kept { (other : List ℕ) → F.faults files.old other ≤ F.faults files.new other }
+    ensures same { (other : List ℕ) → F.content files.new other ≡ F.content files.old other }
+{
+    match load(alloc, files, name, GRAPH_LIMIT) {
+        Err(refusal) => Err(refusal),
+        Ok(bytes) => match read_graph(alloc, bytes.as_slice()) {
+            Ok(graph) => Ok(graph),
+            Err(FirstError::NotFirst) => Err(FileRefusal::NotFirst),
+            Err(FirstError::Memory) => Err(FileRefusal::Memory),
+        },
+    }
+}
+
+/// The query of a file.
+pub fn load_query<F: Files>(alloc: Global, files: &mut F, name: &str) -> Result<Query, FileRefusal>
+    ensures outcome { GivesQuery (file_read F.content F.faults files.old files.new name.now) result }
+    ensures plain { IfOk result IsPlain }
+    ensures kept { (other : List ℕ) → F.faults files.old other ≤ F.faults files.new other }
+    ensures same { (other : List ℕ) → F.content files.new other ≡ F.content files.old other }
+{
+    match load(alloc, files, name, QUERY_LIMIT) {
+        Err(refusal) => Err(refusal),
+        Ok(bytes) => match parse(alloc, bytes.as_slice()) {
+            Ok(query) => Ok(query),
+            Err(FirstError::NotFirst) => Err(FileRefusal::NotFirst),
+            Err(FirstError::Memory) => Err(FileRefusal::Memory),
+        },
+    }
+}
+
+// The whole content of a file.
+fn load<F: Files>(
+    alloc: Global,
+    files: &mut F,
+    name: &str,
+    limit: u64,
+) -> Result<Vec<u8>, FileRefusal>
+    requires { limit ≤ 134217728 }
+    ensures outcome { GivesFile (file_read F.content F.faults files.old files.new name.now) limit result }
+    ensures kept { (other : List ℕ) → F.faults files.old other ≤ F.faults files.new other }
+    ensures same { (other : List ℕ) → F.content files.new other ≡ F.content files.old other }
+{
+    match files.take(alloc, name, limit) {
+        Err(FileError::Failed) => Err(FileRefusal::Fault),
+        Err(FileError::Memory) => Err(FileRefusal::Memory),
+        Ok(bytes) => {
+            if bytes.len() as u64 > limit {
+                return Err(FileRefusal::TooLong);
+            }
+            Ok(bytes)
+        }
+    }
+}

@@ -1,0 +1,44 @@
+//! The command `local`.
+ghost use Rattle.std.specs.Prelude.{◌≡◌, ◌≤◌, ℕ, List};
+ghost use Rattle.fedx.specs.Local.{file_read};
+ghost use Rattle.fedx.specs.LocalSteps.{GivesAnswer, GivesDocument};
+
+use crate::answering::document;
+use crate::loading::{load_graph, load_query};
+use crate::refusals::Refusal;
+use fx_outside::Files;
+use fx_terms::Graph;
+use std::alloc::Global;
+
+/// The document of the answer that the one file's query has over the graph of the other. The graph's file is read first.
+pub fn local<F: Files>(
+    alloc: Global,
+    files: &mut F,
+    graph: &str,
+    query: &str,
+) -> Result<Vec<u8>, Refusal>
+    ensures { GivesAnswer (file_read F.content F.faults files.old files.new graph.now) (file_read F.content F.faults files.old files.new query.now) result }
+{
+    match load_graph(alloc, files, graph) {
+        Err(refusal) => Err(Refusal::Graph(refusal)),
+        Ok(graph) => answer_over(alloc, files, &graph, query),
+    }
+}
+
+fn answer_over<F: Files>(
+    alloc: Global,
+    files: &mut F,
+    graph: &Graph,
+    query: &str,
+) -> Result<Vec<u8>, Refusal>
+    ensures outcome { GivesDocument graph.now (file_read F.content F.faults files.old files.new query.now) result }
+    ensures kept { (other : List ℕ) → F.faults files.old other ≤ F.faults files.new other }
+{
+    match load_query(alloc, files, query) {
+        Err(refusal) => Err(Refusal::Query(refusal)),
+        Ok(query) => match document(alloc, graph, &query) {
+            Ok(text) => Ok(text),
+            Err(_) => Err(Refusal::Memory),
+        },
+    }
+}

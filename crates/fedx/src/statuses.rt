@@ -1,0 +1,42 @@
+//! How the program ends.
+ghost use Rattle.std.specs.Prelude.{◌≡◌};
+ghost use Rattle.fedx.specs.Statuses.{code_of};
+
+/// How a run ends.
+#[derive(Clone, Copy, Debug, PartialEq, Eq)]
+pub enum Status {
+    /// The answer stands on standard output.
+    Done,
+    /// The words are no command.
+    Usage,
+    /// The query's text is not accepted.
+    QueryRefused,
+    /// The reading of a file failed.
+    ReadFault,
+    /// A write to standard output failed.
+    WriteFault,
+    /// The graph's text is not accepted.
+    GraphRefused,
+    /// Memory ran out.
+    NoMemory,
+    /// A file has more bytes than its limit.
+    FileTooLong,
+}
+
+impl Status {
+    /// The exit status.
+    pub fn code(&self) -> u8
+        ensures { result ≡ code_of self.now }
+    {
+        match self {
+            Status::Done => 0,
+            Status::Usage => 2,
+            Status::QueryRefused => 3,
+            Status::ReadFault => 8,
+            Status::WriteFault => 9,
+            Status::GraphRefused => 11,
+            Status::NoMemory => 13,
+            Status::FileTooLong => 14,
+        }
+    }
+}

@@ -1,0 +1,7 @@
+//! Answers as JSON documents (SPARQL 1.1 Query Results JSON Format).
+#![tactic(auto)]
+
+mod documents;
+mod terms;
+
+pub use documents::write;
