@@ -1,3 +1,4 @@
 pub mod GainLemmas
 pub mod GraphLaws
 pub mod LoadLemmas
+pub mod ReportLemmas

@@ -5,3 +5,4 @@ pub mod Local
 pub mod LocalSteps
 pub mod Statuses
 pub mod PlainQueries
+pub mod RefusalStatuses

@@ -118,3 +118,26 @@ IsWritten g q status.GraphRefused old new = new ≡ old
 IsWritten g q status.QueryRefused old new = new ≡ old
 IsWritten g q status.ReadFault old new = new ≡ old
 IsWritten g q status.FileTooLong old new = new ≡ old
+
+-- ---- commands
+
+-- words that are no command give the usage line, unless memory ran out
+abbrev pub IsRefused : Status → List ℕ → Type 0
+IsRefused status.Usage text = text ≡ usage_line
+IsRefused status.NoMemory text = text ≡ no_memory
+IsRefused status.Done text = ⊥
+IsRefused status.WriteFault text = ⊥
+IsRefused status.GraphRefused text = ⊥
+IsRefused status.QueryRefused text = ⊥
+IsRefused status.ReadFault text = ⊥
+IsRefused status.FileTooLong text = ⊥
+
+-- what a run reports, by the files that its words name, if they are a command
+abbrev pub Reports : (List ℕ → FileRead) → Option (List ℕ × List ℕ) → Status → List ℕ → Type 0
+Reports read None s text = IsRefused s text
+Reports read (Some p) s text = IsReported (read p.0) (read p.1) s text
+
+-- what a run leaves on standard output
+abbrev pub Writes : (List ℕ → FileRead) → Option (List ℕ × List ℕ) → Status → List ℕ → List ℕ → Type 0
+Writes read None s old new = new ≡ old
+Writes read (Some p) s old new = IsWritten (read p.0) (read p.1) s old new

@@ -65,18 +65,7 @@ GivesDocument graph q (Err (refusal.Query file.NotFirst)) = IsNoQuery q
 GivesDocument graph q (Err (refusal.Query file.Memory)) = Unit {0}
 GivesDocument graph q (Err refusal.Memory) = Unit {0}
 
--- ---- what a refusal answers
-
-abbrev pub status_of : Refusal → Status
-status_of (refusal.Graph file.Fault) = status.ReadFault
-status_of (refusal.Graph file.TooLong) = status.FileTooLong
-status_of (refusal.Graph file.NotFirst) = status.GraphRefused
-status_of (refusal.Graph file.Memory) = status.NoMemory
-status_of (refusal.Query file.Fault) = status.ReadFault
-status_of (refusal.Query file.TooLong) = status.FileTooLong
-status_of (refusal.Query file.NotFirst) = status.QueryRefused
-status_of (refusal.Query file.Memory) = status.NoMemory
-status_of refusal.Memory = status.NoMemory
+-- ---- lines of refusals
 
 abbrev pub graph_line : FileRefusal → List ℕ → List ℕ
 graph_line file.Fault name = cannot_read name

@@ -1,0 +1,69 @@
+//! The program over files and streams that are handed in.
+ghost use Rattle.std.specs.Prelude.{◌≡◌, IsTrue, List, ℕ, map, string_bytes};
+ghost use Rattle.fx_outside.specs.Faults.{HasRisen};
+ghost use Rattle.fedx.specs.Commands.{local_files};
+ghost use Rattle.fedx.specs.Local.{file_read, Gains, IsReported, IsWritten, Reports, Writes};
+
+use crate::commands::{Command, CommandError, read_command};
+use crate::local::local;
+use crate::refusals::Refusal;
+use crate::reports::{write_refusal, write_usage};
+use crate::statuses::Status;
+use fx_outside::{Files, Sink, write_all};
+use std::alloc::Global;
+
+/// Runs the command that the words behind the program's name are, over these files. It writes the command's document on
+/// `out`, and the line of any other end on `err`.
+///
+/// The document is whole before its first byte is written, so that on every status but `Done` and `WriteFault` nothing is
+/// written on `out`, and with `WriteFault` a front of the document. A fault of `err` leaves the status as it is.
+pub fn run<F: Files, O: Sink, E: Sink>(
+    alloc: Global,
+    words: &[String],
+    files: &mut F,
+    out: &mut O,
+    err: &mut E,
+) -> Status
+    // Each status comes with its cause alone, and with its line on `err`.
+    ensures reported { (text : List ℕ) × Reports (file_read F.content F.faults files.old files.new) (local_files (map (λ w. string_bytes w) words.now)) result text × (IsTrue E.tells_held → Gains (E.held err.old) (E.held err.new) (E.write_faults err.old) (E.write_faults err.new) text) }
+
+    // With `Done`, `out` gained exactly the document of the query's answer over the file's graph.
+    ensures written { IsTrue O.tells_held → Writes (file_read F.content F.faults files.old files.new) (local_files (map (λ w. string_bytes w) words.now)) result (O.held out.old) (O.held out.new) }
+    ensures write_fault { result ≡ Status.WriteFault → HasRisen (O.write_faults out.old) (O.write_faults out.new) }
+{
+    match read_command(alloc, words) {
+        Err(CommandError::Usage) => {
+            write_usage(err);
+            Status::Usage
+        }
+        Err(CommandError::Memory) => {
+            write_refusal(err, Refusal::Memory, "", "");
+            Status::NoMemory
+        }
+        Ok(Command::Local { graph, query }) => run_local(alloc, files, graph, query, out, err),
+    }
+}
+
+fn run_local<F: Files, O: Sink, E: Sink>(
+    alloc: Global,
+    files: &mut F,
+    graph: &str,
+    query: &str,
+    out: &mut O,
+    err: &mut E,
+) -> Status
+    ensures reported { (text : List ℕ) × IsReported (file_read F.content F.faults files.old files.new graph.now) (file_read F.content F.faults files.old files.new query.now) result text × (IsTrue E.tells_held → Gains (E.held err.old) (E.held err.new) (E.write_faults err.old) (E.write_faults err.new) text) }
+    ensures written { IsTrue O.tells_held → IsWritten (file_read F.content F.faults files.old files.new graph.now) (file_read F.content F.faults files.old files.new query.now) result (O.held out.old) (O.held out.new) }
+    ensures write_fault { result ≡ Status.WriteFault → HasRisen (O.write_faults out.old) (O.write_faults out.new) }
+{
+    match local(alloc, files, graph, query) {
+        Ok(text) => match write_all(out, text.as_slice()) {
+            Ok(()) => Status::Done,
+            Err(_) => Status::WriteFault,
+        },
+        Err(refusal) => {
+            write_refusal(err, refusal, graph, query);
+            refusal.status()
+        }
+    }
+}
