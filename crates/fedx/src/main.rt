@@ -30,3 +30,6 @@ fn main(rt: HostRuntime) -> io::Result<ExitCode> {
     let status = run(rt.alloc(), words.as_slice(), &mut files, &mut out, &mut err);
     Ok(ExitCode::from(status.code()))
 }
+
+#[cfg(test)]
+mod tests;
