@@ -1,4 +1,6 @@
+pub mod FitLemmas
 pub mod GainLemmas
 pub mod GraphLaws
 pub mod LoadLemmas
 pub mod ReportLemmas
+pub mod RunLemmas

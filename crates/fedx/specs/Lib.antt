@@ -6,3 +6,4 @@ pub mod LocalSteps
 pub mod Statuses
 pub mod PlainQueries
 pub mod RefusalStatuses
+pub mod Lookups

@@ -1,4 +1,6 @@
 pub mod BgpLemmas
 pub mod ForcedLemmas
 pub mod MemberLemmas
+pub mod OrderLemmas
 pub mod PairLemmas
+pub mod SequenceLemmas

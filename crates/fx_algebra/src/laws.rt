@@ -1,9 +1,16 @@
 //! Laws of the definitions, each the contract of a function that does nothing.
 ghost use Rattle.fx_algebra.specs.BasicGraphPatterns.{BgpLaw};
+ghost use Rattle.fx_algebra.specs.Sequences.{OneSequence};
 
 /// The solutions of a basic graph pattern (SPARQL 1.1 section 18.3.1). Over a graph whose triples rise, each stands once, and
 /// they are exactly those that bind the variables of the patterns, and no others, and turn each pattern into a triple of the
 /// graph.
 pub fn bgp_law()
     ensures { BgpLaw }
+{}
+
+/// The sequence of an answer without order keys (SPARQL 1.1 section 18.2.5, in this project's profile). The same solutions,
+/// however they arrived, give one list of rows, with or without DISTINCT, OFFSET and LIMIT.
+pub fn one_sequence()
+    ensures { OneSequence }
 {}
