@@ -42,7 +42,7 @@ is_eq-reverse Greater = refl
 name_from : (a b : List ℕ) → is_eq (text_cmp a b) ≡ true → a ≡ b
 name_from a b e = exact_bytes a b (equal_from (text_cmp a b) e)
 
-same_from : (a b : Term) → same_term a b ≡ true → a ≡ b
+pub same_from : (a b : Term) → same_term a b ≡ true → a ≡ b
 same_from a b e = exact_terms a b (equal_from (term_cmp a b) e)
 
 same_turned : (a b : Term) → same_term a b ≡ same_term b a
@@ -247,7 +247,7 @@ forced_added row cs up h = merged_parts row [] cs up h
 
 -- ---- the triples that may fit
 
-only_these : {X Y : Type 0} (f : X → Option Y) (q : X → Bool) (xs : List X) → ((x : X) → q x ≡ false → f x ≡ None) → filter_map f (filter q xs) ≡ filter_map f xs
+pub only_these : {X Y : Type 0} (f : X → Option Y) (q : X → Bool) (xs : List X) → ((x : X) → q x ≡ false → f x ≡ None) → filter_map f (filter q xs) ≡ filter_map f xs
 only_these f q [] h = refl
 only_these f q (x ∷ xs) h = pick (q x) refl (only_these f q xs h)
   where
@@ -260,7 +260,7 @@ value_kept s r (Variable name) term x e = x.has name term e
 value_kept s r (Constant constant) term x e = e
 
 -- a part of a triple that fits is the pattern's value, where that is known
-against_known : (row r : Bindings) (part : PatternTerm) (term : Term) (value : Option Term) → Extends row r → value_of r part ≡ Some term → value_of row part ≡ value → against term value ≡ Equal
+pub against_known : (row r : Bindings) (part : PatternTerm) (term : Term) (value : Option Term) → Extends row r → value_of r part ≡ Some term → value_of row part ≡ value → against term value ≡ Equal
 against_known row r part term None x e f = refl
 against_known row r part term (Some v) x e f =
     let same : term ≡ v = same_value term v (sym e ∙ value_kept row r part v x f) in
@@ -280,7 +280,7 @@ fit_place row r p t subject f e =
     ap (λ o. ordering_then o (place_by_predicate (value_of row p.predicate) (value_of row p.object) t)) (against_known row r p.subject (Iri t.subject) (Some subject) is.extends is.values.0 f)
     ∙ predicate_place row r p t (value_of row p.predicate) is.extends is.values.1.0 is.values.1.1.0 refl
 
-none_elsewhere : (o : Option Bindings) (place : Ordering) → is_eq place ≡ false → ((r : Bindings) → o ≡ Some r → place ≡ Equal) → o ≡ None
+pub none_elsewhere : (o : Option Bindings) (place : Ordering) → is_eq place ≡ false → ((r : Bindings) → o ≡ Some r → place ≡ Equal) → o ≡ None
 none_elsewhere None place e h = refl
 none_elsewhere (Some r) place e h = let same : place ≡ Equal = h r refl in cc
 

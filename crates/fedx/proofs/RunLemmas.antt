@@ -12,7 +12,7 @@ use Rattle.fx_terms.specs.Terms.{term_cmp, terms_total}
 use Rattle.fx_terms.specs.declared.terms.Term.{Term}
 use Rattle.fx_terms.specs.declared.terms.Term.TheVariants.{Iri}
 use Rattle.fx_terms.specs.declared.triples.Triple.{Triple}
-use Rattle.fedx.specs.Lookups.{against, place_by_predicate, place, run}
+use Rattle.fedx.specs.Lookups.{against, place_by_predicate, place}
 
 -- ---- where a test is true in front and false behind
 
@@ -63,17 +63,43 @@ module _ {X : Type 0} (R : X → X → Ordering) where
     partitioned (x ∷ xs) h (suc i) zero d a b e = absurd (omega arith)
     partitioned (x ∷ xs) h (suc i) (suc j) d a b e = partitioned xs h.1 i j d (omega arith) (omega arith) e
 
+-- ---- the elements of one place
+
+module _ {X : Type 0} (place : X → Ordering) where
+  equal_at : (x : X) (xs : List X) (o : Ordering) → place x ≡ o → filter (λ t. is_le (place t)) (filter (λ t. not (is_lt (place t))) xs) ≡ filter (λ t. is_eq (place t)) xs
+      → filter (λ t. is_le (place t)) (cond (not (is_lt o)) (x ∷ filter (λ t. not (is_lt (place t))) xs) (filter (λ t. not (is_lt (place t))) xs)) ≡ cond (is_eq o) (x ∷ filter (λ t. is_eq (place t)) xs) (filter (λ t. is_eq (place t)) xs)
+  equal_at x xs Less e rest = rest
+  equal_at x xs Equal e rest =
+      let others = filter (λ t. is_le (place t)) (filter (λ t. not (is_lt (place t))) xs) in
+      ap (λ o. cond (is_le o) (x ∷ others) others) e ∙ ap (λ v. x ∷ v) rest
+  equal_at x xs Greater e rest =
+      let others = filter (λ t. is_le (place t)) (filter (λ t. not (is_lt (place t))) xs) in
+      ap (λ o. cond (is_le o) (x ∷ others) others) e ∙ rest
+
+  -- not below and not above is equal
+  equal_of_both : (xs : List X) → filter (λ t. is_le (place t)) (filter (λ t. not (is_lt (place t))) xs) ≡ filter (λ t. is_eq (place t)) xs
+  equal_of_both [] = refl
+  equal_of_both (x ∷ xs) = equal_at x xs (place x) refl (equal_of_both xs)
+
+  -- from the first element that is not below up to the last that is not above
+  pub run_is : (xs rest : List X) (start end : ℕ) → start ≤ length xs → IsPartitionPoint (λ t. is_lt (place t) ≡ true) (λ t. is_lt (place t) ≡ false) xs start → rest ≡ drop start xs
+      → end ≤ length rest → IsPartitionPoint (λ t. is_le (place t) ≡ true) (λ t. is_le (place t) ≡ false) rest end → take end rest ≡ filter (λ t. is_eq (place t)) xs
+  run_is xs rest start end b h e c k =
+      (split_at (λ t. is_le (place t)) rest end c k).0
+      ∙ ap (filter (λ t. is_le (place t))) (e ∙ (split_at (λ t. is_lt (place t)) xs start b h).1)
+      ∙ equal_of_both xs
+
 -- ---- places
 
 -- the first stands no further than the second
-record IsUpTo (x y : Ordering) : Type 0 where
-  below : is_lt y ≡ true → is_lt x ≡ true
-  within : is_le y ≡ true → is_le x ≡ true
+pub record IsUpTo (x y : Ordering) : Type 0 where
+  pub below : is_lt y ≡ true → is_lt x ≡ true
+  pub within : is_le y ≡ true → is_le x ≡ true
 
-up_to_same : (x : Ordering) → IsUpTo x x
+pub up_to_same : (x : Ordering) → IsUpTo x x
 up_to_same x = record { below = λ h. h; within = λ h. h }
 
-le_from_lt : (x : Ordering) → is_lt x ≡ true → is_le x ≡ true
+pub le_from_lt : (x : Ordering) → is_lt x ≡ true → is_le x ≡ true
 le_from_lt Less h = refl
 le_from_lt Equal h = cc
 le_from_lt Greater h = cc
@@ -89,7 +115,7 @@ le_of_first Equal y h = refl
 le_of_first Greater y h = cc
 
 -- what is below a term is below all that the term is not above
-below_first : (a b v : Term) (o : Ordering) → term_cmp b v ≡ o → term_cmp a b ≡ Less → is_le o ≡ true → term_cmp a v ≡ Less
+pub below_first : (a b v : Term) (o : Ordering) → term_cmp b v ≡ o → term_cmp a b ≡ Less → is_le o ≡ true → term_cmp a v ≡ Less
 below_first a b v Less e f h = terms_total.trans a b v f e
 below_first a b v Equal e f h = sym (alike_right terms_total b v a e) ∙ f
 below_first a b v Greater e f h = cc
@@ -114,7 +140,7 @@ first_part a b v Less rest x y e f h = below_then a b v x y e
 first_part a b v Equal rest x y e f h = tied_then a b v x y e (h f)
 first_part a b v Greater rest x y e f h = cc
 
-against_up : (a b : Term) (value : Option Term) → term_cmp a b ≡ Less → IsUpTo (against a value) (against b value)
+pub against_up : (a b : Term) (value : Option Term) → term_cmp a b ≡ Less → IsUpTo (against a value) (against b value)
 against_up a b None f = up_to_same Equal
 against_up a b (Some v) f = record {
   below = λ h. ap is_lt (below_first a b v (term_cmp b v) refl f (le_from_lt (term_cmp b v) h));
@@ -148,26 +174,3 @@ module _ (subject : Term) (predicate object : Option Term) where
 
   pub up_to_partitioned : (xs : List Triple) → IsStrictlySortedBy triple_cmp xs → IsPartitionedBy is_up_to xs
   up_to_partitioned xs h = partitioned triple_cmp is_up_to (λ a b f. (place_up a b f).within) xs h
-
-  equal_at : (x : Triple) (xs : List Triple) (o : Ordering) → place subject predicate object x ≡ o → filter is_up_to (filter (λ t. not (is_below t)) xs) ≡ run xs subject predicate object
-      → filter is_up_to (cond (not (is_lt o)) (x ∷ filter (λ t. not (is_below t)) xs) (filter (λ t. not (is_below t)) xs)) ≡ cond (is_eq o) (x ∷ run xs subject predicate object) (run xs subject predicate object)
-  equal_at x xs Less e rest = rest
-  equal_at x xs Equal e rest =
-      let others = filter is_up_to (filter (λ t. not (is_below t)) xs) in
-      ap (λ o. cond (is_le o) (x ∷ others) others) e ∙ ap (λ v. x ∷ v) rest
-  equal_at x xs Greater e rest =
-      let others = filter is_up_to (filter (λ t. not (is_below t)) xs) in
-      ap (λ o. cond (is_le o) (x ∷ others) others) e ∙ rest
-
-  -- not below and not above is equal
-  equal_of_both : (xs : List Triple) → filter is_up_to (filter (λ t. not (is_below t)) xs) ≡ run xs subject predicate object
-  equal_of_both [] = refl
-  equal_of_both (x ∷ xs) = equal_at x xs (place subject predicate object x) refl (equal_of_both xs)
-
-  -- from the first triple that is not below up to the last that is not above
-  pub run_is : (xs rest : List Triple) (start end : ℕ) → start ≤ length xs → IsPartitionPoint (λ t. is_below t ≡ true) (λ t. is_below t ≡ false) xs start → rest ≡ drop start xs
-      → end ≤ length rest → IsPartitionPoint (λ t. is_up_to t ≡ true) (λ t. is_up_to t ≡ false) rest end → take end rest ≡ run xs subject predicate object
-  run_is xs rest start end b h e c k =
-      (split_at is_up_to rest end c k).0
-      ∙ ap (filter is_up_to) (e ∙ (split_at is_below xs start b h).1)
-      ∙ equal_of_both xs

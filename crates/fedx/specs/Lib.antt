@@ -3,7 +3,8 @@ pub mod GraphReading
 pub mod Graphs
 pub mod Local
 pub mod LocalSteps
-pub mod Statuses
+pub mod Lookups
+pub mod Objects
 pub mod PlainQueries
 pub mod RefusalStatuses
-pub mod Lookups
+pub mod Statuses

@@ -1,11 +1,10 @@
--- Queries that are answered so far.
-use Rattle.std.specs.Prelude.{◌≡◌, ℕ, List, false, None}
+-- Queries that are answered so far: they select columns of a group that holds triples alone, and do nothing else.
+use Rattle.std.specs.Prelude.{◌≡◌, ℕ, List}
+use Rattle.fx_terms.specs.declared.patterns.Pattern.{Pattern}
 use Rattle.fx_algebra.specs.declared.queries.Query.{Query}
-use Rattle.fx_algebra.specs.declared.queries.Form.TheVariants.{Select}
+use Rattle.fx_syntax.specs.FirstForm.{plain_query}
 
--- it selects columns, keeps repeated rows, and keeps all rows
 pub record IsPlain (q : Query) : Type 0 where
   pub columns : List (List ℕ)
-  pub form : q.form ≡ Select false columns
-  pub offset : q.offset ≡ 0
-  pub limit : q.limit ≡ None
+  pub patterns : List Pattern
+  pub query : q ≡ plain_query columns patterns

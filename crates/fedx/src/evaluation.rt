@@ -1,17 +1,19 @@
 //! The evaluation of basic graph patterns (SPARQL 1.1 section 18.3).
-ghost use Rattle.std.specs.Prelude.{◌≡◌, ◌++◌, ◌&&◌, ◌||◌, not, filter, map, is_some, true, IfOk, OnOk, Some};
+ghost use Rattle.std.specs.Prelude.{◌≡◌, ◌++◌, is_some, true, IfOk, OnOk, Some};
 ghost use Rattle.std.specs.List.{filter_map};
-ghost use Rattle.std.specs.List.Sorted.{IsStrictlySortedBy};
+ghost use Rattle.std.specs.List.Sorted.{IsSortedBy, IsStrictlySortedBy};
 ghost use Rattle.std.specs.Option.{option_copied, option_to_list};
-ghost use Rattle.std.specs.Ordering.{is_lt, is_le, is_eq};
+ghost use Rattle.std.specs.Ordering.{is_lt, is_le};
 ghost use Rattle.fx_terms.specs.Terms.{term_cmp};
 ghost use Rattle.fx_terms.specs.Triples.{triple_cmp};
 ghost use Rattle.fx_terms.specs.declared.terms.Term.TheVariants.{Iri as IriTerm};
-ghost use Rattle.fx_algebra.specs.Solutions.{same_term, merge};
+ghost use Rattle.fx_algebra.specs.Solutions.{same_term};
 ghost use Rattle.fx_algebra.specs.BasicGraphPatterns.{parts_of, forced, value_of, bgp as bgp_of};
 ghost use Rattle.fx_algebra.specs.Evaluation.{extended};
 ghost use Rattle.fedx.specs.Lookups as spec;
+ghost use Rattle.fedx.specs.Objects.{object_cmp, candidates_by_object};
 
+use crate::objects::{by_object, with_object};
 use fx_algebra::Solution;
 use fx_terms::{Graph, Iri, Memory, Name, Pattern, PatternTerm, Term, Triple};
 use std::alloc::Global;
@@ -21,7 +23,8 @@ use std::cmp::Ordering;
 /// term, in the order of the choices.
 ///
 /// It goes pattern by pattern. Where a pattern's subject is known, only the run of triples with that subject is gone over,
-/// and of these only those with the predicate and the object, as far as these are known too.
+/// and of these only those with the predicate and the object, as far as these are known too. Where only the object is known,
+/// and rows are many, the triples are sorted by their objects first.
 pub fn bgp(alloc: Global, graph: &Graph, patterns: &[Pattern]) -> Result<Vec<Solution>, Memory>
     ensures { IfOk result (λ rows. rows.items ≡ bgp_of graph.now patterns.now) }
 {
@@ -33,8 +36,36 @@ pub fn bgp(alloc: Global, graph: &Graph, patterns: &[Pattern]) -> Result<Vec<Sol
     Ok(rows)
 }
 
+// From how many rows on a join by object is worth a list of the triples in the order of their objects.
+const MANY: usize = 16;
+
 // Each row with each triple that fits it.
 fn extend_rows(
+    alloc: Global,
+    graph: &Graph,
+    pattern: &Pattern,
+    rows: &[Solution],
+) -> Result<Vec<Solution>, Memory>
+    ensures { IfOk result (λ more. more.items ≡ extended graph.now pattern.now rows.now) }
+{
+    if rows.len() >= MANY && joins_by_object(pattern, rows) {
+        extend_by_object(alloc, graph, pattern, rows)
+    } else {
+        extend_by_subject(alloc, graph, pattern, rows)
+    }
+}
+
+// Whether the first row leaves a pattern's subject free, and binds its object.
+fn joins_by_object(pattern: &Pattern, rows: &[Solution]) -> bool {
+    match rows.first() {
+        None => false,
+        Some(row) => {
+            value(&pattern.subject, row).is_none() && value(&pattern.object, row).is_some()
+        }
+    }
+}
+
+fn extend_by_subject(
     alloc: Global,
     graph: &Graph,
     pattern: &Pattern,
@@ -48,6 +79,39 @@ fn extend_rows(
         add_fitting(alloc, &mut more, triples, pattern, row)?;
     }
     Ok(more)
+}
+
+fn extend_by_object(
+    alloc: Global,
+    graph: &Graph,
+    pattern: &Pattern,
+    rows: &[Solution],
+) -> Result<Vec<Solution>, Memory>
+    ensures { IfOk result (λ more. more.items ≡ extended graph.now pattern.now rows.now) }
+{
+    let index = by_object(alloc, graph.triples(), &pattern.predicate)?;
+    let mut more = Vec::new(alloc);
+    for row in rows {
+        let triples = candidates_by_object(graph, index.as_slice(), pattern, row);
+        add_fitting(alloc, &mut more, triples, pattern, row)?;
+    }
+    Ok(more)
+}
+
+// The triples that a pattern may be under a row: all of them, or those of the index with its object.
+fn candidates_by_object<'a>(
+    graph: &'a Graph,
+    index: &'a [Triple],
+    pattern: &Pattern,
+    row: &Solution,
+) -> &'a [Triple]
+    requires { IsSortedBy (λ a b. is_lt (object_cmp a b)) index.now }
+    ensures { result.now ≡ candidates_by_object graph.now index.now (value_of row.now pattern.now.object) }
+{
+    match value(&pattern.object, row) {
+        None => graph.triples(),
+        Some(object) => with_object(index, object),
+    }
 }
 
 // Adds a row with each triple that fits it.
@@ -234,7 +298,7 @@ fn is_or_free(value: Option<&Term>, term: &Term) -> bool
     }
 }
 
-fn is_or_free_iri(value: Option<&Term>, iri: &Iri) -> bool
+pub fn is_or_free_iri(value: Option<&Term>, iri: &Iri) -> bool
     ensures { result ≡ spec.is_or_free (option_copied value.entry) (IriTerm iri.now) }
 {
     match value {

@@ -8,6 +8,7 @@ mod graphs;
 mod limits;
 mod loading;
 mod local;
+mod objects;
 mod refusals;
 mod reports;
 mod running;

@@ -2,7 +2,7 @@
 ghost use Rattle.std.specs.Prelude.{◌≡◌, map, All, IfOk, IsTrue};
 ghost use Rattle.std.specs.Option.{option_copied};
 ghost use Rattle.fx_algebra.specs.Solutions.{rises};
-ghost use Rattle.fx_algebra.specs.Sequences.{projected, cell_cmp, row_cmp, sorted_by, ordered as ordered_of};
+ghost use Rattle.fx_algebra.specs.Sequences.{projected, cell_cmp, row_cmp, ordered as ordered_of};
 
 use fx_algebra::Solution;
 use fx_terms::{Memory, Name, Term};

@@ -105,7 +105,7 @@ module _ {X : Type 0} (R : X → X → Ordering) (o : IsTotalOrder R) where
       pick true g = (p, h)
       pick false g = (h.0, g)
 
-  all_sorted : (P : X → Type 0) (xs : List X) → AllByRecursion P xs → AllByRecursion P (sorted_by R xs)
+  pub all_sorted : (P : X → Type 0) (xs : List X) → AllByRecursion P xs → AllByRecursion P (sorted_by R xs)
   unfolding sorted_by
   all_sorted P [] h = tt
   all_sorted P (x ∷ xs) h = all_insert P x (sorted_by R xs) h.0 (all_sorted P xs h.1)

@@ -3,6 +3,7 @@ use Rattle.std.specs.Option.{option_copied}
 use Rattle.std.proofs.lemmas.List.{take_all}
 use Rattle.std.proofs.lemmas.List.Sorted.{IsPartitionPoint-from_clause}
 use Rattle.fx_terms.specs.Triples.{triple_cmp}
+use Rattle.fedx.specs.Lookups.{place}
 use Rattle.fedx.proofs.RunLemmas.{is_below, is_up_to, below_partitioned, up_to_partitioned, rises_drop, run_is}
 use Rattle.fedx.proofs.evaluation.run.Goals as goal
 
@@ -16,7 +17,7 @@ returns c =
     let end = c.partition_point-end.result in
     let rest = take (length xs - start) (drop start xs) in
     let e : rest ≡ drop start xs = take_all (length xs - start) (drop start xs) (omega (arith, length-drop start xs)) in
-    run_is s p o xs rest start end c.partition_point-start.ensures.bound
+    run_is (place s p o) xs rest start end c.partition_point-start.ensures.bound
     (IsPartitionPoint-from_clause (is_below s p o) xs start c.partition_point-start.ensures.partitioned (below_partitioned s p o xs c.requires) (λ a r f called. search rules))
     e
     c.partition_point-end.ensures.bound

@@ -3,7 +3,7 @@ use Rattle.std.specs.List.{filter_map}
 use Rattle.fx_algebra.specs.Solutions.{Bindings}
 use Rattle.fx_algebra.specs.BasicGraphPatterns.{parts_of, forced}
 use Rattle.fedx.proofs.FitLemmas.{fitting, flat_map-more}
-use Rattle.fedx.proofs.evaluation.extend_rows.Goals as goal
+use Rattle.fedx.proofs.evaluation.extend_by_subject.Goals as goal
 
 pub loop-row-preserved : goal.loop-row-preserved
 loop-row-preserved c =
