@@ -3,4 +3,5 @@ pub mod ForcedLemmas
 pub mod MemberLemmas
 pub mod OrderLemmas
 pub mod PairLemmas
+pub mod ScopeLemmas
 pub mod SequenceLemmas

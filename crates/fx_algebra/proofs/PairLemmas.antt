@@ -1,10 +1,9 @@
 -- Where a new pair goes.
-use Rattle.std.proofs.Common.{is_some, filter, T, true, false, Bool, ◌≡◌, ℕ, List, [], ◌∷◌, ◌≤◌, suc, length, refl, ap, arith, sym, Some, None, cond}
+use Rattle.std.proofs.Common.{is_some, filter, T, true, false, Bool, ◌≡◌, ℕ, List, [], ◌∷◌, ◌≤◌, suc, length, refl, ap, arith, Some, None, cond}
 use Rattle.std.specs.List.{insert}
-use Rattle.std.specs.declared.cmp.Ordering.{Ordering}
 use Rattle.std.specs.declared.cmp.Ordering.TheVariants.{Less, Equal, Greater}
 use Rattle.std.specs.Ordering.{is_eq, is_lt}
-use Rattle.std.specs.FinMap.Entries.{by_order, put, find, is_sorted-put, is_sorted-where_key}
+use Rattle.std.specs.FinMap.Entries.{by_order, is_sorted-put, is_sorted-where_key}
 use Rattle.std.proofs.lemmas.Cmp.{nat_list_cmp_total}
 use Rattle.fx_terms.specs.Texts.{text_cmp}
 use Rattle.fx_terms.specs.declared.terms.Term.{Term}

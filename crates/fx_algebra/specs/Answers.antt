@@ -1,6 +1,6 @@
 -- The answer of a query over a graph (SPARQL 1.1 section 18.5), for queries whose groups hold triples alone and that have
 -- neither order keys nor a VALUES behind them.
-use Rattle.std.specs.Prelude.{ℕ, Bool, true, false, List, [], ◌∷◌, Option, Some, None}
+use Rattle.std.specs.Prelude.{Bool, true, false, List, [], ◌∷◌, Option, Some, None}
 use Rattle.std.specs.List.{filter_map}
 use Rattle.fx_terms.specs.declared.triples.Triple.{Triple}
 use Rattle.fx_terms.specs.declared.patterns.Pattern.{Pattern}
@@ -9,7 +9,7 @@ use Rattle.fx_algebra.specs.declared.answers.Answer.TheVariants.{Table, Truth}
 use Rattle.fx_algebra.specs.declared.queries.Query.{Query}
 use Rattle.fx_algebra.specs.declared.queries.Form.{Form}
 use Rattle.fx_algebra.specs.declared.queries.Form.TheVariants.{Select, Ask}
-use Rattle.fx_algebra.specs.declared.queries.Element.{Element, Element-F, fold-Element}
+use Rattle.fx_algebra.specs.declared.queries.Element.{Element-F}
 use Rattle.fx_algebra.specs.declared.queries.Group.{Group, Group-F, fold-Group}
 use Rattle.fx_algebra.specs.Solutions.{Bindings}
 use Rattle.fx_algebra.specs.BasicGraphPatterns.{bgp}

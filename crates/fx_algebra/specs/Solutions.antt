@@ -1,5 +1,5 @@
 -- Solutions (SPARQL 1.1 section 18.1.8, solution mappings): pairs of a name and a term, by rising name, no name twice.
-use Rattle.std.specs.Prelude.{ℕ, Bool, true, false, List, [], ◌∷◌, Option, Some, None, if◌then◌else◌, is_some, IsPermutation, fold}
+use Rattle.std.specs.Prelude.{ℕ, Bool, true, List, [], ◌∷◌, Option, Some, None, if◌then◌else◌, is_some, IsPermutation, fold}
 use Rattle.std.specs.List.{list_all}
 use Rattle.std.proofs.Common.{suc}
 use Rattle.std.specs.Ordering.{is_eq, is_lt}

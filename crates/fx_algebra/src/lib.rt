@@ -30,3 +30,6 @@ pub fn all_shareable() {
     shareable::<Query>();
     shareable::<Solution>();
 }
+
+#[cfg(test)]
+mod tests;

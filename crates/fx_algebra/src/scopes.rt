@@ -4,6 +4,7 @@ ghost use Rattle.fx_algebra.specs.Scopes as spec;
 
 use crate::queries::{Element, Group};
 use fx_terms::{Memory, Name, Pattern, PatternTerm};
+use indexmap::IndexSet;
 use std::alloc::Global;
 
 /// The names that a group binds (SPARQL 1.1 section 18.2.1), in text order, each once. A triple gives its variables, BIND its
@@ -21,11 +22,11 @@ pub fn scope(alloc: Global, group: &Group) -> Result<Vec<Name>, Memory>
 pub fn once(alloc: Global, names: &[Name]) -> Result<Vec<Name>, Memory>
     ensures { IfOk result (λ all. all.items ≡ spec.once names.now) }
 {
-    let mut all = Vec::new(alloc);
+    let mut all = IndexSet::new(alloc);
     for name in names {
-        add_new(&mut all, name)?;
+        all.insert(name.copy()?)?;
     }
-    Ok(all)
+    Ok(all.into_iter().collect(alloc)?)
 }
 
 /// Whether a name stands among names.
@@ -33,17 +34,6 @@ pub fn is_among(names: &[Name], name: &Name) -> bool
     ensures { result ≡ spec.is_among names.now name.now }
 {
     names.iter().any(|other| *other == *name)
-}
-
-// Adds a name at the end, where it is new.
-#[tactic(auto, unfolding(crate::specs::Scopes::with_name))]
-fn add_new(names: &mut Vec<Name>, name: &Name) -> Result<(), Memory>
-    ensures { OnOk result (names.new.items ≡ spec.with_name names.old.items name.now) }
-{
-    if !is_among(names.as_slice(), name) {
-        names.push(name.copy()?)?;
-    }
-    Ok(())
 }
 
 fn add_names(names: &mut Vec<Name>, more: &[Name]) -> Result<(), Memory>

@@ -2,6 +2,8 @@
 use Rattle.std.specs.Prelude.{◌≡◌, Result, Ok, Err}
 use Rattle.fx_terms.specs.declared.iris.TermError.{TermError}
 use Rattle.fx_terms.specs.declared.iris.TermError.TheVariants as term
+use Rattle.fx_terms.specs.declared.literals.LiteralError.{LiteralError}
+use Rattle.fx_terms.specs.declared.literals.LiteralError.TheVariants as literal
 use Rattle.fx_terms.specs.declared.names.NameError.{NameError}
 use Rattle.fx_terms.specs.declared.names.NameError.TheVariants as name
 
@@ -16,3 +18,9 @@ abbrev pub AnswersName : {X : Type 0} → Result X NameError → Result X NameEr
 AnswersName (Ok x) wanted = wanted ≡ Ok x
 AnswersName (Err name.Memory) wanted = Unit {0}
 AnswersName (Err name.BadName) wanted = wanted ≡ Err name.BadName
+
+-- unless memory ran out, the answer is the wanted one
+abbrev pub AnswersLiteral : {X : Type 0} → Result X LiteralError → Result X LiteralError → Type 0
+AnswersLiteral (Ok x) wanted = wanted ≡ Ok x
+AnswersLiteral (Err literal.Memory) wanted = Unit {0}
+AnswersLiteral (Err e) wanted = wanted ≡ Err e

@@ -1,6 +1,6 @@
 -- Which texts are IRIs, by their bytes (this project's profile of RFC 3987: absolute IRIs alone). Every character that the
 -- rule names is ASCII, so bytes serve.
-use Rattle.std.specs.Prelude.{◌≡◌, ℕ, Bool, true, false, List, [], ◌∷◌, Option, Some, None, Result, Ok, Err, ◌&&◌, ◌||◌, ◌==◌, nat_le, if◌then◌else◌, position}
+use Rattle.std.specs.Prelude.{ℕ, Bool, true, false, List, [], ◌∷◌, Option, Some, None, Result, Ok, Err, ◌&&◌, ◌||◌, ◌==◌, nat_le, if◌then◌else◌, position}
 use Rattle.fx_terms.specs.declared.iris.TermError.{TermError}
 use Rattle.fx_terms.specs.declared.iris.TermError.TheVariants.{Relative, BadCharacter}
 

@@ -1,5 +1,5 @@
 //! IRIs.
-ghost use Rattle.std.specs.Prelude.{◌≡◌, ◌<◌, ◌^◌, IfOk, IfSome, position};
+ghost use Rattle.std.specs.Prelude.{◌≡◌, ◌<◌, ◌^◌, IfOk, IfSome, Ok, position};
 ghost use Rattle.fx_terms.specs.Iris as spec;
 ghost use Rattle.fx_terms.specs.Answers.{AnswersTerm};
 
@@ -63,6 +63,16 @@ impl Iri {
         if !has_scheme(text.as_bytes()) {
             return Err(TermError::Relative);
         }
+        Ok(Iri {
+            text: ArcStr::from_str(alloc, text)?,
+        })
+    }
+
+    /// The IRI that a text is, where it is known to be one.
+    pub(crate) fn known(alloc: Global, text: &str) -> Result<Iri, Memory>
+        requires { spec.read_iri text.now ≡ Ok text.now }
+        ensures { IfOk result (λ iri. iri ≡ text.now) }
+    {
         Ok(Iri {
             text: ArcStr::from_str(alloc, text)?,
         })

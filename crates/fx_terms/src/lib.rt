@@ -40,3 +40,6 @@ pub fn all_shareable() {
     shareable::<Pattern>();
     shareable::<Graph>();
 }
+
+#[cfg(test)]
+mod tests;

@@ -1,9 +1,13 @@
 //! Literals.
-ghost use Rattle.std.specs.Prelude.{◌≡◌, IfOk};
+ghost use Rattle.std.specs.Prelude.{◌≡◌, IfOk, []};
+ghost use Rattle.std.specs.List.{list_all};
+ghost use Rattle.fx_terms.specs.Iris.{is_letter};
+ghost use Rattle.fx_terms.specs.Answers.{AnswersLiteral};
+ghost use Rattle.fx_terms.specs.Literals as spec;
 
 use crate::allocation::Memory;
 use crate::iris::Iri;
-use std::alloc::AllocError;
+use std::alloc::{AllocError, Global};
 use std::cmp::Ordering;
 use std::marker::Model;
 use std::sync::ArcStr;
@@ -30,8 +34,25 @@ impl From<AllocError> for LiteralError {
     }
 }
 
-/// A literal (RDF 1.1 Concepts 3.3): a lexical form, a datatype, and a language tag or none. Contracts see the bytes of
-/// these parts, and a literal without a tag as one with the empty tag.
+impl From<Memory> for LiteralError {
+    ghost use Rattle.std.specs.Prelude.{◌≡◌};
+    ghost use Rattle.fx_terms.specs.declared.literals.LiteralError.TheVariants.{Memory as NoMemory};
+
+    ghost from_gives = { λ _ e. e ≡ NoMemory };
+
+    fn from(_error: Memory) -> LiteralError {
+        LiteralError::Memory
+    }
+}
+
+/// The datatype of a literal that is written with neither a datatype nor a tag.
+const XSD_STRING: &str = "http://www.w3.org/2001/XMLSchema#string";
+
+/// The datatype of a literal with a language tag.
+const LANG_STRING: &str = "http://www.w3.org/1999/02/22-rdf-syntax-ns#langString";
+
+/// A literal (RDF 1.1 Concepts 3.3): a lexical form, a datatype, and a language tag exactly where the datatype is
+/// rdf:langString. Contracts see the bytes of these parts, and a literal without a tag as one with the empty tag.
 #[derive(Debug, Drop)]
 pub struct Literal {
     form: ArcStr,
@@ -41,14 +62,58 @@ pub struct Literal {
 
 impl Model for Literal {
     ghost use Rattle.std.specs.Arc.{arc_str_bytes};
-    ghost use Rattle.fx_terms.specs.Literals.{LiteralParts};
+    ghost use Rattle.fx_terms.specs.Literals.{LiteralParts, IsLiteral};
 
     ghost Value = { LiteralParts };
 
     ghost view = { λ l. record { form = arc_str_bytes l.form; datatype = l.datatype; tag = arc_str_bytes l.tag } };
+
+    ghost invariant = { λ l. IsLiteral (record { form = arc_str_bytes l.form; datatype = l.datatype; tag = arc_str_bytes l.tag }) };
 }
 
 impl Literal {
+    /// The literal of a form alone: its datatype is xsd:string, and it has no tag.
+    pub fn plain(alloc: Global, form: &str) -> Result<Literal, Memory>
+        ensures { IfOk result (λ literal. literal ≡ spec.plain form.now) }
+    {
+        Ok(Literal {
+            form: ArcStr::from_str(alloc, form)?,
+            datatype: Iri::known(alloc, XSD_STRING)?,
+            tag: ArcStr::from_str(alloc, "")?,
+        })
+    }
+
+    /// The literal of a form and a datatype, without a tag. `NeedsTag` comes exactly where the datatype is rdf:langString.
+    pub fn typed(alloc: Global, form: &str, datatype: &Iri) -> Result<Literal, LiteralError>
+        ensures { AnswersLiteral result (spec.typed form.now datatype.now) }
+    {
+        if datatype.text() == LANG_STRING {
+            return Err(LiteralError::NeedsTag);
+        }
+        Ok(Literal {
+            form: ArcStr::from_str(alloc, form)?,
+            datatype: datatype.copy()?,
+            tag: ArcStr::from_str(alloc, "")?,
+        })
+    }
+
+    /// The literal of a form and a language tag, which it keeps in ASCII lower case. Its datatype is rdf:langString.
+    ///
+    /// `BadTag` comes exactly where the tag is not ASCII letters, and then any number of groups of `-` with ASCII letters
+    /// or digits.
+    pub fn tagged(alloc: Global, form: &str, tag: &str) -> Result<Literal, LiteralError>
+        ensures { AnswersLiteral result (spec.tagged form.now tag.now) }
+    {
+        if !is_tag(tag) {
+            return Err(LiteralError::BadTag);
+        }
+        Ok(Literal {
+            form: ArcStr::from_str(alloc, form)?,
+            datatype: Iri::known(alloc, LANG_STRING)?,
+            tag: ArcStr::from_string(tag.to_ascii_lowercase(alloc)?)?,
+        })
+    }
+
     /// The lexical form.
     pub fn form(&self) -> &str
         ensures { result.now ≡ self.now.form }
@@ -63,9 +128,10 @@ impl Literal {
         &self.datatype
     }
 
-    /// The language tag in lower case, or nothing.
+    /// The language tag in lower case, or nothing where the datatype is not rdf:langString.
     pub fn tag(&self) -> &str
-        ensures { result.now ≡ self.now.tag }
+        ensures value { result.now ≡ self.now.tag }
+        ensures fits { spec.IsLiteral self.now }
     {
         self.tag.as_str()
     }
@@ -80,6 +146,41 @@ impl Literal {
             tag: self.tag.clone()?,
         })
     }
+}
+
+// Whether a text is letters, and then any number of groups of `-` with letters or digits.
+fn is_tag(tag: &str) -> bool
+    ensures { result ≡ spec.is_tag tag.now }
+{
+    let mut parts = tag.split('-');
+    match parts.next() {
+        None => false,
+        Some(first) => is_letters(first) && parts.all(is_letters_or_digits),
+    }
+}
+
+fn is_letters(part: &str) -> bool
+    ensures { result ≡ spec.is_letters part.now }
+{
+    !part.is_empty() && has_letters(part.as_bytes())
+}
+
+fn has_letters(part: &[u8]) -> bool
+    ensures { result ≡ list_all is_letter part.now }
+{
+    part.iter().all(|b| b.is_ascii_alphabetic())
+}
+
+fn is_letters_or_digits(part: &str) -> bool
+    ensures { result ≡ spec.is_letters_or_digits part.now }
+{
+    !part.is_empty() && has_letters_or_digits(part.as_bytes())
+}
+
+fn has_letters_or_digits(part: &[u8]) -> bool
+    ensures { result ≡ list_all spec.is_letter_or_digit part.now }
+{
+    part.iter().all(|b| b.is_ascii_alphanumeric())
 }
 
 impl PartialEq for Literal {

@@ -8,6 +8,7 @@ ghost use Rattle.fx_terms.specs.Answers.{AnswersName};
 use crate::allocation::Memory;
 use std::alloc::{AllocError, Global};
 use std::cmp::Ordering;
+use std::hash::{Hash, Hasher};
 use std::marker::Model;
 use std::sync::ArcStr;
 
@@ -171,5 +172,19 @@ impl PartialOrd for Name {
 
     fn partial_cmp(&self, other: &Name) -> Option<Ordering> {
         Some(self.cmp(other))
+    }
+}
+
+impl Hash for Name {
+    ghost use Rattle.std.proofs.Common.{ap};
+    ghost use Rattle.std.specs.Hash as fed;
+    ghost use Rattle.fx_terms.specs.Texts.{one_text};
+
+    ghost hash_input = { fed.str };
+
+    ghost respects_eq = { λ x y h. ap fed.str (one_text x y h) };
+
+    fn hash<H: Hasher>(&self, state: &mut H) {
+        self.text.hash(state);
     }
 }

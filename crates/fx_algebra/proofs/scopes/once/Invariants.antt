@@ -4,4 +4,4 @@ use Rattle.fx_algebra.proofs.scopes.once.Given as goal
 
 -- what is left completes the names
 abbrev pub invariant-loop-name : goal.invariant-loop-name
-invariant-loop-name l = fold with_name l.all.items (drop l.name-index l.names) ≡ once l.names
+invariant-loop-name l = fold with_name l.all.keys (drop l.name-index l.names) ≡ once l.names

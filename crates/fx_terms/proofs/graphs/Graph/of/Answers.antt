@@ -1,13 +1,10 @@
-use Rattle.std.proofs.Common.{◌≡◌, refl, List}
-use Rattle.std.specs.Prelude.{Contains, ◌↔◌}
-use Rattle.std.specs.List.Sorted.{IsStrictlySortedBy}
+use Rattle.std.proofs.Common.{refl}
 use Rattle.std.proofs.lemmas.Cmp.{eq_by_cmp_equiv}
 use Rattle.std.proofs.lemmas.Map.Views.{tells_apart}
 use Rattle.std.proofs.lemmas.List.Filters.{dedup_is}
 use Rattle.std.proofs.lemmas.List.Kept.{Contains-dedup, Contains-from_dedup, IsStrictlySortedBy-dedup}
 use Rattle.std.proofs.lemmas.List.Sorted.{Contains-permutation, IsPermutation-sym}
 use Rattle.fx_terms.specs.Triples.{triple_cmp, triples_total}
-use Rattle.fx_terms.specs.Graphs.{IsGraphOf, graph_of}
 use Rattle.fx_terms.proofs.OrderLemmas.{exact_triples}
 use Rattle.fx_terms.proofs.SetLemmas.{set_is}
 use Rattle.fx_terms.proofs.graphs.Graph.of.Goals as goal

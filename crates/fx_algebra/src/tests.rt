@@ -1,0 +1,237 @@
+//! What the calls answer at given values.
+use crate::{Element, Expr, Group, Inline, Solution, scope, scopes};
+use fx_terms::{Iri, Items, Name, Pattern, PatternTerm, Term};
+use std::alloc::Global;
+use std::process::Abort;
+use std::test::Fail;
+
+#[test]
+fn a_solution_has_its_pairs_by_rising_name(rt: HostRuntime) -> Result<(), Fail> {
+    let empty = Solution::empty(rt.alloc());
+    has_pairs(&rt, &empty, "");
+    let row = solution(rt.alloc(), "m=x:1 z=x:2 a=x:3 b=x:1").ok_or("no solution")?;
+    has_pairs(&rt, &row, "a=x:3 b=x:1 m=x:1 z=x:2");
+    has_pairs(&rt, &row.copy(rt.alloc())?, "a=x:3 b=x:1 m=x:1 z=x:2");
+    for (name, want) in [
+        ("a", Some("x:3")),
+        ("m", Some("x:1")),
+        ("z", Some("x:2")),
+        ("c", None),
+    ] {
+        let name = Name::read(rt.alloc(), name)?;
+        assert_eq!(rt; row.get(&name).and_then(iri_text), want);
+    }
+    Ok(())
+}
+
+#[test]
+fn solutions_that_agree_are_merged(rt: HostRuntime) -> Result<(), Fail> {
+    for (left, right, want) in [
+        ("", "", Some("")),
+        ("a=x:1", "", Some("a=x:1")),
+        ("b=x:1", "a=x:2 c=x:3", Some("a=x:2 b=x:1 c=x:3")),
+        ("a=x:1 b=x:2", "b=x:2 c=x:1", Some("a=x:1 b=x:2 c=x:1")),
+        ("a=x:1", "a=x:2", None),
+        ("a=x:1 b=x:2", "a=x:1 b=x:3", None),
+        ("a=x:1 c=x:2", "b=x:1 c=x:1", None),
+    ] {
+        let left = solution(rt.alloc(), left).ok_or("no solution")?;
+        let right = solution(rt.alloc(), right).ok_or("no solution")?;
+        let agrees = left.agrees(&right);
+        assert_eq!(rt; agrees, want.is_some());
+        if agrees {
+            let both = left.merge(rt.alloc(), &right)?;
+            has_pairs(&rt, &both, want.unwrap_or("none"));
+        }
+    }
+    Ok(())
+}
+
+#[test]
+fn a_projection_keeps_the_columns_alone(rt: HostRuntime) -> Result<(), Fail> {
+    let row = solution(rt.alloc(), "a=x:1 b=x:2 c=x:3").ok_or("no solution")?;
+    for (columns, want) in [
+        ("c x a", "a=x:1 c=x:3"),
+        ("", ""),
+        ("b b", "b=x:2"),
+        ("x", ""),
+    ] {
+        let columns = names(rt.alloc(), columns).ok_or("no names")?;
+        let part = row.project(rt.alloc(), columns.as_slice())?;
+        has_pairs(&rt, &part, want);
+    }
+    Ok(())
+}
+
+#[test]
+fn names_stand_once_at_their_first_place(rt: HostRuntime) -> Result<(), Fail> {
+    for (given, want) in [
+        ("b a b c a", "b a c"),
+        ("", ""),
+        ("x x x", "x"),
+        ("X x", "X x"),
+    ] {
+        let given = names(rt.alloc(), given).ok_or("no names")?;
+        let once = scopes::once(rt.alloc(), given.as_slice())?;
+        has_names(&rt, once.as_slice(), want);
+    }
+    Ok(())
+}
+
+#[test]
+fn a_scope_has_what_the_elements_bind(rt: HostRuntime) -> Result<(), Fail> {
+    let mut elements = Items::new(rt.alloc());
+    for (kind, names) in [
+        (Kind::Filter, "f"),
+        (Kind::Triple, "x p x"),
+        (Kind::Optional, "a p x"),
+        (Kind::Union, "c b a"),
+        (Kind::Minus, "m n o"),
+        (Kind::Bind, "d"),
+        (Kind::Values, "g x"),
+        (Kind::Service, "p h x"),
+    ] {
+        elements.push(element(rt.alloc(), kind, names).ok_or("no element")?)?;
+    }
+    let names = scope(rt.alloc(), &Group { elements })?;
+    has_names(&rt, names.as_slice(), "x p a c b d g h");
+    let empty = Group {
+        elements: Items::new(rt.alloc()),
+    };
+    has_names(&rt, scope(rt.alloc(), &empty)?.as_slice(), "");
+    Ok(())
+}
+
+#[derive(Clone, Copy)]
+enum Kind {
+    Triple,
+    Filter,
+    Optional,
+    Union,
+    Minus,
+    Bind,
+    Values,
+    Service,
+}
+
+// An element of a kind with some names: three for a triple or a group of one triple.
+fn element(alloc: Global, kind: Kind, texts: &str) -> Option<Element> {
+    match kind {
+        Kind::Triple => Some(Element::Triple(pattern(alloc, texts)?)),
+        Kind::Filter => Some(Element::Filter(Expr::Variable(name(alloc, texts)?))),
+        Kind::Optional => Some(Element::Optional(group(alloc, texts)?)),
+        Kind::Union => union(alloc, texts),
+        Kind::Minus => Some(Element::Minus(group(alloc, texts)?)),
+        Kind::Bind => bind(alloc, texts),
+        Kind::Values => values(alloc, texts),
+        Kind::Service => service(alloc, texts),
+    }
+}
+
+// Two groups of the same names.
+fn union(alloc: Global, texts: &str) -> Option<Element> {
+    let mut groups = Items::new(alloc);
+    for _ in 0..2 {
+        groups.push(group(alloc, texts)?).ok()?;
+    }
+    Some(Element::Union(groups))
+}
+
+fn bind(alloc: Global, text: &str) -> Option<Element> {
+    let expr = Expr::Variable(name(alloc, "e")?);
+    let name = name(alloc, text)?;
+    Some(Element::Bind { expr, name })
+}
+
+fn values(alloc: Global, texts: &str) -> Option<Element> {
+    let columns = Items::from_vec(names(alloc, texts)?);
+    let rows = Items::new(alloc);
+    Some(Element::Values(Inline { columns, rows }))
+}
+
+fn service(alloc: Global, texts: &str) -> Option<Element> {
+    let group = group(alloc, texts)?;
+    let iri = Iri::read(alloc, "http://e/sparql").ok()?;
+    Some(Element::Service {
+        silent: false,
+        iri,
+        group,
+    })
+}
+
+fn group(alloc: Global, texts: &str) -> Option<Group> {
+    let mut elements = Items::new(alloc);
+    elements.push(Element::Triple(pattern(alloc, texts)?)).ok()?;
+    Some(Group { elements })
+}
+
+fn pattern(alloc: Global, texts: &str) -> Option<Pattern> {
+    let mut texts = texts.split_whitespace();
+    let subject = variable(alloc, texts.next()?)?;
+    let predicate = variable(alloc, texts.next()?)?;
+    let object = variable(alloc, texts.next()?)?;
+    Some(Pattern {
+        subject,
+        predicate,
+        object,
+    })
+}
+
+fn variable(alloc: Global, text: &str) -> Option<PatternTerm> {
+    Some(PatternTerm::Variable(name(alloc, text)?))
+}
+
+fn name(alloc: Global, text: &str) -> Option<Name> {
+    Name::read(alloc, text).ok()
+}
+
+fn names(alloc: Global, texts: &str) -> Option<Vec<Name>> {
+    let mut names = Vec::new(alloc);
+    for text in texts.split_whitespace() {
+        names.push(name(alloc, text)?).ok()?;
+    }
+    Some(names)
+}
+
+// The solution that is written as names with their IRIs.
+fn solution(alloc: Global, pairs: &str) -> Option<Solution> {
+    let mut solution = Solution::empty(alloc);
+    for pair in pairs.split_whitespace() {
+        let (text, iri) = pair.split_once('=')?;
+        let name = name(alloc, text)?;
+        let term = Term::Iri(Iri::read(alloc, iri).ok()?);
+        solution = bound(alloc, &solution, &name, &term)?;
+    }
+    Some(solution)
+}
+
+fn bound(alloc: Global, solution: &Solution, name: &Name, term: &Term) -> Option<Solution> {
+    match solution.get(name) {
+        Some(_) => None,
+        None => solution.with(alloc, name, term).ok(),
+    }
+}
+
+fn iri_text(term: &Term) -> Option<&str> {
+    match term {
+        Term::Iri(iri) => Some(iri.text()),
+        Term::Literal(_) => None,
+    }
+}
+
+fn has_pairs(rt: &impl Abort, solution: &Solution, want: &str) {
+    let mut wanted = want.split_whitespace();
+    for (name, term) in solution.pairs() {
+        let pair = iri_text(term).map(|iri| (name.text(), iri));
+        assert_eq!(rt; pair, wanted.next().and_then(|pair| pair.split_once('=')));
+    }
+    assert_eq!(rt; wanted.next(), None);
+}
+
+fn has_names(rt: &impl Abort, names: &[Name], want: &str) {
+    let mut wanted = want.split_whitespace();
+    for name in names {
+        assert_eq!(rt; Some(name.text()), wanted.next());
+    }
+    assert_eq!(rt; wanted.next(), None);
+}
