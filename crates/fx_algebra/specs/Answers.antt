@@ -9,7 +9,7 @@ use Rattle.fx_algebra.specs.declared.answers.Answer.TheVariants.{Table, Truth}
 use Rattle.fx_algebra.specs.declared.queries.Query.{Query}
 use Rattle.fx_algebra.specs.declared.queries.Form.{Form}
 use Rattle.fx_algebra.specs.declared.queries.Form.TheVariants.{Select, Ask}
-use Rattle.fx_algebra.specs.declared.queries.Element.{Element-F}
+use Rattle.fx_algebra.specs.declared.queries.Element.{Element, Element-F, fold-Element}
 use Rattle.fx_algebra.specs.declared.queries.Group.{Group, Group-F, fold-Group}
 use Rattle.fx_algebra.specs.Solutions.{Bindings}
 use Rattle.fx_algebra.specs.BasicGraphPatterns.{bgp}
