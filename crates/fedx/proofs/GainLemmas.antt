@@ -1,5 +1,5 @@
 -- Lines that are written in pieces.
-use Rattle.std.proofs.Common.{◌≡◌, ◌∙◌, ap, sym, ℕ, ◌+◌, ◌<◌, ◌≤◌, min, ◌⊎◌, inl, inr, List, ◌++◌, take, length, append_assoc, arith}
+use Rattle.std.proofs.Common.{◌≡◌, ◌∙◌, ap, sym, ℕ, ◌+◌, ◌<◌, ◌≤◌, ◌⊎◌, inl, inr, List, ◌++◌, take, length, append_assoc, arith}
 use Rattle.std.proofs.lemmas.List.{take-append-le, take_all}
 use Rattle.std.proofs.Math.Seq.{take-append-add}
 use Rattle.fx_outside.specs.Faults.{HasRisen}
@@ -31,6 +31,6 @@ gains_cut old new before after a b front risen =
 -- a piece was written, and then others
 pub gains_then : (old mid new : List ℕ) (before between after : ℕ) (a b : List ℕ) → mid ≡ old ++ a → before ≤ between → Gains mid new between after b → Gains old new before after (a ++ b)
 gains_then old mid new before between after a b wrote kept rest = record {
-    front = (length a + rest.front.0, rest.front.1 ∙ ap (λ m. m ++ take rest.front.0 b) wrote ∙ append_assoc old a (take rest.front.0 b) ∙ ap (λ t. old ++ t) (sym (take-append-add a b rest.front.0)));
-    whole = λ not. rest.whole (λ risen. not (risen_before before between after kept risen)) ∙ ap (λ m. m ++ b) wrote ∙ append_assoc old a b;
-  }
+  front = (length a + rest.front.0, rest.front.1 ∙ ap (λ m. m ++ take rest.front.0 b) wrote ∙ append_assoc old a (take rest.front.0 b) ∙ ap (λ t. old ++ t) (sym (take-append-add a b rest.front.0)));
+  whole = λ not. rest.whole (λ risen. not (risen_before before between after kept risen)) ∙ ap (λ m. m ++ b) wrote ∙ append_assoc old a b;
+}

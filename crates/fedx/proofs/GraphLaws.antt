@@ -1,16 +1,13 @@
 -- A file is read as triples exactly where it spells them.
-use Rattle.std.proofs.Common.{◌≡◌, ◌∙◌, ap, sym, subst, refl, ℕ, suc, ◌+◌, nat_lt, not, length, ◌==◌, ◌⊎◌, inl, inr, Bool, true, false, cond, List, [], ◌∷◌, ◌++◌, Option, Some, None, Ok, Err, append_assoc, arith}
-use Rattle.std.specs.Prelude.{IfSome, IfOk, MatchResult, Result, codes, All}
+use Rattle.std.proofs.Common.{◌≡◌, ◌∙◌, ap, sym, subst, refl, ℕ, suc, ◌+◌, nat_lt, not, length, ◌==◌, inl, inr, Bool, true, false, cond, List, [], ◌∷◌, ◌++◌, Option, Some, None, Ok, Err, arith}
+use Rattle.std.specs.Prelude.{IfSome, codes, All}
 use Rattle.std.specs.List.{slice_split, join_with_byte, position_or_len, position}
 use Rattle.std.specs.Str.{IsUtf8, is_utf8, bytes_eq}
 use Rattle.std.specs.Cmp.Lexicographic.{same_text}
-use Rattle.std.specs.declared.vec.Vec.{Vec}
-use Rattle.std.specs.declared.alloc.Global.{Global}
 use Rattle.std.proofs.lemmas.Str.{IsUtf8-from_is_utf8, is_utf8-from_IsUtf8}
 use Rattle.std.proofs.lemmas.List.Splits.{slice_split_at, join_with_byte-slice_split}
 use Rattle.std.proofs.lemmas.List.Elements.{All-cons, All-nil, All-append, All-weaker}
-use Rattle.fx_terms.specs.Iris.{read_iri, iri_after, is_forbidden}
-use Rattle.fx_terms.specs.declared.terms.Term.TheVariants as term
+use Rattle.fx_terms.specs.Iris.{iri_after, is_forbidden}
 use Rattle.fx_terms.specs.declared.triples.Triple.{Triple}
 use Rattle.std.proofs.lemmas.Bool.Decides.{nat_tests}
 use Rattle.fx_syntax.specs.Words.{IsIri, IsWord}
@@ -21,7 +18,7 @@ use Rattle.fx_syntax.specs.Answers.{GivesItems}
 use Rattle.fx_syntax.proofs.WordLaws.{iri_of_is, iri_from}
 use Rattle.fx_syntax.specs.Reading.{iri_of, in_front}
 use Rattle.fx_algebra.proofs.ForcedLemmas.{of_outcome}
-use Rattle.fedx.specs.Graphs.{in_brackets, line_of, SpellsTriple, SpellLines, SpellsFile}
+use Rattle.fedx.specs.Graphs.{in_brackets, SpellsTriple, SpellLines, SpellsFile}
 use Rattle.fedx.specs.GraphReading.{triple_of, words_triple, line_triple, lines_triples, file_triples}
 
 -- ---- one line

@@ -1,7 +1,5 @@
 -- What a refusal reports is its cause.
-use Rattle.std.proofs.Common.{◌≡◌, sym, subst, refl, ℕ, List, Option, Some, None, Err, inl, inr, ◌⊎◌}
-use Rattle.std.specs.declared.vec.Vec.{Vec}
-use Rattle.std.specs.declared.alloc.Global.{Global}
+use Rattle.std.proofs.Common.{◌≡◌, refl, ℕ, List, Option, Some, None, Err, inl, inr}
 use Rattle.fedx.specs.declared.refusals.FileRefusal.TheVariants as file
 use Rattle.fedx.specs.declared.refusals.Refusal.{Refusal}
 use Rattle.fedx.specs.declared.refusals.Refusal.TheVariants as refusal

@@ -1,5 +1,5 @@
 -- How a file of triples is read. `SpellsFile` says what is read; these functions only say how.
-use Rattle.std.specs.Prelude.{◌≡◌, ℕ, Bool, true, false, List, [], ◌∷◌, Option, Some, None, Result, Ok, Err, ◌==◌, codes, if◌then◌else◌}
+use Rattle.std.specs.Prelude.{ℕ, List, [], ◌∷◌, Option, Some, None, ◌==◌, codes, if◌then◌else◌}
 use Rattle.std.specs.List.{slice_split}
 use Rattle.std.specs.Str.{is_utf8, bytes_eq}
 use Rattle.fx_terms.specs.declared.terms.Term.TheVariants as term

@@ -1,7 +1,5 @@
 -- What `fedx local` does.
-use Rattle.std.specs.Prelude.{◌≡◌, ◌⊎◌, ℕ, ◌<◌, ◌≤◌, List, [], ◌∷◌, ◌++◌, Option, Some, None, Result, Ok, Err, IfSome, length, codes}
-use Rattle.std.specs.declared.vec.Vec.{Vec}
-use Rattle.std.specs.declared.alloc.Global.{Global}
+use Rattle.std.specs.Prelude.{◌≡◌, ◌⊎◌, ℕ, ◌<◌, ◌≤◌, List, [], ◌∷◌, ◌++◌, Option, Some, None, IfSome, length, codes}
 use Rattle.fx_outside.specs.Faults.{HasRisen}
 use Rattle.fx_outside.specs.Streams.{AppendsFront}
 use Rattle.fx_terms.specs.Graphs.{graph_of}
@@ -11,10 +9,6 @@ use Rattle.fx_algebra.specs.declared.queries.Query.{Query}
 use Rattle.fx_syntax.specs.Accepted.{Accepted}
 use Rattle.fx_results.specs.Documents.{document}
 use Rattle.fedx.specs.declared.limits.TheConstants.{GRAPH_LIMIT, QUERY_LIMIT}
-use Rattle.fedx.specs.declared.refusals.FileRefusal.{FileRefusal}
-use Rattle.fedx.specs.declared.refusals.FileRefusal.TheVariants as file
-use Rattle.fedx.specs.declared.refusals.Refusal.{Refusal}
-use Rattle.fedx.specs.declared.refusals.Refusal.TheVariants as refusal
 use Rattle.fedx.specs.declared.statuses.Status.{Status}
 use Rattle.fedx.specs.declared.statuses.Status.TheVariants as status
 use Rattle.fedx.specs.Graphs.{SpellsFile}

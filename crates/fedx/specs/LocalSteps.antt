@@ -1,5 +1,5 @@
 -- What the steps of `fedx local` give. `IsReported` and `IsWritten` say what the whole gives.
-use Rattle.std.specs.Prelude.{◌≡◌, ℕ, ◌≤◌, List, [], ◌∷◌, ◌++◌, Result, Ok, Err, IfSome, length, codes}
+use Rattle.std.specs.Prelude.{◌≡◌, ℕ, ◌≤◌, List, Result, Ok, Err, IfSome, length, codes}
 use Rattle.std.specs.declared.vec.Vec.{Vec}
 use Rattle.std.specs.declared.alloc.Global.{Global}
 use Rattle.fx_terms.specs.Graphs.{graph_of}
@@ -13,8 +13,6 @@ use Rattle.fedx.specs.declared.refusals.FileRefusal.{FileRefusal}
 use Rattle.fedx.specs.declared.refusals.FileRefusal.TheVariants as file
 use Rattle.fedx.specs.declared.refusals.Refusal.{Refusal}
 use Rattle.fedx.specs.declared.refusals.Refusal.TheVariants as refusal
-use Rattle.fedx.specs.declared.statuses.Status.{Status}
-use Rattle.fedx.specs.declared.statuses.Status.TheVariants as status
 use Rattle.fedx.specs.Graphs.{SpellsFile}
 use Rattle.fedx.specs.Local.{FileRead, HasFailed, IsTooLong, IsGraph, IsNoGraph, IsQuery, IsNoQuery, IsAnswer, line, cannot_read, graph_too_long, query_too_long, no_memory}
 

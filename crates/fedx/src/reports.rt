@@ -10,7 +10,10 @@ use fx_outside::{Sink, write_all};
 pub fn write_usage<E: Sink>(err: &mut E)
     ensures { IsTrue E.tells_held → Gains (E.held err.old) (E.held err.new) (E.write_faults err.old) (E.write_faults err.new) usage_line }
 {
-    write_line(err, b"usage: fedx local GRAPH QUERY | query REGISTRY QUERY [--workers N] [--block B] | explain REGISTRY QUERY | member GRAPH ADDRESS [COUNT] | generate N\n");
+    write_line(
+        err,
+        b"usage: fedx local GRAPH QUERY | query REGISTRY QUERY [--workers N] [--block B] | explain REGISTRY QUERY | member GRAPH ADDRESS [COUNT] | generate N\n",
+    );
 }
 
 /// Writes the line of a refusal, where the files have these names.
@@ -29,7 +32,12 @@ fn write_graph_refusal<E: Sink>(err: &mut E, refusal: FileRefusal, name: &str)
 {
     match refusal {
         FileRefusal::Fault => write_named(err, b"cannot read ", name, b"\n"),
-        FileRefusal::TooLong => write_named(err, b"file ", name, b" has more than 134217728 bytes\n"),
+        FileRefusal::TooLong => write_named(
+            err,
+            b"file ",
+            name,
+            b" has more than 134217728 bytes\n",
+        ),
         FileRefusal::NotFirst => write_line(err, b"graph refused: NotFirst\n"),
         FileRefusal::Memory => write_line(err, b"no memory\n"),
     }

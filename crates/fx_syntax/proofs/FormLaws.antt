@@ -1,7 +1,7 @@
 -- What is read of a list of words is the query that they spell.
 use Rattle.std.proofs.Common.{◌≡◌, ◌∙◌, ap, sym, subst, refl, ℕ, suc, ◌+◌, ◌<◌, ◌≤◌, ◌==◌, ◌&&◌, ◌⊎◌, inl, inr, Bool, true, false, cond, List, [], ◌∷◌, ◌++◌, map, length, take, drop, Option, Some, None, arith}
 use Rattle.std.specs.Prelude.{IfSome, option_and_then, option_map}
-use Rattle.std.specs.List.{prefix_len, filter_map}
+use Rattle.std.specs.List.{prefix_len}
 use Rattle.std.proofs.lemmas.Bool.Decides.{nat_tests}
 use Rattle.std.proofs.lemmas.List.{take-append-drop, length-map, length-take-le}
 use Rattle.std.proofs.Math.Seq.{take-append_seam, drop-append_seam}
@@ -14,8 +14,7 @@ use Rattle.fx_algebra.specs.declared.queries.Query.{Query}
 use Rattle.fx_syntax.specs.declared.words.Word.{Word}
 use Rattle.fx_syntax.specs.declared.words.Word.TheVariants.{Select, Star, Where, Open, Close, Dot, Variable, Iri}
 use Rattle.fx_syntax.specs.FirstForm.{SpellsPart, SpellsTriple, SpellsBody, SpellsHead, SpellsQuery, group_of, plain_query}
-use Rattle.fx_syntax.specs.Reading.{part_of, pattern_parts, pattern_of, is_select, is_star, is_where, is_open, is_close, is_dot, at_end, body_of, after_triple, behind_where, where_body, name_of, is_name, names_in, star_query, columns_query, named_query, selected, query_of, in_front}
-use Rattle.fx_syntax.proofs.WordLaws.{if_then}
+use Rattle.fx_syntax.specs.Reading.{part_of, pattern_parts, pattern_of, is_select, is_star, is_where, is_open, is_close, at_end, body_of, after_triple, where_body, is_name, names_in, star_query, columns_query, named_query, selected, query_of, in_front}
 
 -- ---- triples
 

@@ -1,12 +1,11 @@
 -- How lists of words and of triples are read, turn by turn.
-use Rattle.std.proofs.Common.{◌≡◌, ◌∙◌, ap, sym, refl, Bool, true, false, cond, ℕ, List, [], ◌∷◌, ◌++◌, Option, Some, None, append_assoc, ◌&&◌, ◌+◌, ◌<◌, map, drop, length, get_or, suc, add-one}
+use Rattle.std.proofs.Common.{◌≡◌, ◌∙◌, ap, sym, refl, Bool, true, false, cond, ℕ, List, [], ◌∷◌, ◌++◌, Option, Some, None, append_assoc, ◌+◌, ◌<◌, map, drop, length, get_or, suc, add-one}
 use Rattle.std.proofs.Math.Seq.{drop-cons}
 use Rattle.std.specs.Borrow.{Bor}
 use Rattle.std.specs.Prelude.{option_map, option_and_then}
 use Rattle.fx_terms.specs.declared.patterns.Pattern.{Pattern}
 use Rattle.fx_syntax.specs.declared.words.Word.{Word}
-use Rattle.fx_syntax.specs.declared.words.Word.TheVariants.{Select, Star, Where, Open, Close, Dot, Variable, Iri}
-use Rattle.fx_syntax.specs.Reading.{in_front, behind, body_of, after_triple, at_end, closes, is_close, is_dot, next_triple, first_triple, behind_triple, pattern_of, word_of, words_of}
+use Rattle.fx_syntax.specs.Reading.{in_front, behind, body_of, after_triple, at_end, closes, is_close, is_dot, next_triple, behind_triple, pattern_of, word_of, words_of}
 
 -- what is in front of what is left joins what was read
 pub behind_more : {X : Type 0} (xs : List X) (x : X) (rest : Option (List X)) → behind xs (in_front (Some x) rest) ≡ behind (xs ++ x ∷ []) rest

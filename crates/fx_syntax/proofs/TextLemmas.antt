@@ -1,8 +1,8 @@
 -- Words as texts.
-use Rattle.std.proofs.Common.{tests, length, suc, take, ◌-◌, ◌==◌, ◌≡◌, ◌∙◌, ℕ, ◌<◌, Bool, true, false, List, [], ◌∷◌, Option, Some, None, Ok, Err, refl, ap, sym, cond, drop, arith, get_or, slice_index, ◌&&◌}
+use Rattle.std.proofs.Common.{tests, length, suc, take, ◌-◌, ◌==◌, ◌≡◌, ℕ, ◌<◌, Bool, true, false, List, [], ◌∷◌, Option, Some, None, Ok, refl, cond, drop, arith, ◌&&◌}
 use Rattle.std.proofs.Math.Seq.{take-length}
 use Rattle.std.specs.List.{list_all, All}
-use Rattle.std.specs.Str.{IsUtf8, is_utf8, IsAscii, chars}
+use Rattle.std.specs.Str.{IsUtf8, is_utf8, chars}
 use Rattle.std.proofs.lemmas.Str.{IsUtf8-from_is_utf8, is_utf8-from_IsUtf8, IsUtf8-from_ascii, chars-IsAscii}
 use Rattle.std.proofs.lemmas.List.Elements.{All-cons, All-nil}
 use Rattle.std.proofs.lemmas.Str.Ascii.{IsAscii-from_all}

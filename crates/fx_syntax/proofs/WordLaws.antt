@@ -1,17 +1,17 @@
 -- What is read of a word is what the word says.
-use Rattle.std.proofs.Common.{◌≡◌, ◌∙◌, ap, sym, subst, refl, ℕ, suc, ◌+◌, ◌-◌, ◌<◌, ◌==◌, ◌&&◌, nat_le, Bool, true, false, cond, List, [], ◌∷◌, ◌++◌, length, take, drop, get_or, slice_index, Option, Some, None, Ok, Err, arith, length-append, eqb}
+use Rattle.std.proofs.Common.{◌≡◌, ◌∙◌, ap, sym, subst, refl, ℕ, suc, ◌+◌, ◌-◌, ◌==◌, ◌&&◌, nat_le, Bool, true, false, cond, List, [], ◌∷◌, ◌++◌, length, take, drop, get_or, slice_index, Option, Some, None, Ok, Err, arith, length-append}
 use Rattle.std.specs.Prelude.{IfSome, codes, option_and_then, option_map, Result}
 use Rattle.std.specs.Result.{result_ok}
 use Rattle.std.specs.List.{list_all}
-use Rattle.std.specs.Str.{IsUtf8, is_utf8, bytes_eq}
+use Rattle.std.specs.Str.{is_utf8, bytes_eq}
 use Rattle.std.specs.Cmp.Lexicographic.{same_text}
 use Rattle.std.proofs.lemmas.Str.{IsUtf8-from_is_utf8, is_utf8-from_IsUtf8}
-use Rattle.std.proofs.lemmas.Bool.{eqb-true, eq-eqb}
+use Rattle.std.proofs.lemmas.Bool.{eqb-true}
 use Rattle.std.proofs.lemmas.Bool.Decides.{nat_tests}
 use Rattle.std.proofs.lemmas.List.{take_more}
 use Rattle.std.proofs.Math.Seq.{get_or-append_seam, take-append_seam, take-length}
 use Rattle.fx_terms.specs.declared.iris.TermError.{TermError}
-use Rattle.fx_terms.specs.Iris.{read_iri, iri_after, iri_with_scheme, has_scheme, is_forbidden}
+use Rattle.fx_terms.specs.Iris.{read_iri, iri_after, iri_with_scheme, has_scheme}
 use Rattle.fx_syntax.specs.declared.words.Word.{Word}
 use Rattle.fx_syntax.specs.declared.words.Word.TheVariants.{Select, Star, Where, Open, Close, Dot, Variable, Iri}
 use Rattle.fx_syntax.specs.Words.{IsWord, AreWords, IsIri, is_variable_name, is_some_text, is_name_byte}

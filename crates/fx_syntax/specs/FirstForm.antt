@@ -1,7 +1,6 @@
 -- The first form of a query, by its words: SELECT, then * or variables, then WHERE and triples in braces, with a dot between
 -- two triples and perhaps one after the last.
 use Rattle.std.specs.Prelude.{◌≡◌, ◌⊎◌, ℕ, ◌<◌, List, [], ◌∷◌, ◌++◌, map, length, None, false}
-use Rattle.fx_terms.specs.declared.terms.Term.{Term}
 use Rattle.fx_terms.specs.declared.terms.Term.TheVariants as term
 use Rattle.fx_terms.specs.declared.patterns.Pattern.{Pattern}
 use Rattle.fx_terms.specs.declared.patterns.PatternTerm.{PatternTerm}

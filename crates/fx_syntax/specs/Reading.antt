@@ -1,5 +1,5 @@
 -- How the first form is read from left to right. `Accepted` says what is read; these functions only say how.
-use Rattle.std.specs.Prelude.{◌≡◌, ℕ, ◌-◌, Bool, true, false, List, [], ◌∷◌, ◌++◌, map, length, take, drop, Option, Some, None, ◌==◌, ◌&&◌, nat_le, slice_index, codes, is_some, if◌then◌else◌, option_and_then, option_map}
+use Rattle.std.specs.Prelude.{ℕ, ◌-◌, Bool, true, false, List, [], ◌∷◌, ◌++◌, length, take, drop, Option, Some, None, ◌==◌, ◌&&◌, nat_le, slice_index, codes, is_some, if◌then◌else◌, option_and_then, option_map}
 use Rattle.std.specs.List.{list_all, filter_map, prefix_len}
 use Rattle.std.specs.Result.{result_ok}
 use Rattle.std.specs.Str.{is_utf8, bytes_eq}

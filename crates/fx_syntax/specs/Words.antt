@@ -1,5 +1,5 @@
 -- Words of the first form of a query, and what each of them says.
-use Rattle.std.specs.Prelude.{◌≡◌, ℕ, Bool, true, List, [], ◌∷◌, ◌++◌, Ok, ◌&&◌, ◌||◌, ◌==◌, nat_le, not, codes, filter, length}
+use Rattle.std.specs.Prelude.{◌≡◌, ℕ, Bool, true, List, [], ◌∷◌, ◌++◌, Ok, ◌&&◌, ◌||◌, ◌==◌, not, codes, filter, length}
 use Rattle.std.specs.List.{slice_split, list_all}
 use Rattle.std.specs.Str.{IsUtf8}
 use Rattle.fx_terms.specs.Iris.{read_iri, is_letter, is_digit}

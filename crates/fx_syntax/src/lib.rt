@@ -7,3 +7,6 @@ pub mod words;
 
 pub use forms::parse;
 pub use words::FirstError;
+
+#[cfg(test)]
+mod tests;

@@ -1,8 +1,4 @@
-use Rattle.std.proofs.Common.{Some, ap, ◌∙◌}
-use Rattle.std.specs.Str.{is_utf8}
-use Rattle.std.proofs.lemmas.Str.{is_utf8-from_IsUtf8}
 use Rattle.fx_syntax.proofs.TextLemmas.{not_utf8}
-use Rattle.fedx.specs.GraphReading.{lines_triples}
 use Rattle.fedx.proofs.GraphLaws.{file_of_lines}
 use Rattle.fedx.proofs.graphs.read_file.Goals as goal
 

@@ -9,8 +9,7 @@ pub returns-clause-reported : goal.returns-clause-reported
 returns-clause-reported g c =
     let read = file_read g.F.Files.content g.F.Files.faults c.args.files.now c.local.new.files in
     let graph = c.args.graph.now in
-    let query = c.args.query.now in
-    (
+    let query = c.args.query.now in (
       refusal_line c.in-Err.refusal graph query,
       subst (λ (s : Status). IsReported (read graph) (read query) s (refusal_line c.in-Err.refusal graph query)) (sym c.status.ensures) (reported (read graph) (read query) c.in-Err.refusal c.in-Err.ensures),
       c.write_refusal.ensures,

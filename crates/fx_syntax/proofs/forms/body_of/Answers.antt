@@ -1,4 +1,4 @@
-use Rattle.std.proofs.Common.{◌≡◌, ◌∙◌, sym}
+use Rattle.std.proofs.Common.{◌∙◌, sym}
 use Rattle.fx_syntax.proofs.ReadingLemmas.{body_turn}
 use Rattle.fx_syntax.proofs.forms.body_of.Goals as goal
 

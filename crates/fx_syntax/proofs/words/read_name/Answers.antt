@@ -1,4 +1,4 @@
-use Rattle.std.proofs.Common.{◌≡◌, Ok, Err, ap}
+use Rattle.std.proofs.Common.{◌≡◌, Err, ap}
 use Rattle.fx_terms.specs.Names.{read_name}
 use Rattle.fx_terms.specs.declared.names.NameError.TheVariants.{BadName}
 use Rattle.fx_syntax.proofs.TextLemmas.{name_is_utf8, name_reads}

@@ -1,4 +1,4 @@
-use Rattle.std.proofs.Common.{◌≡◌, ◌∙◌}
+use Rattle.std.proofs.Common.{◌∙◌}
 use Rattle.fx_syntax.proofs.ReadingLemmas.{words_turn}
 use Rattle.fx_syntax.proofs.words.words_of.Goals as goal
 
