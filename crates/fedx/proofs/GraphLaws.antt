@@ -18,7 +18,7 @@ use Rattle.fx_syntax.specs.Answers.{GivesItems}
 use Rattle.fx_syntax.proofs.WordLaws.{iri_of_is, iri_from}
 use Rattle.fx_syntax.specs.Reading.{iri_of, in_front}
 use Rattle.fx_algebra.proofs.ForcedLemmas.{of_outcome}
-use Rattle.fedx.specs.Graphs.{in_brackets, SpellsTriple, SpellLines, SpellsFile}
+use Rattle.fedx.specs.Graphs.{in_brackets, SpellsTriple, SpellsLines, SpellsFile, OneList}
 use Rattle.fedx.specs.GraphReading.{triple_of, words_triple, line_triple, lines_triples, file_triples}
 
 -- ---- one line
@@ -101,16 +101,16 @@ line_from line t h =
 
 -- ---- all lines
 
-in_turn : (line : List ℕ) (lines : List (List ℕ)) (o : Option Triple) (r : Option (List Triple)) → IfSome o (SpellsTriple line) → IfSome r (SpellLines lines) → IfSome (in_front o r) (SpellLines (line ∷ lines))
+in_turn : (line : List ℕ) (lines : List (List ℕ)) (o : Option Triple) (r : Option (List Triple)) → IfSome o (SpellsTriple line) → IfSome r (SpellsLines lines) → IfSome (in_front o r) (SpellsLines (line ∷ lines))
 in_turn line lines None r h k = tt
 in_turn line lines (Some t) None h k = tt
 in_turn line lines (Some t) (Some ts) h k = inr (t, ts, refl, h, k)
 
-empty_line : (lines : List (List ℕ)) (r : Option (List Triple)) → IfSome r (SpellLines lines) → IfSome r (SpellLines ([] ∷ lines))
+empty_line : (lines : List (List ℕ)) (r : Option (List Triple)) → IfSome r (SpellsLines lines) → IfSome r (SpellsLines ([] ∷ lines))
 empty_line lines None k = tt
 empty_line lines (Some ts) k = inl (refl, k)
 
-lines_are : (lines : List (List ℕ)) → IfSome (lines_triples lines) (SpellLines lines)
+lines_are : (lines : List (List ℕ)) → IfSome (lines_triples lines) (SpellsLines lines)
 lines_are [] = refl
 lines_are ([] ∷ lines) = empty_line lines (lines_triples lines) (lines_are lines)
 lines_are ((b ∷ bs) ∷ lines) = in_turn (b ∷ bs) lines (line_triple (b ∷ bs)) (lines_triples lines) (line_is (b ∷ bs)) (lines_are lines)
@@ -119,7 +119,7 @@ some_line : (line : List ℕ) (lines : List (List ℕ)) (t : Triple) → SpellsT
 some_line [] lines t h = let text = h.text in absurd (cc)
 some_line (b ∷ bs) lines t h = refl
 
-lines_from : (lines : List (List ℕ)) (ts : List Triple) → SpellLines lines ts → lines_triples lines ≡ Some ts
+lines_from : (lines : List (List ℕ)) (ts : List Triple) → SpellsLines lines ts → lines_triples lines ≡ Some ts
 lines_from [] ts h = ap Some (sym h)
 lines_from (line ∷ lines) ts (inl h) = ap (λ l. lines_triples (l ∷ lines)) h.0 ∙ lines_from lines ts h.1
 lines_from (line ∷ lines) ts (inr h) =
@@ -132,7 +132,7 @@ lines_from (line ∷ lines) ts (inr h) =
 pub file_is : (bytes : List ℕ) → IfSome (file_triples bytes) (SpellsFile bytes)
 file_is bytes = pick (is_utf8 bytes) refl
   where
-    moved : IsUtf8 bytes → (o : Option (List Triple)) → IfSome o (SpellLines (slice_split (λ b. b == 10) bytes)) → IfSome o (SpellsFile bytes)
+    moved : IsUtf8 bytes → (o : Option (List Triple)) → IfSome o (SpellsLines (slice_split (λ b. b == 10) bytes)) → IfSome o (SpellsFile bytes)
     moved u None h = tt
     moved u (Some ts) h = record { utf8 = u; lines = h }
 
@@ -142,6 +142,13 @@ file_is bytes = pick (is_utf8 bytes) refl
 
 pub file_from : (bytes : List ℕ) (ts : List Triple) → SpellsFile bytes ts → file_triples bytes ≡ Some ts
 file_from bytes ts h = rw (is_utf8-from_IsUtf8 bytes h.utf8) (lines_from (slice_split (λ b. b == 10) bytes) ts h.lines)
+
+-- both are what the reading gives
+pub one_list_holds : OneList
+one_list_holds bytes ts us h k = same (sym (file_from bytes ts h) ∙ file_from bytes us k)
+  where
+    same : Some ts ≡ Some us → ts ≡ us
+    same e = cc
 
 -- what is read of a file is what it spells
 pub spelled : (bytes : List ℕ) (ts : List Triple) → file_triples bytes ≡ Some ts → SpellsFile bytes ts

@@ -25,13 +25,17 @@ pub record SpellsTriple (line : List ℕ) (t : Triple) : Type 0 where
   pub object_iri : IsIri iri
 
 -- each line is empty, or the next triple
-abbrev pub SpellLines : List (List ℕ) → List Triple → Type 0
-SpellLines [] ts = ts ≡ []
-SpellLines (line ∷ lines) ts =
-    ((line ≡ []) × SpellLines lines ts)
-    ⊎ ((t : Triple) × (rest : List Triple) × (ts ≡ t ∷ rest) × SpellsTriple line t × SpellLines lines rest)
+abbrev pub SpellsLines : List (List ℕ) → List Triple → Type 0
+SpellsLines [] ts = ts ≡ []
+SpellsLines (line ∷ lines) ts =
+    ((line ≡ []) × SpellsLines lines ts)
+    ⊎ ((t : Triple) × (rest : List Triple) × (ts ≡ t ∷ rest) × SpellsTriple line t × SpellsLines lines rest)
 
 -- the bytes are a file of these triples, in this order
 pub record SpellsFile (bytes : List ℕ) (ts : List Triple) : Type 0 where
   pub utf8 : IsUtf8 bytes
-  pub lines : SpellLines (slice_split (λ b. b == 10) bytes) ts
+  pub lines : SpellsLines (slice_split (λ b. b == 10) bytes) ts
+
+-- the law: no bytes are a file of two lists of triples
+abbrev pub OneList : Type 0
+OneList = (bytes : List ℕ) (ts us : List Triple) → SpellsFile bytes ts → SpellsFile bytes us → ts ≡ us

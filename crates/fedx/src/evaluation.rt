@@ -344,8 +344,6 @@ fn with_triple(
     requires { is_some (forced row.now (parts_of pattern.now triple.now)) ≡ true }
     ensures { IfOk result (λ more. forced row.now (parts_of pattern.now triple.now) ≡ Some more) }
 {
-    // Its names rise, so pairs may be merged in as well as put in one after another.
-    let _pairs = row.pairs();
     let more = added(alloc, row, pattern, triple)?;
     row.merge(alloc, &more)
 }

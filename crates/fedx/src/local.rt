@@ -17,7 +17,9 @@ pub fn local<F: Files>(
     graph: &str,
     query: &str,
 ) -> Result<Vec<u8>, Refusal>
-    ensures { GivesAnswer (file_read F.content F.faults files.old files.new graph.now) (file_read F.content F.faults files.old files.new query.now) result }
+    ensures outcome { GivesAnswer (file_read F.content F.faults files.old files.new graph.now) (file_read F.content F.faults files.old files.new query.now) result }
+    ensures kept { (other : List ℕ) → F.faults files.old other ≤ F.faults files.new other }
+    ensures same { (other : List ℕ) → F.content files.new other ≡ F.content files.old other }
 {
     match load_graph(alloc, files, graph) {
         Err(refusal) => Err(Refusal::Graph(refusal)),
@@ -33,6 +35,7 @@ fn answer_over<F: Files>(
 ) -> Result<Vec<u8>, Refusal>
     ensures outcome { GivesDocument graph.now (file_read F.content F.faults files.old files.new query.now) result }
     ensures kept { (other : List ℕ) → F.faults files.old other ≤ F.faults files.new other }
+    ensures same { (other : List ℕ) → F.content files.new other ≡ F.content files.old other }
 {
     match load_query(alloc, files, query) {
         Err(refusal) => Err(Refusal::Query(refusal)),

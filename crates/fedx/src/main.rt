@@ -5,6 +5,7 @@ mod answering;
 mod commands;
 mod evaluation;
 mod graphs;
+mod laws;
 mod limits;
 mod loading;
 mod local;

@@ -1,5 +1,5 @@
 //! The program over files and streams that are handed in.
-ghost use Rattle.std.specs.Prelude.{◌≡◌, IsTrue, List, ℕ, map, string_bytes};
+ghost use Rattle.std.specs.Prelude.{◌≡◌, ◌≤◌, ¬◌, IsTrue, List, ℕ, map, string_bytes};
 ghost use Rattle.fx_outside.specs.Faults.{HasRisen};
 ghost use Rattle.fedx.specs.Commands.{local_files};
 ghost use Rattle.fedx.specs.Local.{file_read, Gains, IsReported, IsWritten, Reports, Writes};
@@ -27,9 +27,13 @@ pub fn run<F: Files, O: Sink, E: Sink>(
     // Each status comes with its cause alone, and with its line on `err`.
     ensures reported { (text : List ℕ) × Reports (file_read F.content F.faults files.old files.new) (local_files (map (λ w. string_bytes w) words.now)) result text × (IsTrue E.tells_held → Gains (E.held err.old) (E.held err.new) (E.write_faults err.old) (E.write_faults err.new) text) }
 
-    // With `Done`, `out` gained exactly the document of the query's answer over the file's graph.
+    // With `Done`, `out` gained exactly the document of the query's answer over the file's graph; with `WriteFault` a front of
+    // it; else nothing.
     ensures written { IsTrue O.tells_held → Writes (file_read F.content F.faults files.old files.new) (local_files (map (λ w. string_bytes w) words.now)) result (O.held out.old) (O.held out.new) }
     ensures write_fault { result ≡ Status.WriteFault → HasRisen (O.write_faults out.old) (O.write_faults out.new) }
+    ensures unfailed { ¬ (result ≡ Status.WriteFault) → O.write_faults out.new ≡ O.write_faults out.old }
+    ensures kept { (name : List ℕ) → F.faults files.old name ≤ F.faults files.new name }
+    ensures same { (name : List ℕ) → F.content files.new name ≡ F.content files.old name }
 {
     match read_command(alloc, words) {
         Err(CommandError::Usage) => {
@@ -55,6 +59,9 @@ fn run_local<F: Files, O: Sink, E: Sink>(
     ensures reported { (text : List ℕ) × IsReported (file_read F.content F.faults files.old files.new graph.now) (file_read F.content F.faults files.old files.new query.now) result text × (IsTrue E.tells_held → Gains (E.held err.old) (E.held err.new) (E.write_faults err.old) (E.write_faults err.new) text) }
     ensures written { IsTrue O.tells_held → IsWritten (file_read F.content F.faults files.old files.new graph.now) (file_read F.content F.faults files.old files.new query.now) result (O.held out.old) (O.held out.new) }
     ensures write_fault { result ≡ Status.WriteFault → HasRisen (O.write_faults out.old) (O.write_faults out.new) }
+    ensures unfailed { ¬ (result ≡ Status.WriteFault) → O.write_faults out.new ≡ O.write_faults out.old }
+    ensures kept { (name : List ℕ) → F.faults files.old name ≤ F.faults files.new name }
+    ensures same { (name : List ℕ) → F.content files.new name ≡ F.content files.old name }
 {
     match local(alloc, files, graph, query) {
         Ok(text) => match write_all(out, text.as_slice()) {

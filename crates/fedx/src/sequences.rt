@@ -25,8 +25,6 @@ fn project(alloc: Global, columns: &[Name], rows: &[Solution]) -> Result<Vec<Sol
 {
     let mut parts = Vec::with_capacity(alloc, rows.len())?;
     for row in rows {
-        // Its names rise, so the order tells projected rows apart.
-        let _pairs = row.pairs();
         parts.push(row.project(alloc, columns)?)?;
     }
     Ok(parts)

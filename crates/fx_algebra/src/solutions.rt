@@ -64,7 +64,8 @@ impl Solution {
     /// The pairs of both, which agree.
     pub fn merge(&self, alloc: Global, other: &Solution) -> Result<Solution, Memory>
         requires { spec.agree self.now other.now ≡ true }
-        ensures { IfOk result (λ both. both ≡ spec.merge self.now other.now) }
+        ensures both { IfOk result (λ both. both ≡ spec.merge self.now other.now) }
+        ensures rises { IsTrue (spec.rises self.now) }
     {
         Ok(Solution {
             pairs: merge_pairs(alloc, self.pairs.as_slice(), other.pairs.as_slice())?,
@@ -83,7 +84,8 @@ impl Solution {
 
     /// The pairs whose names are columns.
     pub fn project(&self, alloc: Global, columns: &[Name]) -> Result<Solution, Memory>
-        ensures { IfOk result (λ part. part ≡ projected columns.now self.now) }
+        ensures part { IfOk result (λ part. part ≡ projected columns.now self.now) }
+        ensures rises { IsTrue (spec.rises self.now) }
     {
         Ok(Solution {
             pairs: kept_pairs(alloc, self.pairs.as_slice(), columns)?,

@@ -39,7 +39,7 @@ pub trait Sink: Ends {
     /// Writes bytes from the front of a piece, and gives their number: at least one where the piece isn't empty.
     ///
     /// `WriteFailed` comes where the write failed. The count of write faults rose in this call then, or stands at the
-    /// end of `u64`, and a sink that tells what it holds, holds the same.
+    /// end of `u64`, and a sink that tells what it holds, holds the same. No other call changes the count.
     fn write(&mut self, piece: &[u8]) -> Result<usize, WriteFailed>
         ensures within { IfOk result (λ n. n ≤ length piece.now) }
         ensures some { 0 < length piece.now → IfOk result (λ n. 0 < n) }
@@ -47,6 +47,7 @@ pub trait Sink: Ends {
         ensures unwritten { IsTrue Self.tells_held → OnErr result (Self.held self.new ≡ Self.held self.old) }
         ensures kept { Self.write_faults self.old ≤ Self.write_faults self.new }
         ensures failed { IsErr result → HasRisen (Self.write_faults self.old) (Self.write_faults self.new) }
+        ensures faultless { IfOk result (λ _. Self.write_faults self.new ≡ Self.write_faults self.old) }
         ensures left { IsTrue Self.tells_left → Self.left self.new ≡ Self.left self.old }
         ensures reads { Self.read_faults self.new ≡ Self.read_faults self.old };
 }

@@ -14,6 +14,7 @@ pub fn write_all<K: Sink>(sink: &mut K, bytes: &[u8]) -> Result<(), WriteFailed>
     ensures front { IsTrue K.tells_held → AppendsFront (K.held sink.old) (K.held sink.new) bytes.now }
     ensures kept { K.write_faults sink.old ≤ K.write_faults sink.new }
     ensures failed { IsErr result → HasRisen (K.write_faults sink.old) (K.write_faults sink.new) }
+    ensures faultless { OnOk result (K.write_faults sink.new ≡ K.write_faults sink.old) }
     ensures left { IsTrue K.tells_left → K.left sink.new ≡ K.left sink.old }
     ensures reads { K.read_faults sink.new ≡ K.read_faults sink.old }
 {

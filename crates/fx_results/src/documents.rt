@@ -82,7 +82,7 @@ fn row_members(alloc: Global, row: &[(Name, Term)]) -> Result<Map<String, Value>
 #[cfg(test)]
 mod tests {
     use super::*;
-    use fx_terms::{Iri, Items};
+    use fx_terms::{Iri, Items, Literal};
     use std::test::Fail;
 
     // The row with one more pair, where its name is unbound.
@@ -109,6 +109,13 @@ mod tests {
         Ok(row)
     }
 
+    // The row that binds x to a literal.
+    fn literal_row(alloc: Global, literal: Literal) -> Result<Solution, Fail> {
+        let name = Name::read(alloc, "x")?;
+        let term = Term::Literal(literal);
+        Ok(with_pair(alloc, &Solution::empty(alloc), &name, &term)?)
+    }
+
     fn table(alloc: Global, names: &[&str], rows: Vec<Solution>) -> Result<Answer, Fail> {
         let mut columns = Vec::new(alloc);
         for name in names {
@@ -127,6 +134,9 @@ mod tests {
         let one = row(alloc, &[("y", "http://e/b")])?;
         let none = row(alloc, &[])?;
         let accented = row(alloc, &[("größe", "http://e/東京")])?;
+        let plain = literal_row(alloc, Literal::plain(alloc, "a \"b\"\n")?)?;
+        let typed = literal_row(alloc, Literal::typed(alloc, "1", &Iri::read(alloc, "t:int")?)?)?;
+        let tagged = literal_row(alloc, Literal::tagged(alloc, "hi", "en-GB")?)?;
         let cases = [
             (
                 table(alloc, &["y", "x"], vec![in alloc; both, one, none]?)?,
@@ -143,6 +153,10 @@ mod tests {
             (
                 table(alloc, &["größe"], vec![in alloc; accented]?)?,
                 r#"{"head":{"vars":["größe"]},"results":{"bindings":[{"größe":{"type":"uri","value":"http://e/東京"}}]}}"#,
+            ),
+            (
+                table(alloc, &["x"], vec![in alloc; plain, typed, tagged]?)?,
+                r#"{"head":{"vars":["x"]},"results":{"bindings":[{"x":{"type":"literal","value":"a \"b\"\n"}},{"x":{"datatype":"t:int","type":"literal","value":"1"}},{"x":{"type":"literal","value":"hi","xml:lang":"en-gb"}}]}}"#,
             ),
             (Answer::Truth(true), r#"{"boolean":true,"head":{}}"#),
             (Answer::Truth(false), r#"{"boolean":false,"head":{}}"#),

@@ -9,7 +9,7 @@ use Rattle.fx_syntax.specs.declared.words.FirstError.{FirstError}
 use Rattle.fx_syntax.specs.declared.words.FirstError.TheVariants.{NotFirst, Memory}
 use Rattle.fx_syntax.specs.Words.{texts_of, AreWords}
 use Rattle.fx_syntax.specs.FirstForm.{SpellsQuery}
-use Rattle.fx_syntax.specs.Accepted.{Accepted}
+use Rattle.fx_syntax.specs.Accepted.{Accepted, OneQuery}
 use Rattle.fx_syntax.specs.Answers.{Gives}
 use Rattle.fx_syntax.specs.Reading.{words_of, query_of, read_query}
 use Rattle.fx_syntax.proofs.WordLaws.{words_are, words_from, if_then}
@@ -28,6 +28,13 @@ read_is_accepted bytes = pick (is_utf8 bytes) refl
 
 pub accepted_is_read : (bytes : List ℕ) (q : Query) → Accepted bytes q → read_query bytes ≡ Some q
 accepted_is_read bytes q h = rw (is_utf8-from_IsUtf8 bytes h.utf8) (rw (words_from (texts_of bytes) h.words h.read) (query_from h.words q h.spelled))
+
+-- both are what the reading gives
+pub one_query_holds : OneQuery
+one_query_holds bytes p q h k = same (sym (accepted_is_read bytes p h) ∙ accepted_is_read bytes q k)
+  where
+    same : Some p ≡ Some q → p ≡ q
+    same e = cc
 
 -- what a reading gives is accepted
 pub found : (bytes : List ℕ) (r : Result Query FirstError) → Gives r (read_query bytes) → IfOk r (Accepted bytes)

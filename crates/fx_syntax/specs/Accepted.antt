@@ -1,5 +1,5 @@
 -- Which texts are which query.
-use Rattle.std.specs.Prelude.{ℕ, List}
+use Rattle.std.specs.Prelude.{◌≡◌, ℕ, List}
 use Rattle.std.specs.Str.{IsUtf8}
 use Rattle.fx_algebra.specs.declared.queries.Query.{Query}
 use Rattle.fx_syntax.specs.declared.words.Word.{Word}
@@ -12,3 +12,7 @@ pub record Accepted (bytes : List ℕ) (q : Query) : Type 0 where
   pub words : List Word
   pub read : AreWords (texts_of bytes) words
   pub spelled : SpellsQuery words q
+
+-- the law: no bytes are accepted as two queries
+abbrev pub OneQuery : Type 0
+OneQuery = (bytes : List ℕ) (p q : Query) → Accepted bytes p → Accepted bytes q → p ≡ q

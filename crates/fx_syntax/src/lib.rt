@@ -3,6 +3,7 @@
 #![tactic(auto)]
 
 mod forms;
+pub mod laws;
 pub mod words;
 
 pub use forms::parse;

@@ -30,7 +30,7 @@ impl Model for Graph {
 }
 
 impl Graph {
-    /// The graph of some triples: exactly these, in order, each once. It sorts them in the place that they stand in.
+    /// The graph of some triples: exactly these, in order, each once.
     pub fn of(triples: Vec<Triple>) -> Result<Graph, Memory>
         ensures graph { IfOk result (IsGraphOf triples.items) }
         ensures exact { IfOk result (λ g. g ≡ graph_of triples.items) }

@@ -18,7 +18,8 @@ impl Term {
     /// The order of terms: IRIs before literals, then by the code points of form, datatype and tag, where an IRI has its
     /// text as form and nothing else. Equal are equal terms alone.
     pub fn compare(&self, other: &Term) -> Ordering
-        ensures { result ≡ term_cmp self.now other.now }
+        ensures order { result ≡ term_cmp self.now other.now }
+        ensures same { result ≡ Ordering.Equal → self.now ≡ other.now }
     {
         self.cmp(other)
     }

@@ -16,5 +16,5 @@ returns c =
     IfOk-weaker {X = Bindings} {Y = Memory} c.merge.result
     (λ both. both ≡ merge row c.in_ok-more.more)
     (λ more. forced row parts ≡ Some more)
-    (λ both e. forced_added row parts c.pairs-pairs.ensures.rises c.requires ∙ ap (λ v. Some (merge row v)) (sym c.in_ok-more.ensures) ∙ ap Some (sym e))
-    c.merge.ensures
+    (λ both e. forced_added row parts c.merge.ensures.rises c.requires ∙ ap (λ v. Some (merge row v)) (sym c.in_ok-more.ensures) ∙ ap Some (sym e))
+    c.merge.ensures.both

@@ -11,6 +11,6 @@ returns-clause-reported g c =
     let graph = c.args.graph.now in
     let query = c.args.query.now in (
       refusal_line c.in-Err.refusal graph query,
-      subst (λ (s : Status). IsReported (read graph) (read query) s (refusal_line c.in-Err.refusal graph query)) (sym c.status.ensures) (reported (read graph) (read query) c.in-Err.refusal c.in-Err.ensures),
+      subst (λ (s : Status). IsReported (read graph) (read query) s (refusal_line c.in-Err.refusal graph query)) (sym c.status.ensures) (reported (read graph) (read query) c.in-Err.refusal c.in-Err.ensures.outcome),
       c.write_refusal.ensures,
     )

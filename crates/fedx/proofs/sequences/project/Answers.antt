@@ -9,5 +9,5 @@ loop-row-preserved c = record {
   projected = grind (arith, common_steps);
   rise =
       All-more (λ s. IsTrue (rises s)) c.args.rows.now c.loop-row.row-index c.row-item.result c.loop-row-test.true c.loop-row.invariant.rise
-      (subst (λ (s : Bindings). IsTrue (rises s)) c.row-item.is c.pairs-pairs.ensures.rises);
+      (subst (λ (s : Bindings). IsTrue (rises s)) c.row-item.is c.in_ok-project.ensures.rises);
 }

@@ -16,7 +16,7 @@ loop-done-preserved g c =
     let len : length tail ≡ length bytes - done = ap (λ (l : List ℕ). length l) rest ∙ length-drop done bytes in
     record {
       within = omega (arith, e.within, len, i.within);
-      kept = omega (arith, i.kept, e.kept);
+      faultless = e.faultless ∙ i.faultless;
       front = λ t.
           e.written t
           ∙ (ap (λ (l : List ℕ). l ++ take n tail) (i.front t)
