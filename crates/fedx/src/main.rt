@@ -16,21 +16,46 @@ mod running;
 mod sequences;
 mod statuses;
 
+use commands::CommandError;
 use fx_outside::{Folder, StdSink};
+use refusals::Refusal;
+use reports::write_refusal;
 use running::run;
+use statuses::Status;
 use std::process::ExitCode;
 use std::{env, io};
 
 fn main(rt: HostRuntime) -> io::Result<ExitCode> {
-    let mut words = Vec::new(rt.alloc());
-    for word in env::args(&rt)?.skip(1) {
-        words.push(word)?;
-    }
     let mut files = Folder::new(rt.alloc(), rt.clone()?);
     let mut out = StdSink::new(rt.stdout());
     let mut err = StdSink::new(rt.stderr());
-    let status = run(rt.alloc(), words.as_slice(), &mut files, &mut out, &mut err);
+    let status = match words(&rt) {
+        Ok(words) => run(rt.alloc(), words.as_slice(), &mut files, &mut out, &mut err),
+        // No command has a word that can't be read, so it is answered as no words are.
+        Err(CommandError::Usage) => run(rt.alloc(), &[], &mut files, &mut out, &mut err),
+        Err(CommandError::Memory) => {
+            write_refusal(&mut err, Refusal::Memory, "", "");
+            Status::NoMemory
+        }
+    };
     Ok(ExitCode::from(status.code()))
+}
+
+// The words behind the program's name. `Usage` comes where one isn't UTF-8.
+fn words(rt: &HostRuntime) -> Result<Vec<String>, CommandError> {
+    let mut words = Vec::new(rt.alloc());
+    match env::args(rt) {
+        Ok(all) => {
+            for word in all.skip(1) {
+                words.push(word)?;
+            }
+            Ok(words)
+        }
+        Err(error) => match error.kind() {
+            io::ErrorKind::OutOfMemory => Err(CommandError::Memory),
+            _ => Err(CommandError::Usage),
+        },
+    }
 }
 
 #[cfg(test)]

@@ -1,5 +1,5 @@
 //! The program over files and streams that are handed in.
-ghost use Rattle.std.specs.Prelude.{◌≡◌, ◌≤◌, ¬◌, IsTrue, List, ℕ, map, string_bytes};
+ghost use Rattle.std.specs.Prelude.{◌≡◌, ◌≤◌, IsTrue, List, ℕ, map, string_bytes};
 ghost use Rattle.fx_outside.specs.Faults.{HasRisen};
 ghost use Rattle.fedx.specs.Commands.{local_files};
 ghost use Rattle.fedx.specs.Local.{file_read, Gains, IsReported, IsWritten, Reports, Writes};

@@ -5,3 +5,4 @@ pub mod MemoryStorage
 pub mod MemoryStreams
 pub mod SystemStreams
 pub mod SystemStorage
+pub mod Endpoints

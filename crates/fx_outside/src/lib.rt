@@ -3,6 +3,7 @@
 //! A call that answers a fault has counted it; the count of a sink may stand at the end of `u64` then.
 #![tactic(auto)]
 
+pub mod endpoints;
 pub mod memory_storage;
 pub mod memory_streams;
 mod name_counts;
@@ -12,6 +13,7 @@ pub mod system_storage;
 pub mod system_streams;
 pub mod writing;
 
+pub use endpoints::Endpoint;
 use fx_terms::shareable;
 pub use memory_storage::MemoryFiles;
 pub use memory_streams::MemorySink;
@@ -24,6 +26,7 @@ pub use writing::write_all;
 /// Every type of this crate may be shared between threads and sent to them; one that holds a runtime or a writer may
 /// where that may.
 pub fn all_shareable<T: Send + Sync>() {
+    shareable::<Endpoint>();
     shareable::<ReadFailed>();
     shareable::<WriteFailed>();
     shareable::<FileError>();

@@ -1,8 +1,9 @@
 //! What the calls answer at given values.
 use crate::{
-    FileError, Files, Folder, MemoryFiles, MemorySink, Sink, StdSink, WriteFailed, write_all,
+    Endpoint, FileError, Files, Folder, MemoryFiles, MemorySink, Sink, StdSink, WriteFailed,
+    write_all,
 };
-use fx_terms::Memory;
+use fx_terms::{Iri, Memory};
 use std::alloc::Global;
 use std::io::{ErrorKind, Write};
 use std::test::Fail;
@@ -151,6 +152,59 @@ fn a_std_sink_hands_on_and_counts(rt: HostRuntime) -> Result<(), Fail> {
     assert_eq!(rt; sink.write(b"ab"), Err(WriteFailed));
     assert_eq!(rt; sink.write(b"ab"), Ok(2));
     Ok(())
+}
+
+#[test]
+fn an_endpoint_is_sendable_by_its_host_and_target(rt: HostRuntime) -> Result<(), Fail> {
+    for (host, target, want) in [
+        ("127.0.0.1", "/sparql", true),
+        ("[::1]", "/a-._~!$&'()*+,;=:@%20/Z9", true),
+        ("h", "/", true),
+        ("", "/", false),
+        ("a b", "/", false),
+        ("h\u{e9}", "/", false),
+        ("h", "", false),
+        ("h", "sparql", false),
+        ("h", "/?query", false),
+        ("h", "/a b", false),
+    ] {
+        let at = endpoint(rt.alloc(), host, target)?;
+        assert_eq!(rt; at.is_sendable(), want, "at {host}{target}");
+    }
+    Ok(())
+}
+
+#[test]
+fn an_endpoint_is_sendable_up_to_its_length(rt: HostRuntime) -> Result<(), Fail> {
+    for (length, want) in [(32_767, true), (32_768, false)] {
+        let mut target = String::from_str(rt.alloc(), "/")?;
+        for _ in 1..length {
+            target.push('a')?;
+        }
+        let at = endpoint(rt.alloc(), "h", target.as_str())?;
+        assert_eq!(rt; at.is_sendable(), want, "at {length}");
+    }
+    Ok(())
+}
+
+#[test]
+fn a_copy_of_an_endpoint_has_its_parts(rt: HostRuntime) -> Result<(), Fail> {
+    let copy = endpoint(rt.alloc(), "h", "/t")?.copy(rt.alloc())?;
+    assert_eq!(rt; copy.name(), "A");
+    assert_eq!(rt; copy.iri().text(), "http://h:8001/t");
+    assert_eq!(rt;
+        (copy.host(), copy.port(), copy.target()),
+        ("h", 8001, "/t")
+    );
+    Ok(())
+}
+
+fn endpoint(alloc: Global, host: &str, target: &str) -> Result<Endpoint, Fail> {
+    let name = String::from_str(alloc, "A")?;
+    let iri = Iri::read(alloc, "http://h:8001/t")?;
+    let host = String::from_str(alloc, host)?;
+    let target = String::from_str(alloc, target)?;
+    Ok(Endpoint::new(name, iri, host, 8001, target))
 }
 
 // A writer whose first writes fail.

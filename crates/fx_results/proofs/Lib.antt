@@ -1,2 +1,7 @@
+pub mod BackLemmas
+pub mod ColumnLemmas
+pub mod DataLemmas
 pub mod Floats
+pub mod ReadingLemmas
 pub mod Rows
+pub mod TextLemmas

@@ -1,1 +1,5 @@
+pub mod Answers
+pub mod Columns
 pub mod Documents
+pub mod Meanings
+pub mod Reading

@@ -1,5 +1,5 @@
 //! The document of an answer.
-ghost use Rattle.std.specs.Prelude.{◌≡◌, IfOk, IsTrue, map};
+ghost use Rattle.std.specs.Prelude.{◌≡◌, IfOk, IsTrue, IsUtf8, map};
 ghost use Rattle.serde_json.specs.Data.{string};
 ghost use Rattle.serde_json.specs.View.{view, members_view};
 ghost use Rattle.fx_algebra.specs.Solutions.{rises};
@@ -18,7 +18,8 @@ use std::alloc::{AllocError, Global};
 ///
 /// The one error is want of memory.
 pub fn write(alloc: Global, answer: &Answer) -> Result<Vec<u8>, Memory>
-    ensures { IfOk result (λ bytes. bytes.items ≡ spec.document answer.now) }
+    ensures document { IfOk result (λ bytes. bytes.items ≡ spec.document answer.now) }
+    ensures utf8 { IfOk result (λ bytes. IsUtf8 bytes.items) }
 {
     let value = answer_value(alloc, answer)?;
     Ok(value.to_vec(alloc)?)
@@ -135,7 +136,10 @@ mod tests {
         let none = row(alloc, &[])?;
         let accented = row(alloc, &[("größe", "http://e/東京")])?;
         let plain = literal_row(alloc, Literal::plain(alloc, "a \"b\"\n")?)?;
-        let typed = literal_row(alloc, Literal::typed(alloc, "1", &Iri::read(alloc, "t:int")?)?)?;
+        let typed = literal_row(
+            alloc,
+            Literal::typed(alloc, "1", &Iri::read(alloc, "t:int")?)?,
+        )?;
         let tagged = literal_row(alloc, Literal::tagged(alloc, "hi", "en-GB")?)?;
         let cases = [
             (

@@ -1,0 +1,5 @@
+mod FieldLemmas
+mod NumberLemmas
+mod ChunkSteps
+pub mod ReplyLaws
+pub mod RequestLaws

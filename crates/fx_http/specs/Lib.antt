@@ -1,0 +1,6 @@
+pub mod Fields
+pub mod Requests
+pub mod Chunks
+pub mod Replies
+pub mod Heads
+pub mod Answers

@@ -1,0 +1,21 @@
+//! HTTP/1.1, as far as the SPARQL 1.1 Protocol's query operation needs it: requests to endpoints, and their replies.
+#![tactic(auto)]
+
+mod chunks;
+mod fields;
+pub mod replies;
+pub mod requests;
+mod slices;
+
+use fx_terms::shareable;
+pub use replies::{Reply, ReplyError, read_reply};
+pub use requests::request_bytes;
+
+/// Every type of this crate may be shared between threads and sent to them.
+pub fn all_shareable() {
+    shareable::<Reply>();
+    shareable::<ReplyError>();
+}
+
+#[cfg(test)]
+mod tests;
