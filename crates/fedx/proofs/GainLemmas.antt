@@ -4,7 +4,7 @@ use Rattle.std.proofs.lemmas.List.{take-append-le, take_all}
 use Rattle.std.proofs.Math.Seq.{take-append-add}
 use Rattle.fx_outside.specs.Faults.{HasRisen}
 use Rattle.fx_outside.specs.Streams.{AppendsFront}
-use Rattle.fedx.specs.Local.{Gains}
+use Rattle.fedx.specs.Lines.{Gains}
 
 -- a count that rose in the later part of a call rose in the call
 risen_before : (before between after : ℕ) → before ≤ between → HasRisen between after → HasRisen before after

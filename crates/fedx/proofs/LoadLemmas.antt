@@ -1,11 +1,46 @@
 -- A refused text is no query.
-use Rattle.std.proofs.Common.{◌≡◌, ◌∙◌, sym, subst, ℕ, ◌≤◌, List, Option, Some, None, length}
+use Rattle.std.proofs.Common.{◌≡◌, ◌∙◌, ap, sym, subst, ℕ, ◌≤◌, List, Option, Some, None, Err, length}
 use Rattle.std.specs.Prelude.{IfSome}
 use Rattle.fx_algebra.specs.declared.queries.Query.{Query}
 use Rattle.fx_syntax.specs.declared.words.FirstError.{FirstError}
 use Rattle.fx_syntax.specs.declared.words.FirstError.TheVariants.{NotFirst, Memory}
 use Rattle.fx_syntax.specs.Accepted.{Accepted}
+use Rattle.fx_terms.specs.declared.triples.Triple.{Triple}
+use Rattle.fx_ntriples.specs.Answers.{Answers}
+use Rattle.fx_ntriples.specs.Forms.{IsDocument}
+use Rattle.fx_ntriples.specs.Reading.{read_document}
+use Rattle.fx_ntriples.specs.declared.faults.NtError.{NtError}
+use Rattle.fx_ntriples.specs.declared.faults.NtError.TheVariants as error
+use Rattle.fedx.specs.declared.limits.TheConstants.{GRAPH_LIMIT}
+use Rattle.fedx.specs.declared.refusals.GraphRefusal.TheVariants as graph
+use Rattle.fedx.specs.Files.{FileRead, IsNoGraph}
+use Rattle.fedx.specs.LocalSteps.{GivesGraph}
 
 pub no_query : (content : Option (List ℕ)) (limit : ℕ) (bytes text : List ℕ) (e : FirstError) → IfSome content (λ all. (bytes ≡ all) × (length all ≤ limit)) → text ≡ bytes → e ≡ NotFirst → ((q : Query) → Accepted text q → e ≡ Memory) → IfSome content (λ all. (length all ≤ limit) × ((q : Query) → Accepted all q → ⊥))
 no_query None limit bytes text e h s is only = tt
 no_query (Some all) limit bytes text e h s is only = (h.1, λ q a. let clash : NotFirst ≡ Memory = sym is ∙ only q (subst (λ (t : List ℕ). Accepted t q) (sym (s ∙ h.0)) a) in cc)
+
+-- a text that is refused as a document
+pub no_graph : (f : FileRead) (bytes text : List ℕ) (e : NtError) → IfSome f.content (λ all. (bytes ≡ all) × (length all ≤ GRAPH_LIMIT)) → text ≡ bytes → Answers {X = List Triple} (Err e) (read_document text) → GivesGraph f (Err (graph.Refused e))
+no_graph f bytes text e h same k = by_error e k
+  where
+    told : (e : NtError) → read_document text ≡ Err e → IsNoGraph f e
+    told e k = pick f.content h
+      where
+        pick : (o : Option (List ℕ)) → IfSome o (λ all. (bytes ≡ all) × (length all ≤ GRAPH_LIMIT)) → IfSome o (λ all. (length all ≤ GRAPH_LIMIT) × (read_document all ≡ Err e))
+        pick None h = tt
+        pick (Some all) h = (h.1, ap read_document (sym (same ∙ h.0)) ∙ k)
+
+    by_error : (e : NtError) → Answers {X = List Triple} (Err e) (read_document text) → GivesGraph f (Err (graph.Refused e))
+    by_error (error.BadUtf8 at) k = told (error.BadUtf8 at) k
+    by_error (error.Bad l c) k = told (error.Bad l c) k
+    by_error (error.Blank l c) k = told (error.Blank l c) k
+    by_error (error.Relative l c) k = told (error.Relative l c) k
+    by_error error.Memory k = tt
+
+pub some_graph : (f : FileRead) (bytes text : List ℕ) (g : List Triple) → IfSome f.content (λ all. (bytes ≡ all) × (length all ≤ GRAPH_LIMIT)) → text ≡ bytes → IsDocument text g → IfSome f.content (λ all. (length all ≤ GRAPH_LIMIT) × IsDocument all g)
+some_graph f bytes text g h same k = pick f.content h
+  where
+    pick : (o : Option (List ℕ)) → IfSome o (λ all. (bytes ≡ all) × (length all ≤ GRAPH_LIMIT)) → IfSome o (λ all. (length all ≤ GRAPH_LIMIT) × IsDocument all g)
+    pick None h = tt
+    pick (Some all) h = (h.1, subst (λ (v : List ℕ). IsDocument v g) (same ∙ h.0) k)

@@ -6,12 +6,15 @@ use Rattle.std.specs.declared.vec.Vec.{Vec}
 use Rattle.std.specs.declared.alloc.Global.{Global}
 use Rattle.fx_syntax.specs.Reading.{in_front}
 use Rattle.fedx.specs.declared.commands.Command.{Command}
-use Rattle.fedx.specs.declared.commands.Command.TheVariants.{Local}
+use Rattle.fedx.specs.declared.commands.Command.TheVariants.{Local, Query}
 use Rattle.fedx.specs.declared.commands.CommandError.{CommandError}
 use Rattle.fedx.specs.declared.commands.CommandError.TheVariants.{Usage, Memory}
 
 abbrev pub local_word : List ℕ
 local_word = codes "local"
+
+abbrev pub query_word : List ℕ
+query_word = codes "query"
 
 abbrev pub end_of_options : List ℕ
 end_of_options = codes "--"
@@ -27,25 +30,48 @@ abbrev pub positionals : List (List ℕ) → Option (List (List ℕ))
 positionals [] = Some []
 positionals (w ∷ ws) = if bytes_eq w end_of_options then Some ws else if is_option w then None else in_front (Some w) (positionals ws)
 
--- the files of `local`: that of the graph, and that of the query
+-- what a command is asked to do: to answer the query of a file over the graph of a file, or over the members of a registry
+pub data Asked : Type 0 where
+  over_file : List ℕ → List ℕ → Asked
+  over_members : List ℕ → List ℕ → Asked
+
+-- two files
 abbrev pub two_files : List (List ℕ) → Option (List ℕ × List ℕ)
 two_files [] = None
 two_files (g ∷ []) = None
 two_files (g ∷ q ∷ []) = Some (g, q)
 two_files (g ∷ q ∷ w ∷ ws) = None
 
--- the files of `local`, where the words are that command
-abbrev pub local_files : List (List ℕ) → Option (List ℕ × List ℕ)
-local_files [] = None
-local_files (c ∷ ws) = if bytes_eq c local_word then option_and_then two_files (positionals ws) else None
+-- a command that has two files
+abbrev pub of_files : (List ℕ → List ℕ → Asked) → Option (List ℕ × List ℕ) → Option Asked
+of_files make None = None
+of_files make (Some p) = Some (make p.0 p.1)
+
+-- what the words ask for, where they are a command that is built
+abbrev pub asked : List (List ℕ) → Option Asked
+asked [] = None
+asked (c ∷ ws) =
+    if bytes_eq c local_word then of_files over_file (option_and_then two_files (positionals ws))
+    else if bytes_eq c query_word then of_files over_members (option_and_then two_files (positionals ws))
+    else None
 
 -- ---- answers, where want of memory alone is free
 
+abbrev pub asked_by : Command → Asked
+asked_by (Local g q) = over_file g.now q.now
+asked_by (Query r q) = over_members r.now q.now
+
 -- unless memory ran out, the answer is the command that the words are
-abbrev pub GivesCommand : Result Command CommandError → Option (List ℕ × List ℕ) → Type 0
-GivesCommand (Ok (Local g q)) wanted = wanted ≡ Some (g.now, q.now)
+abbrev pub GivesCommand : Result Command CommandError → Option Asked → Type 0
+GivesCommand (Ok command) wanted = wanted ≡ Some (asked_by command)
 GivesCommand (Err Usage) wanted = wanted ≡ None
 GivesCommand (Err Memory) wanted = Unit {0}
+
+-- unless memory ran out, the answer is the two files that the words are
+abbrev pub GivesFiles : Result (Bor (List ℕ) × Bor (List ℕ)) CommandError → Option (List ℕ × List ℕ) → Type 0
+GivesFiles (Ok p) wanted = wanted ≡ Some (p.0.now, p.1.now)
+GivesFiles (Err Usage) wanted = wanted ≡ None
+GivesFiles (Err Memory) wanted = Unit {0}
 
 abbrev pub texts : List (Bor (List ℕ)) → List (List ℕ)
 texts words = map (λ w. w.now) words

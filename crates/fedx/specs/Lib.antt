@@ -1,10 +1,11 @@
 pub mod Commands
-pub mod GraphReading
-pub mod Graphs
+pub mod FedRefusals
+pub mod Files
+pub mod Lines
 pub mod Local
 pub mod LocalSteps
-pub mod Lookups
-pub mod Objects
-pub mod PlainQueries
+pub mod Query
+pub mod QuerySteps
 pub mod RefusalStatuses
+pub mod Runs
 pub mod Statuses

@@ -1,5 +1,5 @@
 //! Command lines.
-ghost use Rattle.std.specs.Prelude.{◌≡◌, ◌∷◌, ℕ, List, None, IfOk, IsErrOf, map, string_bytes};
+ghost use Rattle.std.specs.Prelude.{◌≡◌, ◌∷◌, ℕ, List, None, IfOk, IsErrOf, map, option_and_then, string_bytes};
 ghost use Rattle.std.specs.Str.{bytes_eq};
 ghost use Rattle.fx_syntax.specs.Reading.{behind};
 ghost use Rattle.fedx.specs.Commands as spec;
@@ -11,6 +11,8 @@ use std::alloc::{AllocFailed, Global};
 pub enum Command<'a> {
     /// Answers the query of a file over the graph of a file.
     Local { graph: &'a str, query: &'a str },
+    /// Answers the query of a file over the members of the registry of a file.
+    Query { registry: &'a str, query: &'a str },
 }
 
 /// Why words are no command.
@@ -34,17 +36,33 @@ impl<T: Drop> From<AllocFailed<T>> for CommandError {
 }
 
 /// The command that the words after the program's name are. The first is the command's own. Behind `--` every word is a
-/// positional; before it a word that begins with `-` and is longer than that is an option, and `local` has none.
+/// positional; before it a word that begins with `-` and is longer than that is an option, and no command has one.
 pub fn read_command(alloc: Global, words: &[String]) -> Result<Command<'_>, CommandError>
-    ensures { spec.GivesCommand result (spec.local_files (map (λ w. string_bytes w) words.now)) }
+    ensures { spec.GivesCommand result (spec.asked (map (λ w. string_bytes w) words.now)) }
 {
     let Some((command, rest)) = words.split_first() else {
         return Err(CommandError::Usage);
     };
-    if !is_local(command.as_str()) {
-        return Err(CommandError::Usage);
+    if is_local(command.as_str()) {
+        return match files_of(alloc, rest) {
+            Ok((graph, query)) => Ok(Command::Local { graph, query }),
+            Err(error) => Err(error),
+        };
     }
-    let files = positionals(alloc, rest)?;
+    if is_query(command.as_str()) {
+        return match files_of(alloc, rest) {
+            Ok((registry, query)) => Ok(Command::Query { registry, query }),
+            Err(error) => Err(error),
+        };
+    }
+    Err(CommandError::Usage)
+}
+
+// The two files that words name.
+fn files_of(alloc: Global, words: &[String]) -> Result<(&str, &str), CommandError>
+    ensures { spec.GivesFiles result (option_and_then spec.two_files (spec.positionals (map (λ w. string_bytes w) words.now))) }
+{
+    let files = positionals(alloc, words)?;
     two_files(files.as_slice())
 }
 
@@ -54,19 +72,25 @@ fn is_local(word: &str) -> bool
     word == "local"
 }
 
-fn two_files<'a>(words: &[&'a str]) -> Result<Command<'a>, CommandError>
-    ensures { spec.GivesCommand result (spec.two_files (spec.texts words.now)) }
+fn is_query(word: &str) -> bool
+    ensures { result ≡ bytes_eq word.now (spec.query_word) }
 {
-    let Some((graph, rest)) = words.split_first() else {
+    word == "query"
+}
+
+fn two_files<'a>(words: &[&'a str]) -> Result<(&'a str, &'a str), CommandError>
+    ensures { spec.GivesFiles result (spec.two_files (spec.texts words.now)) }
+{
+    let Some((first, rest)) = words.split_first() else {
         return Err(CommandError::Usage);
     };
-    let Some((query, rest)) = rest.split_first() else {
+    let Some((second, rest)) = rest.split_first() else {
         return Err(CommandError::Usage);
     };
     if let Some(_) = rest.split_first() {
         return Err(CommandError::Usage);
     }
-    Ok(Command::Local { graph, query })
+    Ok((first, second))
 }
 
 fn positionals(alloc: Global, words: &[String]) -> Result<Vec<&str>, CommandError>

@@ -1,30 +1,35 @@
 //! Files, and the graph and the query that they hold.
 ghost use Rattle.std.specs.Prelude.{◌≡◌, ◌≤◌, ℕ, List, IfOk};
-ghost use Rattle.fedx.specs.Local.{file_read};
-ghost use Rattle.fedx.specs.PlainQueries.{IsPlain};
+ghost use Rattle.fedx.specs.Files.{file_read};
+ghost use Rattle.fx_syntax.specs.Accepted.{IsSpellable};
+ghost use Rattle.fx_syntax.specs.FirstForm.{IsPlain};
 ghost use Rattle.fedx.specs.LocalSteps.{GivesFile, GivesGraph, GivesQuery};
+ghost use Rattle.fedx.specs.QuerySteps.{GivesRegistry};
 
-use crate::graphs::read_graph;
-use crate::limits::{GRAPH_LIMIT, QUERY_LIMIT};
-use crate::refusals::FileRefusal;
+use crate::limits::{GRAPH_LIMIT, QUERY_LIMIT, REGISTRY_LIMIT};
+use crate::refusals::{FileRefusal, GraphRefusal, RegistryRefusal};
 use fx_algebra::Query;
+use fx_ntriples::read_graph;
 use fx_outside::{FileError, Files};
+use fx_sources::Registry;
 use fx_syntax::{FirstError, parse};
 use fx_terms::Graph;
 use std::alloc::Global;
 
 /// The graph of a file.
-pub fn load_graph<F: Files>(alloc: Global, files: &mut F, name: &str) -> Result<Graph, FileRefusal>
+pub fn load_graph<F: Files>(alloc: Global, files: &mut F, name: &str) -> Result<Graph, GraphRefusal>
     ensures outcome { GivesGraph (file_read F.content F.faults files.old files.new name.now) result }
     ensures kept { (other : List ℕ) → F.faults files.old other ≤ F.faults files.new other }
     ensures same { (other : List ℕ) → F.content files.new other ≡ F.content files.old other }
 {
     match load(alloc, files, name, GRAPH_LIMIT) {
-        Err(refusal) => Err(refusal),
+        Err(FileRefusal::Fault) => Err(GraphRefusal::Fault),
+        Err(FileRefusal::TooLong) => Err(GraphRefusal::TooLong),
+        Err(FileRefusal::NotFirst) => unreachable!(),
+        Err(FileRefusal::Memory) => Err(GraphRefusal::Memory),
         Ok(bytes) => match read_graph(alloc, bytes.as_slice()) {
             Ok(graph) => Ok(graph),
-            Err(FirstError::NotFirst) => Err(FileRefusal::NotFirst),
-            Err(FirstError::Memory) => Err(FileRefusal::Memory),
+            Err(error) => Err(GraphRefusal::Refused(error)),
         },
     }
 }
@@ -33,6 +38,7 @@ pub fn load_graph<F: Files>(alloc: Global, files: &mut F, name: &str) -> Result<
 pub fn load_query<F: Files>(alloc: Global, files: &mut F, name: &str) -> Result<Query, FileRefusal>
     ensures outcome { GivesQuery (file_read F.content F.faults files.old files.new name.now) result }
     ensures plain { IfOk result IsPlain }
+    ensures spellable { IfOk result IsSpellable }
     ensures kept { (other : List ℕ) → F.faults files.old other ≤ F.faults files.new other }
     ensures same { (other : List ℕ) → F.content files.new other ≡ F.content files.old other }
 {
@@ -42,6 +48,28 @@ pub fn load_query<F: Files>(alloc: Global, files: &mut F, name: &str) -> Result<
             Ok(query) => Ok(query),
             Err(FirstError::NotFirst) => Err(FileRefusal::NotFirst),
             Err(FirstError::Memory) => Err(FileRefusal::Memory),
+        },
+    }
+}
+
+/// The registry of a file.
+pub fn load_registry<F: Files>(
+    alloc: Global,
+    files: &mut F,
+    name: &str,
+) -> Result<Registry, RegistryRefusal>
+    ensures outcome { GivesRegistry (file_read F.content F.faults files.old files.new name.now) result }
+    ensures kept { (other : List ℕ) → F.faults files.old other ≤ F.faults files.new other }
+    ensures same { (other : List ℕ) → F.content files.new other ≡ F.content files.old other }
+{
+    match load(alloc, files, name, REGISTRY_LIMIT) {
+        Err(FileRefusal::Fault) => Err(RegistryRefusal::Fault),
+        Err(FileRefusal::TooLong) => Err(RegistryRefusal::TooLong),
+        Err(FileRefusal::NotFirst) => unreachable!(),
+        Err(FileRefusal::Memory) => Err(RegistryRefusal::Memory),
+        Ok(bytes) => match Registry::read(alloc, bytes.as_slice()) {
+            Ok(registry) => Ok(registry),
+            Err(error) => Err(RegistryRefusal::Refused(error)),
         },
     }
 }

@@ -1,13 +1,18 @@
 //! The command `local`.
-ghost use Rattle.std.specs.Prelude.{◌≡◌, ◌≤◌, ℕ, List};
-ghost use Rattle.fedx.specs.Local.{file_read};
+ghost use Rattle.std.specs.Prelude.{◌≡◌, ◌≤◌, ℕ, List, IfOk};
+ghost use Rattle.fx_algebra.specs.Answers.{answer as answer_of};
+ghost use Rattle.fx_results.specs.Documents.{document as document_of};
+ghost use Rattle.fx_syntax.specs.FirstForm.{IsPlain};
+ghost use Rattle.fedx.specs.Files.{file_read};
 ghost use Rattle.fedx.specs.LocalSteps.{GivesAnswer, GivesDocument};
 
-use crate::answering::document;
 use crate::loading::{load_graph, load_query};
 use crate::refusals::Refusal;
+use fx_algebra::Query;
+use fx_member::answer;
 use fx_outside::Files;
-use fx_terms::Graph;
+use fx_results::write;
+use fx_terms::{Graph, Memory};
 use std::alloc::Global;
 
 /// The document of the answer that the one file's query has over the graph of the other. The graph's file is read first.
@@ -44,4 +49,13 @@ fn answer_over<F: Files>(
             Err(_) => Err(Refusal::Memory),
         },
     }
+}
+
+// The document of a query's answer over a graph.
+fn document(alloc: Global, graph: &Graph, query: &Query) -> Result<Vec<u8>, Memory>
+    requires { IsPlain query.now }
+    ensures { IfOk result (λ text. text.items ≡ document_of (answer_of query.now graph.now)) }
+{
+    let answer = answer(alloc, graph, query)?;
+    write(alloc, &answer)
 }

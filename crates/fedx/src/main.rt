@@ -1,23 +1,19 @@
-//! `fedx`: answers a SPARQL query over a file of triples.
+//! `fedx`: answers a SPARQL query over a file of triples, or over several endpoints as if their graphs were one.
 #![tactic(auto)]
 
-mod answering;
 mod commands;
-mod evaluation;
-mod graphs;
-mod laws;
+mod federated;
 mod limits;
 mod loading;
 mod local;
-mod objects;
 mod refusals;
 mod reports;
 mod running;
-mod sequences;
 mod statuses;
 
 use commands::CommandError;
 use fx_outside::{Folder, StdSink};
+use fx_wire::TcpWire;
 use refusals::Refusal;
 use reports::write_refusal;
 use running::run;
@@ -27,12 +23,27 @@ use std::{env, io};
 
 fn main(rt: HostRuntime) -> io::Result<ExitCode> {
     let mut files = Folder::new(rt.alloc(), rt.clone()?);
+    let mut wires = [TcpWire::new(rt.alloc(), rt.clone()?)];
     let mut out = StdSink::new(rt.stdout());
     let mut err = StdSink::new(rt.stderr());
     let status = match words(&rt) {
-        Ok(words) => run(rt.alloc(), words.as_slice(), &mut files, &mut out, &mut err),
+        Ok(words) => run(
+            rt.alloc(),
+            words.as_slice(),
+            &mut files,
+            &mut wires,
+            &mut out,
+            &mut err,
+        ),
         // No command has a word that can't be read, so it is answered as no words are.
-        Err(CommandError::Usage) => run(rt.alloc(), &[], &mut files, &mut out, &mut err),
+        Err(CommandError::Usage) => run(
+            rt.alloc(),
+            &[],
+            &mut files,
+            &mut wires,
+            &mut out,
+            &mut err,
+        ),
         Err(CommandError::Memory) => {
             write_refusal(&mut err, Refusal::Memory, "", "");
             Status::NoMemory

@@ -1,10 +1,17 @@
 //! Lines on standard error.
-ghost use Rattle.std.specs.Prelude.{◌≡◌, ◌++◌, ◌≤◌, ℕ, [], IsTrue, IsOk, length};
-ghost use Rattle.fedx.specs.Local.{Gains, usage_line};
+ghost use Rattle.std.specs.Prelude.{◌≡◌, ◌++◌, ◌≤◌, ℕ, [], codes, IsTrue, IsOk, length};
+ghost use Rattle.std.specs.Fmt.{decimal};
+ghost use Rattle.fedx.specs.FedRefusals.{fed_line, name_at};
+ghost use Rattle.fedx.specs.Lines.{Gains, graph_refused, line, place, registry_refused, request_too_long, usage_line};
 ghost use Rattle.fedx.specs.LocalSteps.{refusal_line, graph_line, query_line};
+ghost use Rattle.fedx.specs.QuerySteps.{registry_line};
 
-use crate::refusals::{FileRefusal, Refusal};
-use fx_outside::{Sink, write_all};
+use crate::refusals::{FileRefusal, GraphRefusal, Refusal, RegistryRefusal};
+use fx_engine::FedError;
+use fx_ntriples::NtError;
+use fx_outside::{Endpoint, Sink, write_all};
+use fx_sources::RegistryError;
+use itoa::Buffer;
 
 /// Writes the usage line.
 pub fn write_usage<E: Sink>(err: &mut E)
@@ -27,23 +34,44 @@ pub fn write_refusal<E: Sink>(err: &mut E, refusal: Refusal, graph: &str, query:
     }
 }
 
-fn write_graph_refusal<E: Sink>(err: &mut E, refusal: FileRefusal, name: &str)
+fn write_graph_refusal<E: Sink>(err: &mut E, refusal: GraphRefusal, name: &str)
     ensures { IsTrue E.tells_held → Gains (E.held err.old) (E.held err.new) (E.write_faults err.old) (E.write_faults err.new) (graph_line refusal name.now) }
 {
     match refusal {
-        FileRefusal::Fault => write_named(err, b"cannot read ", name, b"\n"),
-        FileRefusal::TooLong => write_named(
+        GraphRefusal::Fault => write_named(err, b"cannot read ", name, b"\n"),
+        GraphRefusal::TooLong => write_named(
             err,
             b"file ",
             name,
             b" has more than 134217728 bytes\n",
         ),
-        FileRefusal::NotFirst => write_line(err, b"graph refused: NotFirst\n"),
-        FileRefusal::Memory => write_line(err, b"no memory\n"),
+        GraphRefusal::Refused(error) => write_graph_error(err, error),
+        GraphRefusal::Memory => write_line(err, b"no memory\n"),
     }
 }
 
-fn write_query_refusal<E: Sink>(err: &mut E, refusal: FileRefusal, name: &str)
+fn write_graph_error<E: Sink>(err: &mut E, error: NtError)
+    ensures { IsTrue E.tells_held → Gains (E.held err.old) (E.held err.new) (E.write_faults err.old) (E.write_faults err.new) (graph_refused error) }
+{
+    match error {
+        NtError::BadUtf8 { place } => {
+            write_number(err, b"graph refused: BadUtf8 at byte ", place, b"\n")
+        }
+        NtError::Bad { line, column } => {
+            write_place(err, b"graph refused: Bad at ", line, column)
+        }
+        NtError::Blank { line, column } => {
+            write_place(err, b"graph refused: Blank at ", line, column)
+        }
+        NtError::Relative { line, column } => {
+            write_place(err, b"graph refused: Relative at ", line, column)
+        }
+        NtError::Memory => write_line(err, b"no memory\n"),
+    }
+}
+
+/// Writes the line of a refusal of the query's file, where it has this name.
+pub fn write_query_refusal<E: Sink>(err: &mut E, refusal: FileRefusal, name: &str)
     ensures { IsTrue E.tells_held → Gains (E.held err.old) (E.held err.new) (E.write_faults err.old) (E.write_faults err.new) (query_line refusal name.now) }
 {
     match refusal {
@@ -52,6 +80,111 @@ fn write_query_refusal<E: Sink>(err: &mut E, refusal: FileRefusal, name: &str)
         FileRefusal::NotFirst => write_line(err, b"query refused: NotFirst\n"),
         FileRefusal::Memory => write_line(err, b"no memory\n"),
     }
+}
+
+/// Writes the line of a refusal of the registry's file, where it has this name.
+pub fn write_registry_refusal<E: Sink>(err: &mut E, refusal: RegistryRefusal, name: &str)
+    ensures { IsTrue E.tells_held → Gains (E.held err.old) (E.held err.new) (E.write_faults err.old) (E.write_faults err.new) (registry_line refusal name.now) }
+{
+    match refusal {
+        RegistryRefusal::Fault => write_named(err, b"cannot read ", name, b"\n"),
+        RegistryRefusal::TooLong => {
+            write_named(err, b"file ", name, b" has more than 1048576 bytes\n")
+        }
+        RegistryRefusal::Refused(error) => write_registry_error(err, error),
+        RegistryRefusal::Memory => write_line(err, b"no memory\n"),
+    }
+}
+
+fn write_registry_error<E: Sink>(err: &mut E, error: RegistryError)
+    ensures { IsTrue E.tells_held → Gains (E.held err.old) (E.held err.new) (E.write_faults err.old) (E.write_faults err.new) (registry_refused error) }
+{
+    match error {
+        RegistryError::Bad { line } => {
+            write_number(err, b"registry refused: Bad at line ", line, b"\n")
+        }
+        RegistryError::TooMany { line } => {
+            write_number(err, b"registry refused: TooMany at line ", line, b"\n")
+        }
+        RegistryError::RepeatedName { line } => {
+            write_number(err, b"registry refused: RepeatedName at line ", line, b"\n")
+        }
+        RegistryError::RepeatedUrl { line } => {
+            write_number(err, b"registry refused: RepeatedUrl at line ", line, b"\n")
+        }
+        RegistryError::Memory => write_line(err, b"no memory\n"),
+    }
+}
+
+/// Writes the line of a refusal by the members.
+pub fn write_fed_error<E: Sink>(err: &mut E, endpoints: &[Endpoint], error: FedError)
+    ensures { IsTrue E.tells_held → Gains (E.held err.old) (E.held err.new) (E.write_faults err.old) (E.write_faults err.new) (fed_line endpoints.now error) }
+{
+    match error {
+        FedError::Member { at } => {
+            write_named(err, b"member ", name_at(endpoints, at), b" failed\n")
+        }
+        FedError::BadReply { at } => write_named(
+            err,
+            b"bad reply from ",
+            name_at(endpoints, at),
+            b": NotFirst\n",
+        ),
+        FedError::RequestTooLong { at, length } => {
+            write_request_too_long(err, name_at(endpoints, at), length)
+        }
+        FedError::Memory => write_line(err, b"no memory\n"),
+    }
+}
+
+// The name of an endpoint, by its number.
+fn name_at(endpoints: &[Endpoint], at: usize) -> &str
+    ensures { result.now ≡ name_at endpoints.now at }
+{
+    match endpoints.get(at) {
+        Some(endpoint) => endpoint.name(),
+        None => "",
+    }
+}
+
+fn write_request_too_long<E: Sink>(err: &mut E, name: &str, length: u64)
+    ensures { IsTrue E.tells_held → Gains (E.held err.old) (E.held err.new) (E.write_faults err.old) (E.write_faults err.new) (request_too_long name.now length) }
+{
+    if let Ok(()) = write_all(err, b"request for ") {
+        write_name_and_length(err, name, length);
+    }
+}
+
+fn write_name_and_length<E: Sink>(err: &mut E, name: &str, length: u64)
+    ensures { IsTrue E.tells_held → Gains (E.held err.old) (E.held err.new) (E.write_faults err.old) (E.write_faults err.new) (name.now ++ (codes " has " ++ (decimal length ++ line (codes " bytes")))) }
+{
+    if let Ok(()) = write_all(err, name.as_bytes()) {
+        write_number(err, b" has ", length, b" bytes\n");
+    }
+}
+
+fn write_place<E: Sink>(err: &mut E, before: &[u8], line: u64, column: u64)
+    ensures { IsTrue E.tells_held → Gains (E.held err.old) (E.held err.new) (E.write_faults err.old) (E.write_faults err.new) (before.now ++ place line column) }
+{
+    if let Ok(()) = write_all(err, before) {
+        write_line_and_column(err, line, column);
+    }
+}
+
+fn write_line_and_column<E: Sink>(err: &mut E, line: u64, column: u64)
+    ensures { IsTrue E.tells_held → Gains (E.held err.old) (E.held err.new) (E.write_faults err.old) (E.write_faults err.new) (place line column) }
+{
+    let mut buffer = Buffer::new();
+    if let Ok(()) = write_all(err, buffer.format(line).as_bytes()) {
+        write_number(err, b":", column, b"\n");
+    }
+}
+
+fn write_number<E: Sink>(err: &mut E, before: &[u8], number: u64, after: &[u8])
+    ensures { IsTrue E.tells_held → Gains (E.held err.old) (E.held err.new) (E.write_faults err.old) (E.write_faults err.new) (before.now ++ (decimal number ++ after.now)) }
+{
+    let mut buffer = Buffer::new();
+    write_named(err, before, buffer.format(number), after);
 }
 
 // A fault of standard error leaves the status as it is, so it is not handed on.

@@ -1,35 +1,45 @@
-//! The program over files and streams that are handed in.
-ghost use Rattle.std.specs.Prelude.{◌≡◌, ◌≤◌, IsTrue, List, ℕ, map, string_bytes};
+//! The program over files, wires and streams that are handed in.
+ghost use Rattle.std.specs.Prelude.{◌≡◌, ◌≤◌, ◌<◌, IsTrue, List, ℕ, length, map, string_bytes};
 ghost use Rattle.fx_outside.specs.Faults.{HasRisen};
-ghost use Rattle.fedx.specs.Commands.{local_files};
-ghost use Rattle.fedx.specs.Local.{file_read, Gains, IsReported, IsWritten, Reports, Writes};
+ghost use Rattle.fx_wire.specs.Exchanges.{IsAfter, seen};
+ghost use Rattle.fedx.specs.Commands.{asked};
+ghost use Rattle.fedx.specs.Files.{file_read};
+ghost use Rattle.fedx.specs.Lines.{Gains};
+ghost use Rattle.fedx.specs.Local.{IsReported, IsWritten};
+ghost use Rattle.fedx.specs.Runs.{OnFirst, Reports, Writes};
 
 use crate::commands::{Command, CommandError, read_command};
+use crate::federated::run_query;
 use crate::local::local;
 use crate::refusals::Refusal;
 use crate::reports::{write_refusal, write_usage};
 use crate::statuses::Status;
 use fx_outside::{Files, Sink, write_all};
+use fx_wire::Wire;
 use std::alloc::Global;
 
-/// Runs the command that the words behind the program's name are, over these files. It writes the command's document on
-/// `out`, and the line of any other end on `err`.
+/// Runs the command that the words behind the program's name are, over these files and, of the wires, the first. It writes the
+/// command's document on `out`, and the line of any other end on `err`.
 ///
 /// The document is whole before its first byte is written, so that on every status but `Done` and `WriteFault` nothing is
 /// written on `out`, and with `WriteFault` a front of the document. A fault of `err` leaves the status as it is.
-pub fn run<F: Files, O: Sink, E: Sink>(
+pub fn run<F: Files, W: Wire, O: Sink, E: Sink>(
     alloc: Global,
     words: &[String],
     files: &mut F,
+    wires: &mut [W],
     out: &mut O,
     err: &mut E,
 ) -> Status
-    // Each status comes with its cause alone, and with its line on `err`.
-    ensures reported { (text : List ℕ) × Reports (file_read F.content F.faults files.old files.new) (local_files (map (λ w. string_bytes w) words.now)) result text × (IsTrue E.tells_held → Gains (E.held err.old) (E.held err.new) (E.write_faults err.old) (E.write_faults err.new) text) }
+    requires { 0 < length wires.old }
 
-    // With `Done`, `out` gained exactly the document of the query's answer over the file's graph; with `WriteFault` a front of
-    // it; else nothing.
-    ensures written { IsTrue O.tells_held → Writes (file_read F.content F.faults files.old files.new) (local_files (map (λ w. string_bytes w) words.now)) result (O.held out.old) (O.held out.new) }
+    // Each status comes with its cause alone, and with its line on `err`.
+    ensures reported { OnFirst wires.old wires.new (λ wire later. (text : List ℕ) × Reports (file_read F.content F.faults files.old files.new) (seen W.tells_log W.log W.graph W.faults wire) (seen W.tells_log W.log W.graph W.faults later) (asked (map (λ w. string_bytes w) words.now)) result text × (IsTrue E.tells_held → Gains (E.held err.old) (E.held err.new) (E.write_faults err.old) (E.write_faults err.new) text)) }
+
+    // With `Done`, `out` gained exactly the document of the query's answer: over the file's graph, or over the union of the
+    // members' graphs; with `WriteFault` a front of it; else nothing.
+    ensures written { OnFirst wires.old wires.new (λ wire _. IsTrue O.tells_held → Writes (file_read F.content F.faults files.old files.new) (seen W.tells_log W.log W.graph W.faults wire) (asked (map (λ w. string_bytes w) words.now)) result (O.held out.old) (O.held out.new)) }
+    ensures wired { OnFirst wires.old wires.new (λ wire later. IsAfter (seen W.tells_log W.log W.graph W.faults wire) (seen W.tells_log W.log W.graph W.faults later)) }
     ensures write_fault { result ≡ Status.WriteFault → HasRisen (O.write_faults out.old) (O.write_faults out.new) }
     ensures unfailed { ¬ (result ≡ Status.WriteFault) → O.write_faults out.new ≡ O.write_faults out.old }
     ensures kept { (name : List ℕ) → F.faults files.old name ≤ F.faults files.new name }
@@ -45,6 +55,9 @@ pub fn run<F: Files, O: Sink, E: Sink>(
             Status::NoMemory
         }
         Ok(Command::Local { graph, query }) => run_local(alloc, files, graph, query, out, err),
+        Ok(Command::Query { registry, query }) => {
+            run_query(alloc, files, &mut wires[0], registry, query, out, err)
+        }
     }
 }
 

@@ -11,10 +11,18 @@ pub enum Status {
     Usage,
     /// The query's text is not accepted.
     QueryRefused,
+    /// The registry's text is not accepted.
+    RegistryRefused,
+    /// An exchange with an endpoint failed.
+    EndpointFault,
+    /// The reply of an endpoint is not read.
+    BadReply,
     /// The reading of a file failed.
     ReadFault,
     /// A write to standard output failed.
     WriteFault,
+    /// The text of a request is too long.
+    RequestTooLong,
     /// The graph's text is not accepted.
     GraphRefused,
     /// Memory ran out.
@@ -32,8 +40,12 @@ impl Status {
             Status::Done => 0,
             Status::Usage => 2,
             Status::QueryRefused => 3,
+            Status::RegistryRefused => 4,
+            Status::EndpointFault => 5,
+            Status::BadReply => 6,
             Status::ReadFault => 8,
             Status::WriteFault => 9,
+            Status::RequestTooLong => 10,
             Status::GraphRefused => 11,
             Status::NoMemory => 13,
             Status::FileTooLong => 14,

@@ -1,9 +1,13 @@
-//! What `run` does over files and streams in memory.
-ghost use Rattle.std.specs.Prelude.{◌<◌};
+//! What `run` does over files, wires and streams in memory.
+ghost use Rattle.std.specs.Prelude.{◌<◌, length};
 
 use crate::running::run;
 use crate::statuses::Status;
+use fx_member::{FaultWire, GraphWire};
+use fx_ntriples::read_graph;
 use fx_outside::{MemoryFiles, MemorySink};
+use fx_terms::{Graph, Iri};
+use fx_wire::{ScriptWire, Wire};
 use std::alloc::Global;
 use std::test::Fail;
 
@@ -40,7 +44,7 @@ const NONE: Fails<'static> = Fails {
     err: &[],
 };
 
-// Runs words over the files g.nt and q.rq, with writes of so many bytes.
+// Runs words over the files g.nt and q.rq, with writes of so many bytes. No wire answers.
 fn run_words(
     alloc: Global,
     words: &[&str],
@@ -51,11 +55,35 @@ fn run_words(
 ) -> Result<Ran, Fail>
     requires { 0 < step }
 {
+    let mut wires = [ScriptWire::new(alloc, Vec::new(alloc))?];
+    let files = [("g.nt", graph), ("q.rq", query)];
+    run_over(alloc, words, &files, &mut wires, step, fails)
+}
+
+// Runs words over files and wires, with writes of so many bytes.
+fn run_over<W: Wire>(
+    alloc: Global,
+    words: &[&str],
+    files: &[(&str, &[u8])],
+    wires: &mut [W],
+    step: u64,
+    fails: Fails<'_>,
+) -> Result<Ran, Fail>
+    requires wired { 0 < length wires.old }
+    requires stepped { 0 < step }
+{
     let words = texts(alloc, words)?;
-    let mut files = files(alloc, graph, query, fails.files)?;
+    let mut files = memory_files(alloc, files, fails.files)?;
     let mut out = MemorySink::new(alloc, 4096, step, Vec::from_slice(alloc, fails.out)?)?;
     let mut err = MemorySink::new(alloc, 4096, step, Vec::from_slice(alloc, fails.err)?)?;
-    let status = run(alloc, words.as_slice(), &mut files, &mut out, &mut err);
+    let status = run(
+        alloc,
+        words.as_slice(),
+        &mut files,
+        wires,
+        &mut out,
+        &mut err,
+    );
     Ok(Ran {
         status,
         out: Vec::from_slice(alloc, out.bytes())?,
@@ -71,26 +99,23 @@ fn texts(alloc: Global, words: &[&str]) -> Result<Vec<String>, Fail> {
     Ok(texts)
 }
 
-fn files(
+fn memory_files(
     alloc: Global,
-    graph: &[u8],
-    query: &[u8],
+    files: &[(&str, &[u8])],
     fails: &[(&str, u64)],
 ) -> Result<MemoryFiles, Fail> {
-    let mut files = Vec::new(alloc);
-    files.push((
-        String::from_str(alloc, "g.nt")?,
-        Vec::from_slice(alloc, graph)?,
-    ))?;
-    files.push((
-        String::from_str(alloc, "q.rq")?,
-        Vec::from_slice(alloc, query)?,
-    ))?;
+    let mut contents = Vec::new(alloc);
+    for (name, content) in files {
+        contents.push((
+            String::from_str(alloc, name)?,
+            Vec::from_slice(alloc, content)?,
+        ))?;
+    }
     let mut calls = Vec::new(alloc);
     for (name, call) in fails {
         calls.push((String::from_str(alloc, name)?, *call))?;
     }
-    Ok(MemoryFiles::new(alloc, files, calls)?)
+    Ok(MemoryFiles::new(alloc, contents, calls)?)
 }
 
 #[test]
@@ -172,7 +197,7 @@ fn refuses_words_graphs_and_queries(rt: HostRuntime) -> Result<(), Fail> {
             USAGE,
         ),
         (
-            ["query", "g.nt", "q.rq"].as_slice(),
+            ["explain", "g.nt", "q.rq"].as_slice(),
             GRAPH,
             QUERY,
             Status::Usage,
@@ -204,21 +229,21 @@ fn refuses_words_graphs_and_queries(rt: HostRuntime) -> Result<(), Fail> {
             "<a> <http://e/p> <http://e/b> .",
             QUERY,
             Status::GraphRefused,
-            "graph refused: NotFirst\n",
+            "graph refused: Relative at 1:1\n",
         ),
         (
             local.as_slice(),
-            "<http://e/a>  <http://e/p> <http://e/b> .",
+            "\n<http://e/a> <http://e/p> _:b .",
             QUERY,
             Status::GraphRefused,
-            "graph refused: NotFirst\n",
+            "graph refused: Blank at 2:27\n",
         ),
         (
             local.as_slice(),
             "<http://e/a> <http://e/p> <http://e/b>",
             "{",
             Status::GraphRefused,
-            "graph refused: NotFirst\n",
+            "graph refused: Bad at 1:39\n",
         ),
         (
             local.as_slice(),
@@ -359,6 +384,183 @@ fn a_fault_of_standard_error_keeps_the_status(rt: HostRuntime) -> Result<(), Fai
         )?;
         assert_eq!(rt; ran.status, Status::ReadFault, "at {call}");
         assert_eq!(rt; ran.err.as_slice(), line.as_bytes(), "at {call}");
+    }
+    Ok(())
+}
+
+const REGISTRY: &str = "# two members\nA http://a.org/sparql\nB http://b.org/sparql\n";
+
+// One triple stands in both graphs.
+const FIRST: &str =
+    "<http://e/a> <http://e/p> <http://e/b> .\n<http://e/b> <http://e/q> <http://e/c> .\n";
+
+const SECOND: &str =
+    "<http://e/a> <http://e/p> <http://e/b> .\n<http://e/d> <http://e/p> <http://e/b> .\n";
+
+// The wire of the two members.
+fn members(alloc: Global) -> Result<GraphWire, Fail> {
+    let mut graphs = Vec::new(alloc);
+    for (address, text) in [
+        ("http://a.org/sparql", FIRST),
+        ("http://b.org/sparql", SECOND),
+    ] {
+        let address = Iri::read(alloc, address)?;
+        let graph: Graph = read_graph(alloc, text.as_bytes())?;
+        graphs.push((address, graph))?;
+    }
+    Ok(GraphWire::new(alloc, graphs)?)
+}
+
+// Runs `query` over the files r.txt and q.rq.
+fn run_query_over<W: Wire>(
+    alloc: Global,
+    registry: &str,
+    query: &str,
+    wires: &mut [W],
+    fails: Fails<'_>,
+) -> Result<Ran, Fail>
+    requires { 0 < length wires.old }
+{
+    let files = [("r.txt", registry.as_bytes()), ("q.rq", query.as_bytes())];
+    run_over(
+        alloc,
+        &["query", "r.txt", "q.rq"],
+        &files,
+        wires,
+        4096,
+        fails,
+    )
+}
+
+#[test]
+fn answers_queries_over_members(rt: HostRuntime) -> Result<(), Fail> {
+    for (query, document) in [
+        // The triple of both counts once.
+        (
+            "SELECT * WHERE { ?x <http://e/p> ?y }",
+            r#"{"head":{"vars":["x","y"]},"results":{"bindings":[{"x":{"type":"uri","value":"http://e/a"},"y":{"type":"uri","value":"http://e/b"}},{"x":{"type":"uri","value":"http://e/d"},"y":{"type":"uri","value":"http://e/b"}}]}}"#,
+        ),
+        // A row of both members.
+        (
+            "SELECT ?x ?z WHERE { ?x <http://e/p> ?y . ?y <http://e/q> ?z }",
+            r#"{"head":{"vars":["x","z"]},"results":{"bindings":[{"x":{"type":"uri","value":"http://e/a"},"z":{"type":"uri","value":"http://e/c"}},{"x":{"type":"uri","value":"http://e/d"},"z":{"type":"uri","value":"http://e/c"}}]}}"#,
+        ),
+        // A name that begins as another.
+        (
+            "SELECT * WHERE { ?x <http://e/q> ?x_1 }",
+            r#"{"head":{"vars":["x","x_1"]},"results":{"bindings":[{"x":{"type":"uri","value":"http://e/b"},"x_1":{"type":"uri","value":"http://e/c"}}]}}"#,
+        ),
+        // One variable in two places.
+        (
+            "SELECT * WHERE { ?x ?p ?x }",
+            r#"{"head":{"vars":["x","p"]},"results":{"bindings":[]}}"#,
+        ),
+        // No variable, with a triple that stands and with one that doesn't.
+        (
+            "SELECT * WHERE { <http://e/d> <http://e/p> <http://e/b> }",
+            r#"{"head":{"vars":[]},"results":{"bindings":[{}]}}"#,
+        ),
+        (
+            "SELECT * WHERE { <http://e/d> <http://e/p> <http://e/c> }",
+            r#"{"head":{"vars":[]},"results":{"bindings":[]}}"#,
+        ),
+        (
+            "SELECT * WHERE { }",
+            r#"{"head":{"vars":[]},"results":{"bindings":[{}]}}"#,
+        ),
+    ] {
+        let mut wires = [members(rt.alloc())?];
+        let ran = run_query_over(rt.alloc(), REGISTRY, query, &mut wires, NONE)?;
+        assert_eq!(rt; ran.status, Status::Done, "{query}");
+        assert_eq!(rt; ran.out.as_slice(), document.as_bytes(), "{query}");
+        assert_eq!(rt; ran.err.len(), 0, "{query}");
+    }
+    Ok(())
+}
+
+#[test]
+fn a_wire_that_fails_is_named(rt: HostRuntime) -> Result<(), Fail> {
+    for (address, line) in [
+        ("http://a.org/sparql", "member A failed\n"),
+        ("http://b.org/sparql", "member B failed\n"),
+    ] {
+        let fails_at = vec![in rt.alloc(); (Iri::read(rt.alloc(), address)?, 1)]?;
+        let none = Vec::new(rt.alloc());
+        let mut wires = [FaultWire::new(rt.alloc(), members(rt.alloc())?, none, fails_at)?];
+        let ran = run_query_over(rt.alloc(), REGISTRY, QUERY, &mut wires, NONE)?;
+        assert_eq!(rt; ran.status, Status::EndpointFault, "{address}");
+        assert_eq!(rt; ran.out.len(), 0, "{address}");
+        assert_eq!(rt; ran.err.as_slice(), line.as_bytes(), "{address}");
+    }
+    Ok(())
+}
+
+#[test]
+fn a_reply_that_is_none_is_named(rt: HostRuntime) -> Result<(), Fail> {
+    for reply in ["", "HTTP/1.1 200 OK\r\n\r\n", "HTTP/1.1 500 No\r\n\r\n"] {
+        let address = Iri::read(rt.alloc(), "http://a.org/sparql")?;
+        let reply = Vec::from_slice(rt.alloc(), reply.as_bytes())?;
+        let replies = vec![in rt.alloc(); (address, reply)]?;
+        let mut wires = [ScriptWire::new(rt.alloc(), replies)?];
+        let ran = run_query_over(rt.alloc(), REGISTRY, QUERY, &mut wires, NONE)?;
+        assert_eq!(rt; ran.status, Status::BadReply);
+        assert_eq!(rt; ran.out.len(), 0);
+        assert_eq!(rt;
+            ran.err.as_slice(),
+            "bad reply from A: NotFirst\n".as_bytes()
+        );
+    }
+    Ok(())
+}
+
+#[test]
+fn refuses_registries_and_then_queries(rt: HostRuntime) -> Result<(), Fail> {
+    for (registry, query, status, line) in [
+        (
+            "A http://a.org/sparql\nB\n",
+            "{",
+            Status::RegistryRefused,
+            "registry refused: Bad at line 2\n",
+        ),
+        (
+            "A http://a.org/sparql\nA http://b.org/sparql\n",
+            QUERY,
+            Status::RegistryRefused,
+            "registry refused: RepeatedName at line 2\n",
+        ),
+        (
+            "A http://a.org/sparql\n\nB http://a.org/sparql\n",
+            QUERY,
+            Status::RegistryRefused,
+            "registry refused: RepeatedUrl at line 3\n",
+        ),
+        (
+            REGISTRY,
+            "{",
+            Status::QueryRefused,
+            "query refused: NotFirst\n",
+        ),
+    ] {
+        let mut wires = [members(rt.alloc())?];
+        let ran = run_query_over(rt.alloc(), registry, query, &mut wires, NONE)?;
+        assert_eq!(rt; ran.status, status, "{registry}");
+        assert_eq!(rt; ran.out.len(), 0, "{registry}");
+        assert_eq!(rt; ran.err.as_slice(), line.as_bytes(), "{registry}");
+    }
+    for (name, line) in [
+        ("r.txt", "cannot read r.txt\n"),
+        ("q.rq", "cannot read q.rq\n"),
+    ] {
+        let fails = Fails {
+            files: &[(name, 1)],
+            out: &[],
+            err: &[],
+        };
+        let mut wires = [members(rt.alloc())?];
+        let ran = run_query_over(rt.alloc(), REGISTRY, QUERY, &mut wires, fails)?;
+        assert_eq!(rt; ran.status, Status::ReadFault);
+        assert_eq!(rt; ran.out.len(), 0);
+        assert_eq!(rt; ran.err.as_slice(), line.as_bytes());
     }
     Ok(())
 }

@@ -153,19 +153,19 @@ module _ (graph : List Triple) (ps : List Pattern) where
             (λ name. h.binds name ∙ ap (λ v. is_among v name) (sym (names_are graph ps c.0 c.1))),
       )
 
-  solution_of : (s : Bindings) → Contains (bgp graph ps) s → IsSolutionOf graph ps s
+  pub solution_of : (s : Bindings) → Contains (bgp graph ps) s → IsSolutionOf graph ps s
   unfolding row_of
   solution_of s h =
       let a = among_from_filter_map row_of s (choices graph ps) (among_from (bgp graph ps) s h) in
       solution_from s a.0 (choice_from graph ps a.0 a.1) a.2
 
-  row_from : (s : Bindings) → IsSolutionOf graph ps s → Contains (bgp graph ps) s
+  pub row_from : (s : Bindings) → IsSolutionOf graph ps s → Contains (bgp graph ps) s
   unfolding row_of
   row_from s h =
       let a = a_row s h in
       contains_from (bgp graph ps) s (among_filter_map row_of a.0 s (choices graph ps) (among_choices graph ps a.0 a.1) a.2)
 
-  once_rows : IsOnce graph → IsOnce (bgp graph ps)
+  pub once_rows : IsOnce graph → IsOnce (bgp graph ps)
   unfolding row_of
   once_rows h =
       once_filter_map row_of (choices graph ps)

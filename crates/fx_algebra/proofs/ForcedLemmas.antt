@@ -26,13 +26,13 @@ equal_from Less e = cc
 equal_from Equal e = refl
 equal_from Greater e = cc
 
-same_from : (a b : Term) → same_term a b ≡ true → a ≡ b
+pub same_from : (a b : Term) → same_term a b ≡ true → a ≡ b
 same_from a b e = exact_terms a b (equal_from (term_cmp a b) e)
 
-same_itself : (a b : Term) → a ≡ b → same_term a b ≡ true
+pub same_itself : (a b : Term) → a ≡ b → same_term a b ≡ true
 same_itself a b e = ap (λ v. same_term a v) (sym e) ∙ ap is_eq (tied_itself terms_total a)
 
-name_from : (a b : List ℕ) → is_eq (text_cmp a b) ≡ true → a ≡ b
+pub name_from : (a b : List ℕ) → is_eq (text_cmp a b) ≡ true → a ≡ b
 name_from a b e = exact_bytes a b (equal_from (text_cmp a b) e)
 
 is_eq-reverse : (o : Ordering) → is_eq (ordering_reverse o) ≡ is_eq o
@@ -79,7 +79,7 @@ step_constant : (s : Bindings) (constant term : Term) (b : Bool) → same_term c
 step_constant s constant term true e = record { rising = λ h. h; extends = extends_itself s; value = ap Some (same_from constant term e); binds = λ name. or_false (is_some (term_of s name)) }
 step_constant s constant term false e = tt
 
-with_pair_has : (s : Bindings) (name : List ℕ) (term : Term) (n : List ℕ) → term_of (with_pair s name term) n ≡ cond (is_eq (text_cmp n name)) (Some term) (term_of s n)
+pub with_pair_has : (s : Bindings) (name : List ℕ) (term : Term) (n : List ℕ) → term_of (with_pair s name term) n ≡ cond (is_eq (text_cmp n name)) (Some term) (term_of s n)
 with_pair_has s name term n = find-put text_cmp texts_total n name term s
 
 -- a name that had no term takes none from another
@@ -154,7 +154,7 @@ or_assoc : (a b c : Bool) → ((a || b) || c) ≡ (a || (b || c))
 or_assoc true b c = refl
 or_assoc false b c = refl
 
-value_kept : (s r : Bindings) (part : PatternTerm) (term : Term) → Extends s r → value_of s part ≡ Some term → value_of r part ≡ Some term
+pub value_kept : (s r : Bindings) (part : PatternTerm) (term : Term) → Extends s r → value_of s part ≡ Some term → value_of r part ≡ Some term
 value_kept s r (Variable name) term x e = x.has name term e
 value_kept s r (Constant constant) term x e = e
 
@@ -208,7 +208,7 @@ step_forces s t (Variable name) term x h = step_forces_bound s t name term (term
 step_forces s t (Constant constant) term x h = step_forces_old s t constant term (same_value constant term h) x
 
 -- so do all parts
-forces : (s t : Bindings) (cs : List (PatternTerm × Term)) → Extends s t → AllAre t cs → (r : Bindings) × (forced s cs ≡ Some r) × Extends r t
+pub forces : (s t : Bindings) (cs : List (PatternTerm × Term)) → Extends s t → AllAre t cs → (r : Bindings) × (forced s cs ≡ Some r) × Extends r t
 forces s t [] x h = (s, refl, x)
 forces s t (c ∷ cs) x h =
     let a = step_forces s t c.0 c.1 x h.0 in

@@ -5,3 +5,6 @@ pub mod OrderLemmas
 pub mod PairLemmas
 pub mod ScopeLemmas
 pub mod SequenceLemmas
+pub mod JoinLemmas
+pub mod WeightLemmas
+pub mod UnionLemmas

@@ -2,10 +2,14 @@
 use Rattle.std.specs.Prelude.{ℕ, Bool, true, List, [], ◌∷◌, Option, Some, None, if◌then◌else◌, is_some, IsPermutation, fold}
 use Rattle.std.specs.List.{list_all}
 use Rattle.std.proofs.Common.{suc}
-use Rattle.std.specs.Ordering.{is_eq, is_lt}
+use Rattle.std.specs.declared.cmp.Ordering.{Ordering}
+use Rattle.std.specs.Ordering.{is_eq, is_lt, ordering_then}
+use Rattle.std.specs.Cmp.{IsTotalOrder}
+use Rattle.std.specs.Cmp.Lexicographic.{slice_cmp}
+use Rattle.std.proofs.lemmas.Cmp.{then_total, on_total, lists_total}
 use Rattle.std.specs.FinMap.Entries.{find, put, is_sorted}
-use Rattle.fx_terms.specs.Texts.{text_cmp}
-use Rattle.fx_terms.specs.Terms.{term_cmp}
+use Rattle.fx_terms.specs.Texts.{text_cmp, texts_total}
+use Rattle.fx_terms.specs.Terms.{term_cmp, terms_total}
 use Rattle.fx_terms.specs.declared.terms.Term.{Term}
 
 abbrev pub Bindings : Type 0
@@ -51,3 +55,14 @@ SameRows a b = IsPermutation a b
 abbrev pub place_in : Bindings → List ℕ → ℕ
 place_in [] name = 0
 place_in (e ∷ es) name = if is_lt (text_cmp name e.0) then 0 else suc (place_in es name)
+
+-- ---- the order of solutions: pair by pair, by name and then by term
+
+abbrev pub pair_cmp : List ℕ × Term → List ℕ × Term → Ordering
+pair_cmp a b = ordering_then (text_cmp a.0 b.0) (term_cmp a.1 b.1)
+
+abbrev pub solution_cmp : Bindings → Bindings → Ordering
+solution_cmp = slice_cmp pair_cmp
+
+pub solutions_total : IsTotalOrder solution_cmp
+solutions_total = lists_total (then_total (on_total (λ e. e.0) texts_total) (on_total (λ e. e.1) terms_total))

@@ -3,6 +3,7 @@
 
 pub mod answers;
 pub mod expressions;
+pub mod groups;
 pub mod laws;
 pub mod queries;
 pub mod scopes;
@@ -11,6 +12,7 @@ pub mod solutions;
 pub use answers::Answer;
 pub use expressions::{Compare, Expr, Function, Sign};
 use fx_terms::shareable;
+pub use groups::patterns_of;
 pub use queries::{Element, Form, Group, Inline, Order, Query};
 pub use scopes::scope;
 pub use solutions::Solution;

@@ -9,6 +9,7 @@ ghost use Rattle.fx_algebra.specs.Solutions as spec;
 use crate::scopes::is_among;
 use fx_terms::{Memory, Name, Term};
 use std::alloc::Global;
+use std::cmp::Ordering;
 use std::marker::Model;
 
 /// A solution: finitely many names, each with a term (SPARQL 1.1 section 18.1.8). Contracts see the list of its pairs by
@@ -99,6 +100,61 @@ impl Solution {
         Ok(Solution {
             pairs: copy_pairs(alloc, self.pairs.as_slice())?,
         })
+    }
+}
+
+// The order is pair by pair, by name and then by term.
+impl PartialEq for Solution {
+    ghost use Rattle.std.specs.Ordering.{eq_by_cmp};
+    ghost use Rattle.std.specs.Cmp.{partial_equiv_from_equiv};
+    ghost use Rattle.std.proofs.lemmas.Cmp.{eq_by_cmp_equiv};
+    ghost use Rattle.fx_algebra.specs.Solutions.{solution_cmp, solutions_total};
+
+    ghost eq = { eq_by_cmp solution_cmp };
+
+    ghost laws = { partial_equiv_from_equiv (eq_by_cmp_equiv solutions_total) };
+
+    fn eq(&self, other: &Solution) -> bool {
+        self.cmp(other) == Ordering::Equal
+    }
+}
+
+impl Eq for Solution {
+    ghost use Rattle.std.proofs.lemmas.Cmp.{eq_by_cmp_equiv};
+    ghost use Rattle.fx_algebra.specs.Solutions.{solutions_total};
+
+    ghost laws = { eq_by_cmp_equiv solutions_total };
+}
+
+impl Ord for Solution {
+    ghost use Rattle.std.proofs.Common.{refl};
+    ghost use Rattle.fx_algebra.specs.Solutions.{solution_cmp, solutions_total};
+
+    ghost cmp = { solution_cmp };
+
+    ghost total = { solutions_total };
+
+    ghost matches_partial_cmp = { λ x y. refl };
+
+    ghost matches_eq = { λ x y. refl };
+
+    fn cmp(&self, other: &Solution) -> Ordering {
+        self.pairs.cmp(&other.pairs)
+    }
+}
+
+impl PartialOrd for Solution {
+    ghost use Rattle.std.proofs.Common.{refl};
+    ghost use Rattle.std.specs.Ordering.{as_partial_cmp};
+    ghost use Rattle.std.specs.Cmp.{partial_order_from_agreeing_total};
+    ghost use Rattle.fx_algebra.specs.Solutions.{solution_cmp, solutions_total};
+
+    ghost partial_cmp = { as_partial_cmp solution_cmp };
+
+    ghost laws = { partial_order_from_agreeing_total solution_cmp solutions_total (λ x y. refl) (λ x y. refl) };
+
+    fn partial_cmp(&self, other: &Solution) -> Option<Ordering> {
+        Some(self.cmp(other))
     }
 }
 

@@ -3,3 +3,5 @@ mod NumberLemmas
 mod ChunkSteps
 pub mod ReplyLaws
 pub mod RequestLaws
+pub mod PostLaws
+pub mod WrittenReplyLaws

@@ -83,7 +83,7 @@ all_pass p q h (b ∷ bs) e =
     let t = both (p b) (list_all p bs) e in
     All-cons (λ b. q b ≡ true) b bs (h b t.0) (all_pass p q h bs t.1)
 
-passes_all : (q : ℕ → Bool) (bs : List ℕ) → list_all q bs ≡ true → AllPass q bs
+pub passes_all : (q : ℕ → Bool) (bs : List ℕ) → list_all q bs ≡ true → AllPass q bs
 passes_all q bs e = all_pass q q (λ b h. h) bs e
 
 target_uri : (b : ℕ) → is_target_byte b ≡ true → is_uri_byte b ≡ true
@@ -116,7 +116,7 @@ digits_pass (b ∷ bs) h =
     let t = both (is_ascii_digit b) (all_ascii_digits bs) h in
     All-cons (λ b. is_ascii_digit b ≡ true) b bs t.0 (digits_pass bs t.1)
 
-digits_value_bytes : (ds : List ℕ) → all_ascii_digits ds ≡ true → AllPass is_value_byte ds
+pub digits_value_bytes : (ds : List ℕ) → all_ascii_digits ds ≡ true → AllPass is_value_byte ds
 digits_value_bytes [] h = All-nil (λ b. is_value_byte b ≡ true)
 digits_value_bytes (b ∷ bs) h =
     let t = both (is_ascii_digit b) (all_ascii_digits bs) h in
@@ -143,7 +143,7 @@ digits_stay : (ds : List ℕ) → AllPass is_ascii_digit ds → skip_ows ds ≡ 
 digits_stay [] h = refl
 digits_stay (b ∷ bs) h = rw (digit_no_blank b (All-head (λ b. is_ascii_digit b ≡ true) b bs h)) refl
 
-size_value : (ds : List ℕ) → all_ascii_digits ds ≡ true → trim_ows (32 ∷ ds) ≡ ds
+pub size_value : (ds : List ℕ) → all_ascii_digits ds ≡ true → trim_ows (32 ∷ ds) ≡ ds
 size_value ds h =
     let p = digits_pass ds h in
     trim_ows_space ds (digits_stay ds p) (digits_stay (reverse ds) (AllPass-reverse is_ascii_digit ds p))
@@ -154,7 +154,7 @@ pub record IsSize (n : ℕ) : Type 0 where
   pub most : length (decimal n) ≤ 19
   pub value : digits_value 10 (decimal n) ≡ n
 
-size_is : (n : ℕ) → n < 10 ^ 19 → IsSize n
+pub size_is : (n : ℕ) → n < 10 ^ 19 → IsSize n
 size_is n h =
     let small : n < 2 ^ 64 = omega arith in record {
       digits = digits_decimal own n small;
@@ -163,7 +163,7 @@ size_is n h =
       value = digits_value-decimal own n small;
     }
 
-is_length_decimal : (n : ℕ) → IsSize n → is_length n (decimal n) ≡ true
+pub is_length_decimal : (n : ℕ) → IsSize n → is_length n (decimal n) ≡ true
 is_length_decimal n k =
     let some = k.some in
     let most = k.most in
@@ -202,10 +202,10 @@ spread_length target host size text =
     pieces a t b h c s d x = simp length-append
 
 -- a name and a value of these classes
-field_is : (name value : List ℕ) → 0 < length name → AllPass is_token_byte name → AllPass is_value_byte (32 ∷ value) → IsField (line_of name value)
+pub field_is : (name value : List ℕ) → 0 < length name → AllPass is_token_byte name → AllPass is_value_byte (32 ∷ value) → IsField (line_of name value)
 field_is name value some n v = record { name = (some, n); raw = v }
 
-value_after_space : (value : List ℕ) → AllPass is_value_byte value → AllPass is_value_byte (32 ∷ value)
+pub value_after_space : (value : List ℕ) → AllPass is_value_byte value → AllPass is_value_byte (32 ∷ value)
 value_after_space value h = All-cons (λ b. is_value_byte b ≡ true) 32 value refl h
 
 six : (a b c d e f : Field) → IsField a → IsField b → IsField c → IsField d → IsField e → IsField f → All IsField (a ∷ b ∷ c ∷ d ∷ e ∷ f ∷ [])

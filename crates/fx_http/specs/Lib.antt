@@ -4,3 +4,4 @@ pub mod Chunks
 pub mod Replies
 pub mod Heads
 pub mod Answers
+pub mod WrittenReplies

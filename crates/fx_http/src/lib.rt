@@ -3,13 +3,18 @@
 
 mod chunks;
 mod fields;
+mod heads;
+pub mod posts;
 pub mod replies;
 pub mod requests;
 mod slices;
+pub mod written_replies;
 
 use fx_terms::shareable;
+pub use posts::posted_text;
 pub use replies::{Reply, ReplyError, read_reply};
 pub use requests::request_bytes;
+pub use written_replies::reply_bytes;
 
 /// Every type of this crate may be shared between threads and sent to them.
 pub fn all_shareable() {

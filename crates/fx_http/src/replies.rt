@@ -11,6 +11,7 @@ ghost use Rattle.fx_http.specs.Requests as request;
 
 use crate::chunks::joined;
 use crate::fields::{is_missing, is_number, is_same, media_type, number, only_value};
+use crate::heads::{LONGEST_HEAD, MOST_FIELDS};
 use crate::slices::{after, front};
 use httparse::Status;
 use httparse::spans::{EMPTY_HEADER_SPAN, HeaderSpan, ResponseSpans, parse_response};
@@ -18,10 +19,6 @@ use std::alloc::{AllocError, Global};
 use std::marker::Model;
 
 const LONGEST_REPLY: usize = 67_108_864;
-
-const LONGEST_HEAD: usize = 65_536;
-
-const MOST_FIELDS: usize = 100;
 
 /// Why bytes are no reply with results: the first of these rules that they break.
 #[derive(Clone, Copy, Debug, PartialEq, Eq)]

@@ -1,5 +1,5 @@
 //! What the calls answer at given values.
-use crate::{Reply, ReplyError, read_reply, request_bytes};
+use crate::{Reply, ReplyError, posted_text, read_reply, reply_bytes, request_bytes};
 use fx_outside::Endpoint;
 use fx_terms::Iri;
 use std::alloc::Global;
@@ -22,6 +22,64 @@ fn a_request_posts_the_text(rt: HostRuntime) -> Result<(), Fail> {
         assert!(rt; at.is_sendable());
         let bytes = request_bytes(rt.alloc(), &at, text)?;
         assert_eq!(rt; bytes.as_slice(), want.as_bytes(), "at port {port}");
+    }
+    Ok(())
+}
+
+#[test]
+fn a_reply_is_written_by_its_status(rt: HostRuntime) -> Result<(), Fail> {
+    for (status, body, want) in [
+        (
+            200,
+            "{}",
+            "HTTP/1.1 200 OK\r\nContent-Type: application/sparql-results+json\r\nContent-Length: 2\r\nConnection: close\r\n\r\n{}",
+        ),
+        (
+            400,
+            "NotFirst\n",
+            "HTTP/1.1 400 Bad Request\r\nContent-Type: text/plain; charset=utf-8\r\nContent-Length: 9\r\nConnection: close\r\n\r\nNotFirst\n",
+        ),
+        (
+            405,
+            "Method\n",
+            "HTTP/1.1 405 Method Not Allowed\r\nAllow: GET, POST\r\nContent-Type: text/plain; charset=utf-8\r\nContent-Length: 7\r\nConnection: close\r\n\r\nMethod\n",
+        ),
+        (
+            411,
+            "",
+            "HTTP/1.1 411 Length Required\r\nContent-Type: text/plain; charset=utf-8\r\nContent-Length: 0\r\nConnection: close\r\n\r\n",
+        ),
+        (
+            413,
+            "",
+            "HTTP/1.1 413 Content Too Large\r\nContent-Type: text/plain; charset=utf-8\r\nContent-Length: 0\r\nConnection: close\r\n\r\n",
+        ),
+        (
+            415,
+            "",
+            "HTTP/1.1 415 Unsupported Media Type\r\nContent-Type: text/plain; charset=utf-8\r\nContent-Length: 0\r\nConnection: close\r\n\r\n",
+        ),
+    ] {
+        let bytes = reply_bytes(rt.alloc(), status, body.as_bytes())?;
+        assert_eq!(rt; bytes.as_slice(), want.as_bytes(), "at {status}");
+    }
+    Ok(())
+}
+
+#[test]
+fn what_is_behind_the_head_is_posted(rt: HostRuntime) -> Result<(), Fail> {
+    for (bytes, want) in [
+        (
+            "POST /sparql HTTP/1.1\r\nContent-Type: application/sparql-query\r\nContent-Length: 3\r\n\r\nASK",
+            Some("ASK"),
+        ),
+        ("POST / HTTP/1.1\r\nContent-Length: 0\r\n\r\n", Some("")),
+        ("POST / HTTP/1.1\r\nContent-Length: 3\r\n", None),
+        ("ASK", None),
+        ("", None),
+    ] {
+        let text = posted_text(bytes.as_bytes());
+        assert_eq!(rt; text, want.map(str::as_bytes), "at {bytes}");
     }
     Ok(())
 }

@@ -6,7 +6,7 @@
 pub mod endpoints;
 pub mod memory_storage;
 pub mod memory_streams;
-mod name_counts;
+pub mod name_counts;
 pub mod storage;
 pub mod streams;
 pub mod system_storage;
@@ -17,6 +17,7 @@ pub use endpoints::Endpoint;
 use fx_terms::shareable;
 pub use memory_storage::MemoryFiles;
 pub use memory_streams::MemorySink;
+pub use name_counts::NameCounts;
 pub use storage::{FileError, Files};
 pub use streams::{Ends, ReadFailed, Sink, WriteFailed};
 pub use system_storage::Folder;
@@ -32,6 +33,7 @@ pub fn all_shareable<T: Send + Sync>() {
     shareable::<FileError>();
     shareable::<MemorySink>();
     shareable::<MemoryFiles>();
+    shareable::<NameCounts>();
     shareable::<Folder<T>>();
     shareable::<StdSink<T>>();
 }

@@ -11,10 +11,10 @@ use Rattle.std.proofs.lemmas.Bool.Decides.{nat_tests}
 use Rattle.std.proofs.lemmas.List.{take_more}
 use Rattle.std.proofs.Math.Seq.{get_or-append_seam, take-append_seam, take-length}
 use Rattle.fx_terms.specs.declared.iris.TermError.{TermError}
-use Rattle.fx_terms.specs.Iris.{read_iri, iri_after, iri_with_scheme, has_scheme}
+use Rattle.fx_terms.specs.Iris.{read_iri, iri_after, iri_with_scheme, has_scheme, IsIri}
 use Rattle.fx_syntax.specs.declared.words.Word.{Word}
 use Rattle.fx_syntax.specs.declared.words.Word.TheVariants.{Select, Star, Where, Open, Close, Dot, Variable, Iri}
-use Rattle.fx_syntax.specs.Words.{IsWord, AreWords, IsIri, is_variable_name, is_some_text, is_name_byte}
+use Rattle.fx_syntax.specs.Words.{IsWord, AreWords, is_variable_name, is_some_text, is_name_byte}
 use Rattle.fx_syntax.specs.Reading.{keyword, is_variable, bracketed, iri_text, iri_of, or_else, word_of, words_of, in_front}
 
 -- both tests pass

@@ -16,3 +16,7 @@ pub record Accepted (bytes : List ℕ) (q : Query) : Type 0 where
 -- the law: no bytes are accepted as two queries
 abbrev pub OneQuery : Type 0
 OneQuery = (bytes : List ℕ) (p q : Query) → Accepted bytes p → Accepted bytes q → p ≡ q
+
+-- some text is accepted as the query
+abbrev pub IsSpellable : Query → Type 0
+IsSpellable q = (text : List ℕ) × Accepted text q

@@ -59,3 +59,9 @@ pub record SpellsQuery (ws : List Word) (q : Query) : Type 0 where
   pub selected : SpellsHead head (group_of patterns) columns
   pub triples : SpellsBody body patterns
   pub query : q ≡ plain_query columns patterns
+
+-- the query selects columns of a group that holds triples alone, and does nothing else
+pub record IsPlain (q : Query) : Type 0 where
+  pub columns : List (List ℕ)
+  pub patterns : List Pattern
+  pub query : q ≡ plain_query columns patterns

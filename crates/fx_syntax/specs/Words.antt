@@ -1,8 +1,7 @@
 -- Words of the first form of a query, and what each of them says.
 use Rattle.std.specs.Prelude.{◌≡◌, ℕ, Bool, true, List, [], ◌∷◌, ◌++◌, Ok, ◌&&◌, ◌||◌, ◌==◌, not, codes, filter, length}
 use Rattle.std.specs.List.{slice_split, list_all}
-use Rattle.std.specs.Str.{IsUtf8}
-use Rattle.fx_terms.specs.Iris.{read_iri, is_letter, is_digit}
+use Rattle.fx_terms.specs.Iris.{is_letter, is_digit, IsIri}
 use Rattle.fx_syntax.specs.declared.words.Word.{Word}
 use Rattle.fx_syntax.specs.declared.words.Word.TheVariants.{Select, Star, Where, Open, Close, Dot, Variable, Iri}
 
@@ -24,11 +23,6 @@ is_name_byte b = is_letter b || is_digit b || b == 95
 -- one or more of these
 abbrev pub is_variable_name : List ℕ → Bool
 is_variable_name name = is_some_text name && list_all is_name_byte name
-
--- an absolute IRI, in UTF-8
-pub record IsIri (text : List ℕ) : Type 0 where
-  pub utf8 : IsUtf8 text
-  pub iri : read_iri text ≡ Ok text
 
 -- what a word says
 abbrev pub IsWord : List ℕ → Word → Type 0

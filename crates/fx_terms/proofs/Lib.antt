@@ -1,2 +1,4 @@
 pub mod OrderLemmas
 pub mod SetLemmas
+pub mod TagLemmas
+pub mod IriLemmas

@@ -1,9 +1,10 @@
 -- Graphs (RDF 1.1 Concepts 3): sets of triples, as lists in the order of subject, predicate, object.
-use Rattle.std.specs.Prelude.{List, [], ◌∷◌, ◌↔◌, Contains}
+use Rattle.std.specs.Prelude.{List, [], ◌∷◌, ◌↔◌, All, Contains}
 use Rattle.std.specs.declared.cmp.Ordering.{Ordering}
+use Rattle.std.specs.List.{flat_map}
 use Rattle.std.specs.List.Sorted.{IsStrictlySortedBy}
 use Rattle.std.specs.FinMap.Entries.{by_order}
-use Rattle.fx_terms.specs.Triples.{triple_cmp}
+use Rattle.fx_terms.specs.Triples.{triple_cmp, IsTriple}
 use Rattle.fx_terms.specs.declared.triples.Triple.{Triple}
 
 -- an element at its place in a rising list, where it isn't there yet
@@ -20,7 +21,16 @@ set_of R (x ∷ xs) = put_once R x (set_of R xs)
 abbrev pub graph_of : List Triple → List Triple
 graph_of triples = set_of triple_cmp triples
 
+-- the union of graphs: each triple that one of them holds, once
+abbrev pub union : List (List Triple) → List Triple
+union graphs = graph_of (flat_map (λ graph. graph) graphs)
+
 -- the triples of a list, in their order, each once: there is one such list, `graph_of` the triples
 pub record IsGraphOf (triples graph : List Triple) : Type 0 where
   pub rises : IsStrictlySortedBy triple_cmp graph
   pub same : (t : Triple) → Contains graph t ↔ Contains triples t
+
+-- the list is a graph: its triples rise, and are what their readers accept
+pub record IsGraph (graph : List Triple) : Type 0 where
+  pub rises : IsStrictlySortedBy triple_cmp graph
+  pub terms : All IsTriple graph

@@ -1,6 +1,7 @@
 -- Which texts are IRIs, by their bytes (this project's profile of RFC 3987: absolute IRIs alone). Every character that the
 -- rule names is ASCII, so bytes serve.
-use Rattle.std.specs.Prelude.{ℕ, Bool, true, false, List, [], ◌∷◌, Option, Some, None, Result, Ok, Err, ◌&&◌, ◌||◌, ◌==◌, nat_le, if◌then◌else◌, position}
+use Rattle.std.specs.Prelude.{◌≡◌, ℕ, Bool, true, false, List, [], ◌∷◌, Option, Some, None, Result, Ok, Err, ◌&&◌, ◌||◌, ◌==◌, nat_le, if◌then◌else◌, position}
+use Rattle.std.specs.Str.{IsUtf8}
 use Rattle.fx_terms.specs.declared.iris.TermError.{TermError}
 use Rattle.fx_terms.specs.declared.iris.TermError.TheVariants.{Relative, BadCharacter}
 
@@ -43,3 +44,8 @@ iri_after text None = iri_with_scheme text (has_scheme text)
 -- the IRI that a text is, or what is wrong with it
 abbrev pub read_iri : List ℕ → Result (List ℕ) TermError
 read_iri text = iri_after text (position is_forbidden text)
+
+-- the text is an IRI, in UTF-8
+pub record IsIri (text : List ℕ) : Type 0 where
+  pub utf8 : IsUtf8 text
+  pub iri : read_iri text ≡ Ok text

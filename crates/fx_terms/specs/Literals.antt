@@ -1,14 +1,14 @@
 -- Literals (RDF 1.1 Concepts 3.3), in this project's profile: a language tag is kept in lower case.
-use Rattle.std.specs.Prelude.{◌≡◌, ℕ, Bool, false, List, [], ◌∷◌, map, length, not, codes, Result, Ok, Err, ◌&&◌, ◌||◌, ◌==◌, if◌then◌else◌}
+use Rattle.std.specs.Prelude.{◌≡◌, ◌<◌, ℕ, Bool, true, false, List, [], ◌∷◌, map, length, not, codes, Result, Ok, Err, ◌&&◌, ◌||◌, ◌==◌, if◌then◌else◌}
 use Rattle.std.specs.List.{list_all, slice_split}
-use Rattle.std.specs.Str.{bytes_eq}
+use Rattle.std.specs.Str.{bytes_eq, IsUtf8}
 use Rattle.std.specs.Char.{to_ascii_lowercase}
 use Rattle.std.specs.declared.cmp.Ordering.{Ordering}
 use Rattle.std.specs.Ordering.{on, then_cmp}
 use Rattle.std.specs.Cmp.{IsTotalOrder}
 use Rattle.std.proofs.lemmas.Cmp.{then_total, on_total}
 use Rattle.fx_terms.specs.Texts.{text_cmp, texts_total}
-use Rattle.fx_terms.specs.Iris.{is_letter, is_digit}
+use Rattle.fx_terms.specs.Iris.{is_letter, is_digit, IsIri}
 use Rattle.fx_terms.specs.declared.literals.LiteralError.{LiteralError}
 use Rattle.fx_terms.specs.declared.literals.LiteralError.TheVariants.{NeedsTag, BadTag}
 
@@ -33,10 +33,6 @@ xsd_string = codes "http://www.w3.org/2001/XMLSchema#string"
 abbrev pub lang_string : List ℕ
 lang_string = codes "http://www.w3.org/1999/02/22-rdf-syntax-ns#langString"
 
--- a literal has a tag exactly where its datatype is rdf:langString
-abbrev pub IsLiteral : LiteralParts → Type 0
-IsLiteral l = (length l.tag == 0) ≡ not (bytes_eq l.datatype lang_string)
-
 abbrev pub is_dash : ℕ → Bool
 is_dash b = b == 45
 
@@ -59,6 +55,18 @@ are_tag_parts (part ∷ parts) = is_letters part && list_all is_letters_or_digit
 -- LANGTAG of SPARQL 1.1 section 19.8, without its @: letters, and then groups of a dash with letters or digits
 abbrev pub is_tag : List ℕ → Bool
 is_tag tag = are_tag_parts (slice_split is_dash tag)
+
+-- a language tag in lower case
+pub record IsTag (text : List ℕ) : Type 0 where
+  pub tag : is_tag text ≡ true
+  pub lower : map to_ascii_lowercase text ≡ text
+
+-- a form in UTF-8, a datatype, and a tag exactly where the datatype is rdf:langString
+pub record IsLiteral (l : LiteralParts) : Type 0 where
+  pub form : IsUtf8 l.form
+  pub datatype : IsIri l.datatype
+  pub fits : (length l.tag == 0) ≡ not (bytes_eq l.datatype lang_string)
+  pub tag : 0 < length l.tag → IsTag l.tag
 
 -- the literal that is a string
 abbrev pub plain : List ℕ → LiteralParts

@@ -1,7 +1,7 @@
 -- Which texts name a variable: VARNAME of SPARQL 1.1 section 19.8.
-use Rattle.std.specs.Prelude.{ℕ, Bool, true, false, List, [], ◌∷◌, Result, Ok, Err, ◌&&◌, ◌||◌, ◌==◌, nat_le}
+use Rattle.std.specs.Prelude.{◌≡◌, ℕ, Bool, true, false, List, [], ◌∷◌, Result, Ok, Err, ◌&&◌, ◌||◌, ◌==◌, nat_le}
 use Rattle.std.specs.List.{list_all}
-use Rattle.std.specs.Str.{chars}
+use Rattle.std.specs.Str.{chars, IsUtf8}
 use Rattle.fx_terms.specs.declared.names.NameError.{NameError}
 use Rattle.fx_terms.specs.declared.names.NameError.TheVariants.{BadName}
 
@@ -34,3 +34,8 @@ named text false = Err BadName
 -- the name that a text is, or that it is none
 abbrev pub read_name : List ℕ → Result (List ℕ) NameError
 read_name text = named text (is_name (chars text))
+
+-- the text names a variable, in UTF-8
+pub record IsName (text : List ℕ) : Type 0 where
+  pub utf8 : IsUtf8 text
+  pub name : read_name text ≡ Ok text

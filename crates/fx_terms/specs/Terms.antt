@@ -6,6 +6,8 @@ use Rattle.std.specs.Ordering.{nat_cmp, on, then_cmp}
 use Rattle.std.specs.Cmp.{IsTotalOrder}
 use Rattle.std.proofs.lemmas.Cmp.{then_total, on_total, nat_cmp_total}
 use Rattle.fx_terms.specs.Texts.{text_cmp, texts_total}
+use Rattle.fx_terms.specs.Iris.{IsIri}
+use Rattle.fx_terms.specs.Literals.{IsLiteral}
 use Rattle.fx_terms.specs.declared.terms.Term.{Term}
 use Rattle.fx_terms.specs.declared.terms.Term.TheVariants.{Iri, Literal}
 
@@ -30,3 +32,8 @@ term_cmp = then_cmp (on kind_of nat_cmp) (then_cmp (on form_of text_cmp) (then_c
 
 pub terms_total : IsTotalOrder term_cmp
 terms_total = then_total (on_total kind_of nat_cmp_total) (then_total (on_total form_of texts_total) (then_total (on_total datatype_of texts_total) (on_total tag_of texts_total)))
+
+-- an IRI that is accepted, or a literal that can be made
+abbrev pub IsTerm : Term → Type 0
+IsTerm (Iri a) = IsIri a
+IsTerm (Literal a) = IsLiteral a

@@ -1,7 +1,7 @@
 //! Graphs.
-ghost use Rattle.std.specs.Prelude.{◌≡◌, IfOk};
+ghost use Rattle.std.specs.Prelude.{◌≡◌, All, IfOk};
 ghost use Rattle.std.specs.List.Sorted.{IsStrictlySortedBy};
-ghost use Rattle.fx_terms.specs.Triples.{triple_cmp};
+ghost use Rattle.fx_terms.specs.Triples.{triple_cmp, IsTriple};
 ghost use Rattle.fx_terms.specs.Graphs.{IsGraphOf, graph_of};
 
 use crate::allocation::Memory;
@@ -18,15 +18,15 @@ pub struct Graph {
 
 impl Model for Graph {
     ghost use Rattle.std.specs.Prelude.{List};
-    ghost use Rattle.std.specs.List.Sorted.{IsStrictlySortedBy};
-    ghost use Rattle.fx_terms.specs.Triples.{triple_cmp};
     ghost use Rattle.fx_terms.specs.declared.triples.Triple.{Triple as TripleParts};
 
     ghost Value = { List TripleParts };
 
     ghost view = { λ g. g.triples.items };
 
-    ghost invariant = { λ g. IsStrictlySortedBy triple_cmp g.triples.items };
+    ghost use Rattle.fx_terms.specs.Graphs.{IsGraph};
+
+    ghost invariant = { λ g. IsGraph g.triples.items };
 }
 
 impl Graph {
@@ -36,6 +36,7 @@ impl Graph {
         ensures exact { IfOk result (λ g. g ≡ graph_of triples.items) }
     {
         let mut triples = triples;
+        known(triples.as_slice());
         triples.sort()?;
         triples.dedup();
         Ok(Graph { triples })
@@ -45,6 +46,7 @@ impl Graph {
     pub fn triples(&self) -> &[Triple]
         ensures all { result.now ≡ self.now }
         ensures rises { IsStrictlySortedBy triple_cmp self.now }
+        ensures terms { All IsTriple self.now }
     {
         self.triples.as_slice()
     }
@@ -56,6 +58,15 @@ impl Graph {
         Ok(Graph {
             triples: copy_triples(alloc, self.triples.as_slice())?,
         })
+    }
+}
+
+// That the parts of triples are what their readers accept.
+fn known(triples: &[Triple])
+    ensures { All IsTriple triples.now }
+{
+    for triple in triples {
+        triple.known();
     }
 }
 

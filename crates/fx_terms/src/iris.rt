@@ -44,6 +44,10 @@ impl Model for Iri {
     ghost Value = { List ℕ };
 
     ghost view = { λ i. arc_str_bytes i.text };
+
+    ghost use Rattle.fx_terms.specs.Iris.{IsIri};
+
+    ghost invariant = { λ i. IsIri (arc_str_bytes i.text) };
 }
 
 impl Iri {
@@ -71,7 +75,8 @@ impl Iri {
     /// The IRI that a text is, where it is known to be one.
     pub(crate) fn known(alloc: Global, text: &str) -> Result<Iri, Memory>
         requires { spec.read_iri text.now ≡ Ok text.now }
-        ensures { IfOk result (λ iri. iri ≡ text.now) }
+        ensures value { IfOk result (λ iri. iri ≡ text.now) }
+        ensures valid { IfOk result spec.IsIri }
     {
         Ok(Iri {
             text: ArcStr::from_str(alloc, text)?,
@@ -80,7 +85,8 @@ impl Iri {
 
     /// The text, as it was read.
     pub fn text(&self) -> &str
-        ensures { result.now ≡ self.now }
+        ensures value { result.now ≡ self.now }
+        ensures valid { spec.IsIri self.now }
     {
         self.text.as_str()
     }

@@ -45,6 +45,10 @@ impl Model for Name {
     ghost Value = { List ℕ };
 
     ghost view = { λ n. arc_str_bytes n.text };
+
+    ghost use Rattle.fx_terms.specs.Names.{IsName};
+
+    ghost invariant = { λ n. IsName (arc_str_bytes n.text) };
 }
 
 impl Name {
@@ -62,7 +66,8 @@ impl Name {
 
     /// The text, as it was read.
     pub fn text(&self) -> &str
-        ensures { result.now ≡ self.now }
+        ensures value { result.now ≡ self.now }
+        ensures valid { spec.IsName self.now }
     {
         self.text.as_str()
     }

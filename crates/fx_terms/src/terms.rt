@@ -1,6 +1,6 @@
 //! Terms.
 ghost use Rattle.std.specs.Prelude.{◌≡◌, IfOk};
-ghost use Rattle.fx_terms.specs.Terms.{term_cmp};
+ghost use Rattle.fx_terms.specs.Terms.{term_cmp, IsTerm};
 
 use crate::allocation::Memory;
 use crate::iris::Iri;
@@ -22,6 +22,20 @@ impl Term {
         ensures same { result ≡ Ordering.Equal → self.now ≡ other.now }
     {
         self.cmp(other)
+    }
+
+    /// That it is what its reader accepts, for a proof that needs to know. It does nothing.
+    pub fn known(&self)
+        ensures { IsTerm self.now }
+    {
+        match self {
+            Term::Iri(iri) => {
+                let _ = iri.text();
+            }
+            Term::Literal(literal) => {
+                let _ = literal.tag();
+            }
+        }
     }
 
     /// An equal term, which shares the texts.

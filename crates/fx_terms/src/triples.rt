@@ -1,5 +1,6 @@
 //! Triples.
 ghost use Rattle.std.specs.Prelude.{◌≡◌, IfOk};
+ghost use Rattle.fx_terms.specs.Triples.{IsTriple};
 
 use crate::allocation::Memory;
 use crate::iris::Iri;
@@ -15,6 +16,15 @@ pub struct Triple {
 }
 
 impl Triple {
+    /// That its parts are what their readers accept, for a proof that needs to know. It does nothing.
+    pub fn known(&self)
+        ensures { IsTriple self.now }
+    {
+        let _ = self.subject.text();
+        let _ = self.predicate.text();
+        self.object.known();
+    }
+
     /// An equal triple, which shares the texts.
     pub fn copy(&self) -> Result<Triple, Memory>
         ensures { IfOk result (λ copy. copy ≡ self.now) }

@@ -1,9 +1,22 @@
-use Rattle.fedx.specs.Local.{usage_line, no_memory}
-use Rattle.fedx.proofs.ReportLemmas.{usage_reported, memory_reported}
+use Rattle.fedx.specs.Files.{file_read}
+use Rattle.fedx.specs.Lines.{usage_line, no_memory}
+use Rattle.fedx.proofs.ReportLemmas.{usage_reported, memory_reported, members_reported, members_written, on_first}
 use Rattle.fedx.proofs.running.run.Goals as goal
 
 pub returns-in-Err-Usage-clause-reported : goal.returns-in-Err-Usage-clause-reported
-returns-in-Err-Usage-clause-reported g c = (usage_line, usage_reported _ _ (rw c.in-Err-Usage.field-0-is at c.in-Err-Usage.ensures), c.write_usage.ensures)
+returns-in-Err-Usage-clause-reported g c = λ wire others e. (wire, e, (usage_line, usage_reported _ _ _ _ (rw c.in-Err-Usage.field-0-is at c.in-Err-Usage.ensures), c.write_usage.ensures))
 
 pub returns-in-Err-Memory-clause-reported : goal.returns-in-Err-Memory-clause-reported
-returns-in-Err-Memory-clause-reported g c = (no_memory, memory_reported _ _, c.write_refusal.ensures)
+returns-in-Err-Memory-clause-reported g c = λ wire others e. (wire, e, (no_memory, memory_reported _ _ _ _, c.write_refusal.ensures))
+
+pub returns-in-Ok-Query-clause-reported : goal.returns-in-Ok-Query-clause-reported
+returns-in-Ok-Query-clause-reported g c = on_first _ c.args.wires.now c.index-wires-0.result c.run_query.new.wire (
+  c.run_query.ensures.reported.0,
+  members_reported _ _ _ _ c.in-Ok-Query.registry.now c.in-Ok-Query.query.now _ _ (rw c.in-Ok-Query.field-0-is at c.in-Ok-Query.ensures) c.run_query.ensures.reported.1,
+  c.run_query.ensures.reported.2,
+)
+
+pub returns-in-Ok-Query-clause-written : goal.returns-in-Ok-Query-clause-written
+returns-in-Ok-Query-clause-written g c = on_first _ c.args.wires.now c.index-wires-0.result c.run_query.new.wire (
+    λ told. members_written (file_read g.F.Files.content g.F.Files.faults c.args.files.now c.run_query.new.files) _ _ c.in-Ok-Query.registry.now c.in-Ok-Query.query.now _ _ _ (rw c.in-Ok-Query.field-0-is at c.in-Ok-Query.ensures) (c.run_query.ensures.written told)
+    )

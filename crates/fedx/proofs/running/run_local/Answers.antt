@@ -1,6 +1,7 @@
 use Rattle.std.proofs.Common.{sym, subst}
 use Rattle.fedx.specs.declared.statuses.Status.{Status}
-use Rattle.fedx.specs.Local.{file_read, IsReported}
+use Rattle.fedx.specs.Files.{file_read}
+use Rattle.fedx.specs.Local.{IsReported}
 use Rattle.fedx.specs.LocalSteps.{refusal_line}
 use Rattle.fedx.proofs.ReportLemmas.{reported}
 use Rattle.fedx.proofs.running.run_local.Goals as goal

@@ -6,5 +6,5 @@ use Rattle.fx_results.proofs.documents.row_members.Goals as goal
 pub loop-pair-preserved : goal.loop-pair-preserved
 loop-pair-preserved c =
     c.in_ok-put.ensures.ok
-    ∙ (λ j. put (c.text.ensures j) (c.in_ok-value.ensures j) (c.loop-pair.invariant j))
+    ∙ (λ j. put (c.text.ensures.value j) (c.in_ok-value.ensures j) (c.loop-pair.invariant j))
     ∙ put-row_members-take c.args.row.now c.loop-pair.pair-index c.pair-item.result c.requires c.loop-pair-test.true c.pair-item.is

@@ -16,7 +16,7 @@ returns-then-stood c =
     let rest = drop (i + 1) xs in
     let here : drop i xs ≡ x ∷ rest = drop_more xs i x (omega arith) ∙ ap (λ y. y ∷ rest) (sym c.item-item.is) in
     let stood : is_some c.in_ok-insert.field-0 ≡ true = cc in
-    let stands : is_among done name ≡ true = sym (is_some-found c.loop-item.index done c.in_ok-text.text name c.in_ok-insert.field-0 (c.in_ok-text.ensures.ok ∙ c.text.ensures) c.loop-item.invariant.index c.in_ok-insert.ensures.old) ∙ stood in
+    let stands : is_among done name ≡ true = sym (is_some-found c.loop-item.index done c.in_ok-text.text name c.in_ok-insert.field-0 (c.in_ok-text.ensures.ok ∙ c.text.ensures.value) c.loop-item.invariant.index c.in_ok-insert.ensures.old) ∙ stood in
     let none : columns_of (items_view xs) ≡ None =
     sym c.loop-item.invariant.left
     ∙ ap (λ vs. once_behind done (names_in (items_view vs))) here
@@ -33,7 +33,7 @@ loop-item-preserved c =
     let name = c.in_ok-name.name in
     let rest = drop (i + 1) xs in
     let here : drop i xs ≡ x ∷ rest = drop_more xs i x (omega arith) ∙ ap (λ y. y ∷ rest) (sym c.item-item.is) in
-    let named = c.in_ok-text.ensures.ok ∙ c.text.ensures in
+    let named = c.in_ok-text.ensures.ok ∙ c.text.ensures.value in
     let fresh : is_some c.in_ok-insert.field-0 ≡ false = cc in
     let new : is_among done name ≡ false = sym (is_some-found c.loop-item.index done c.in_ok-text.text name c.in_ok-insert.field-0 named c.loop-item.invariant.index c.in_ok-insert.ensures.old) ∙ fresh in
     let more : c.push.new.self.items ≡ done ++ name ∷ [] = c.in_ok-push.ensures.items in

@@ -1,0 +1,179 @@
+-- What a refusal reports is its cause, for `query`.
+use Rattle.std.proofs.Common.{◌≡◌, ◌∙◌, ap, sym, subst, refl, ℕ, ◌<◌, ◌≤◌, List, [], Option, Some, None, Ok, Err, length, inl, inr, arith}
+use Rattle.std.specs.Prelude.{IfSome, slice_get, Result}
+use Rattle.fx_outside.specs.Endpoints.{EndpointParts}
+use Rattle.fx_outside.specs.Streams.{AppendsFront}
+use Rattle.fx_algebra.specs.declared.queries.Query.{Query}
+use Rattle.fx_syntax.specs.Accepted.{Accepted}
+use Rattle.fx_sources.specs.Registries.{read_registry, AnswersRegistry}
+use Rattle.fx_sources.specs.declared.errors.RegistryError.{RegistryError}
+use Rattle.fx_sources.specs.declared.errors.RegistryError.TheVariants as error
+use Rattle.fx_wire.specs.Exchanges.{Seen}
+use Rattle.fx_engine.specs.Federation.{IsRefused}
+use Rattle.fx_engine.specs.declared.errors.FedError.{FedError}
+use Rattle.fx_engine.specs.declared.errors.FedError.TheVariants as fed
+use Rattle.fedx.specs.declared.limits.TheConstants.{QUERY_LIMIT, REGISTRY_LIMIT}
+use Rattle.fedx.specs.declared.refusals.FileRefusal.{FileRefusal}
+use Rattle.fedx.specs.declared.refusals.FileRefusal.TheVariants as file
+use Rattle.fedx.specs.declared.refusals.RegistryRefusal.{RegistryRefusal}
+use Rattle.fedx.specs.declared.refusals.RegistryRefusal.TheVariants as registry
+use Rattle.fedx.specs.declared.statuses.Status.{Status}
+use Rattle.fedx.specs.declared.statuses.Status.TheVariants as status
+use Rattle.fedx.specs.FedRefusals.{fed_status_of, fed_line, name_at, name_of}
+use Rattle.fedx.specs.Files.{FileRead, IsRegistryFile, IsQuery, IsMember, IsNoRegistry}
+use Rattle.fedx.specs.Lines.{member_failed, bad_reply, request_too_long, no_memory}
+use Rattle.fedx.specs.LocalSteps.{GivesQuery, query_line}
+use Rattle.fedx.specs.Query.{IsUnionDocument, IsUnionAnswer, IsUnionAnswerOf, IsQueryReported, IsQueryWritten}
+use Rattle.fedx.specs.QuerySteps.{GivesRegistry, registry_line, IsAskReported, IsAskWritten}
+use Rattle.fedx.specs.RefusalStatuses.{file_status, registry_status}
+
+-- ---- the registry
+
+-- a text that is refused as a registry
+pub no_registry : (f : FileRead) (bytes text : List ℕ) (e : RegistryError) → IfSome f.content (λ all. (bytes ≡ all) × (length all ≤ REGISTRY_LIMIT)) → text ≡ bytes → AnswersRegistry (Err e) (read_registry text) → GivesRegistry f (Err (registry.Refused e))
+no_registry f bytes text e h same k = by_error e k
+  where
+    told : (e : RegistryError) → read_registry text ≡ Err e → IsNoRegistry f e
+    told e k = pick f.content h
+      where
+        pick : (o : Option (List ℕ)) → IfSome o (λ all. (bytes ≡ all) × (length all ≤ REGISTRY_LIMIT)) → IfSome o (λ all. (length all ≤ REGISTRY_LIMIT) × (read_registry all ≡ Err e))
+        pick None h = tt
+        pick (Some all) h = (h.1, ap read_registry (sym (same ∙ h.0)) ∙ k)
+
+    by_error : (e : RegistryError) → AnswersRegistry (Err e) (read_registry text) → GivesRegistry f (Err (registry.Refused e))
+    by_error (error.Bad n) k = told (error.Bad n) k
+    by_error (error.TooMany n) k = told (error.TooMany n) k
+    by_error (error.RepeatedName n) k = told (error.RepeatedName n) k
+    by_error (error.RepeatedUrl n) k = told (error.RepeatedUrl n) k
+    by_error error.Memory k = tt
+
+pub some_registry : (f : FileRead) (bytes text : List ℕ) (es : List EndpointParts) → IfSome f.content (λ all. (bytes ≡ all) × (length all ≤ REGISTRY_LIMIT)) → text ≡ bytes → read_registry text ≡ Ok es → IfSome f.content (λ all. (length all ≤ REGISTRY_LIMIT) × (read_registry all ≡ Ok es))
+some_registry f bytes text es h same k = pick f.content h
+  where
+    pick : (o : Option (List ℕ)) → IfSome o (λ all. (bytes ≡ all) × (length all ≤ REGISTRY_LIMIT)) → IfSome o (λ all. (length all ≤ REGISTRY_LIMIT) × (read_registry all ≡ Ok es))
+    pick None h = tt
+    pick (Some all) h = (h.1, ap read_registry (sym (same ∙ h.0)) ∙ k)
+
+-- ---- refusals
+
+pub registry_reported : (before after : Seen) (r q : FileRead) (e : RegistryRefusal) → GivesRegistry r (Err e) → IsQueryReported before after r q (registry_status e) (registry_line e r.name)
+registry_reported before after r q registry.Fault h = inl (h, refl)
+registry_reported before after r q registry.TooLong h = inl (h, refl)
+registry_reported before after r q (registry.Refused (error.Bad n)) h = (error.Bad n, h, refl)
+registry_reported before after r q (registry.Refused (error.TooMany n)) h = (error.TooMany n, h, refl)
+registry_reported before after r q (registry.Refused (error.RepeatedName n)) h = (error.RepeatedName n, h, refl)
+registry_reported before after r q (registry.Refused (error.RepeatedUrl n)) h = (error.RepeatedUrl n, h, refl)
+registry_reported before after r q (registry.Refused error.Memory) h = refl
+registry_reported before after r q registry.Memory h = refl
+
+pub registry_written : (before : Seen) (r q : FileRead) (e : RegistryRefusal) (old new : List ℕ) → new ≡ old → IsQueryWritten before r q (registry_status e) old new
+registry_written before r q registry.Fault old new h = h
+registry_written before r q registry.TooLong old new h = h
+registry_written before r q (registry.Refused (error.Bad n)) old new h = h
+registry_written before r q (registry.Refused (error.TooMany n)) old new h = h
+registry_written before r q (registry.Refused (error.RepeatedName n)) old new h = h
+registry_written before r q (registry.Refused (error.RepeatedUrl n)) old new h = h
+registry_written before r q (registry.Refused error.Memory) old new h = h
+registry_written before r q registry.Memory old new h = h
+
+a_registry : (r : FileRead) (es : List EndpointParts) → GivesRegistry r (Ok es) → IsRegistryFile r
+a_registry r es h = pick r.content h
+  where
+    pick : (o : Option (List ℕ)) → IfSome o (λ all. (length all ≤ REGISTRY_LIMIT) × (read_registry all ≡ Ok es)) → IfSome o (λ all. (length all ≤ REGISTRY_LIMIT) × ((es : List EndpointParts) × (read_registry all ≡ Ok es)))
+    pick None h = tt
+    pick (Some all) h = (h.0, (es, h.1))
+
+a_query : (q : FileRead) (asked : Query) → GivesQuery q (Ok asked) → IsQuery q
+a_query q asked h = pick q.content h
+  where
+    pick : (o : Option (List ℕ)) → IfSome o (λ all. (length all ≤ QUERY_LIMIT) × Accepted all asked) → IfSome o (λ all. (length all ≤ QUERY_LIMIT) × ((x : Query) × Accepted all x))
+    pick None h = tt
+    pick (Some all) h = (h.0, (asked, h.1))
+
+a_member : (r : FileRead) (es : List EndpointParts) (e : EndpointParts) (at : ℕ) → GivesRegistry r (Ok es) → slice_get es at ≡ Some e → IsMember r e
+a_member r es e at h k = pick r.content h
+  where
+    pick : (o : Option (List ℕ)) → IfSome o (λ all. (length all ≤ REGISTRY_LIMIT) × (read_registry all ≡ Ok es)) → IfSome o (λ all. (es : List EndpointParts) × (at : ℕ) × (read_registry all ≡ Ok es) × (slice_get es at ≡ Some e))
+    pick None h = tt
+    pick (Some all) h = (es, at, h.1, k)
+
+pub query_reported : (before after : Seen) (r q : FileRead) (es : List EndpointParts) (e : FileRefusal) → GivesRegistry r (Ok es) → GivesQuery q (Err e) → IsQueryReported before after r q (file_status e status.QueryRefused) (query_line e q.name)
+query_reported before after r q es file.Fault g h = inr (a_registry r es g, h, refl)
+query_reported before after r q es file.TooLong g h = inr (a_registry r es g, h, refl)
+query_reported before after r q es file.NotFirst g h = (a_registry r es g, h, refl)
+query_reported before after r q es file.Memory g h = refl
+
+pub query_written : (before : Seen) (r q : FileRead) (e : FileRefusal) (old new : List ℕ) → new ≡ old → IsQueryWritten before r q (file_status e status.QueryRefused) old new
+query_written before r q file.Fault old new h = h
+query_written before r q file.TooLong old new h = h
+query_written before r q file.NotFirst old new h = h
+query_written before r q file.Memory old new h = h
+
+-- what a query's file gave, seen from an earlier call on
+pub query_since : (name : List ℕ) (earlier content : Option (List ℕ)) (first before after : ℕ) (x : Result Query FileRefusal) → content ≡ earlier → first ≤ before → GivesQuery (record { name = name; content = content; before = before; after = after }) x → GivesQuery (record { name = name; content = earlier; before = first; after = after }) x
+query_since name earlier content first before after x same kept h = subst (λ o. GivesQuery (record { name = name; content = o; before = first; after = after }) x) same (earlier_count x h)
+  where
+    earlier_count : (x : Result Query FileRefusal) → GivesQuery (record { name = name; content = content; before = before; after = after }) x → GivesQuery (record { name = name; content = content; before = first; after = after }) x
+    earlier_count (Ok asked) h = h
+    earlier_count (Err file.Fault) h = omega arith
+    earlier_count (Err file.TooLong) h = h
+    earlier_count (Err file.NotFirst) h = h
+    earlier_count (Err file.Memory) h = h
+
+-- ---- the members
+
+named : (es : List EndpointParts) (at : ℕ) (e : EndpointParts) → slice_get es at ≡ Some e → name_at es at ≡ e.name
+named es at e h = ap name_of h
+
+pub fed_reported : (before after : Seen) (es : List EndpointParts) (e : FedError) → IsRefused before after es e → IsAskReported before after es (fed_status_of e) (fed_line es e)
+fed_reported before after es (fed.Member at) h = (h.0, at, h.1, h.2, ap member_failed (named es at h.0 h.1))
+fed_reported before after es (fed.BadReply at) h = (h.0, at, h.1, h.2, ap bad_reply (named es at h.0 h.1))
+fed_reported before after es (fed.RequestTooLong at size) h = (h.0, at, size, h.1, h.2, ap (λ n. request_too_long n size) (named es at h.0 h.1))
+fed_reported before after es fed.Memory h = refl
+
+pub fed_written : (before : Seen) (es : List EndpointParts) (q : Query) (e : FedError) (old new : List ℕ) → new ≡ old → IsAskWritten before es q (fed_status_of e) old new
+fed_written before es q (fed.Member at) old new h = h
+fed_written before es q (fed.BadReply at) old new h = h
+fed_written before es q (fed.RequestTooLong at size) old new h = h
+fed_written before es q fed.Memory old new h = h
+
+-- ---- the whole
+
+pub ask_reported : (before after : Seen) (r q : FileRead) (es : List EndpointParts) (asked : Query) (s : Status) (text : List ℕ) → GivesRegistry r (Ok es) → GivesQuery q (Ok asked) → IsAskReported before after es s text → IsQueryReported before after r q s text
+ask_reported before after r q es asked status.Done text g h k = (a_registry r es g, a_query q asked h, k)
+ask_reported before after r q es asked status.WriteFault text g h k = (a_registry r es g, a_query q asked h, k)
+ask_reported before after r q es asked status.NoMemory text g h k = k
+ask_reported before after r q es asked status.EndpointFault text g h k = (a_query q asked h, (k.0, a_member r es k.0 k.1 g k.2, k.3, k.4))
+ask_reported before after r q es asked status.BadReply text g h k = (a_query q asked h, (k.0, a_member r es k.0 k.1 g k.2, k.3, k.4))
+ask_reported before after r q es asked status.RequestTooLong text g h k = (a_query q asked h, (k.0, k.2, a_member r es k.0 k.1 g k.3, k.4, k.5))
+ask_reported before after r q es asked status.Usage text g h k = absurd k
+ask_reported before after r q es asked status.GraphRefused text g h k = absurd k
+ask_reported before after r q es asked status.RegistryRefused text g h k = absurd k
+ask_reported before after r q es asked status.QueryRefused text g h k = absurd k
+ask_reported before after r q es asked status.ReadFault text g h k = absurd k
+ask_reported before after r q es asked status.FileTooLong text g h k = absurd k
+
+a_union : (before : Seen) (r q : FileRead) (es : List EndpointParts) (asked : Query) (text : List ℕ) → GivesRegistry r (Ok es) → GivesQuery q (Ok asked) → IsUnionDocument before es asked text → IsUnionAnswer before r q text
+a_union before r q es asked text g h k = pick r.content g
+  where
+    both : (all : List ℕ) → read_registry all ≡ Ok es → (o : Option (List ℕ)) → IfSome o (λ query. (length query ≤ QUERY_LIMIT) × Accepted query asked) → IfSome o (λ query. IsUnionAnswerOf before all query text)
+    both all e None h = tt
+    both all e (Some query) h = record { endpoints = es; registered = e; asked = asked; accepted = h.1; document_is = k }
+
+    pick : (o : Option (List ℕ)) → IfSome o (λ all. (length all ≤ REGISTRY_LIMIT) × (read_registry all ≡ Ok es)) → IfSome o (λ all. IfSome q.content (λ query. IsUnionAnswerOf before all query text))
+    pick None g = tt
+    pick (Some all) g = both all g.1 q.content h
+
+pub ask_written : (before : Seen) (r q : FileRead) (es : List EndpointParts) (asked : Query) (s : Status) (old new : List ℕ) → GivesRegistry r (Ok es) → GivesQuery q (Ok asked) → IsAskWritten before es asked s old new → IsQueryWritten before r q s old new
+ask_written before r q es asked status.Done old new g h k = (k.0, a_union before r q es asked k.0 g h k.1, k.2)
+ask_written before r q es asked status.WriteFault old new g h k = (k.0, a_union before r q es asked k.0 g h k.1, k.2)
+ask_written before r q es asked status.NoMemory old new g h k = k
+ask_written before r q es asked status.EndpointFault old new g h k = k
+ask_written before r q es asked status.BadReply old new g h k = k
+ask_written before r q es asked status.RequestTooLong old new g h k = k
+ask_written before r q es asked status.Usage old new g h k = k
+ask_written before r q es asked status.GraphRefused old new g h k = k
+ask_written before r q es asked status.RegistryRefused old new g h k = k
+ask_written before r q es asked status.QueryRefused old new g h k = k
+ask_written before r q es asked status.ReadFault old new g h k = k
+ask_written before r q es asked status.FileTooLong old new g h k = k

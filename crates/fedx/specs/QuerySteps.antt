@@ -1,0 +1,58 @@
+-- What the steps of `fedx query` give. `IsQueryReported` and `IsQueryWritten` say what the whole gives.
+use Rattle.std.specs.Prelude.{◌≡◌, ℕ, ◌<◌, ◌≤◌, List, [], ◌++◌, Result, Ok, Err, IfSome, length, slice_get, Some}
+use Rattle.std.specs.declared.vec.Vec.{Vec}
+use Rattle.std.specs.declared.alloc.Global.{Global}
+use Rattle.fx_outside.specs.Endpoints.{EndpointParts}
+use Rattle.fx_outside.specs.Streams.{AppendsFront}
+use Rattle.fx_algebra.specs.declared.queries.Query.{Query}
+use Rattle.fx_sources.specs.Registries.{read_registry}
+use Rattle.fx_sources.specs.declared.errors.RegistryError.TheVariants as error
+use Rattle.fx_wire.specs.Exchanges.{Seen}
+use Rattle.fx_engine.specs.Federation.{IsRefused}
+use Rattle.fx_engine.specs.Federation as member
+use Rattle.fx_engine.specs.declared.errors.FedError.{FedError}
+use Rattle.fedx.specs.declared.limits.TheConstants.{REGISTRY_LIMIT}
+use Rattle.fedx.specs.declared.refusals.RegistryRefusal.{RegistryRefusal}
+use Rattle.fedx.specs.declared.refusals.RegistryRefusal.TheVariants as refusal
+use Rattle.fedx.specs.declared.statuses.Status.{Status}
+use Rattle.fedx.specs.declared.statuses.Status.TheVariants as status
+use Rattle.fedx.specs.Files.{FileRead, HasFailed, IsTooLong, IsNoRegistry}
+use Rattle.fedx.specs.Lines.{cannot_read, registry_too_long, registry_refused, member_failed, bad_reply, request_too_long, no_memory}
+use Rattle.fedx.specs.Query.{IsUnionDocument}
+
+-- the registry of a file, or why there is none
+abbrev pub GivesRegistry : FileRead → Result (List EndpointParts) RegistryRefusal → Type 0
+GivesRegistry f (Ok es) = IfSome f.content (λ all. (length all ≤ REGISTRY_LIMIT) × (read_registry all ≡ Ok es))
+GivesRegistry f (Err refusal.Fault) = HasFailed f
+GivesRegistry f (Err refusal.TooLong) = IsTooLong REGISTRY_LIMIT f
+GivesRegistry f (Err (refusal.Refused error.Memory)) = Unit {0}
+GivesRegistry f (Err (refusal.Refused e)) = IsNoRegistry f e
+GivesRegistry f (Err refusal.Memory) = Unit {0}
+
+-- the line of a refusal, by the name of the registry's file
+abbrev pub registry_line : RegistryRefusal → List ℕ → List ℕ
+registry_line refusal.Fault name = cannot_read name
+registry_line refusal.TooLong name = registry_too_long name
+registry_line (refusal.Refused e) name = registry_refused e
+registry_line refusal.Memory name = no_memory
+
+-- the document of the answer over the union, or the cause
+abbrev pub GivesUnionDocument : Seen → Seen → List EndpointParts → Query → Result (Vec ℕ Global) FedError → Type 0
+GivesUnionDocument before after endpoints q (Ok text) = IsUnionDocument before endpoints q text.items
+GivesUnionDocument before after endpoints q (Err e) = IsRefused before after endpoints e
+
+-- what asking the members reports
+abbrev pub IsAskReported : Seen → Seen → List EndpointParts → Status → List ℕ → Type 0
+IsAskReported before after endpoints status.Done text = text ≡ []
+IsAskReported before after endpoints status.WriteFault text = text ≡ []
+IsAskReported before after endpoints status.NoMemory text = text ≡ no_memory
+IsAskReported before after endpoints status.EndpointFault text = (e : EndpointParts) × (at : ℕ) × (slice_get endpoints at ≡ Some e) × member.HasFailed before after e × (text ≡ member_failed e.name)
+IsAskReported before after endpoints status.BadReply text = (e : EndpointParts) × (at : ℕ) × (slice_get endpoints at ≡ Some e) × member.HasBadReply before after e × (text ≡ bad_reply e.name)
+IsAskReported before after endpoints status.RequestTooLong text = (e : EndpointParts) × (at : ℕ) × (size : ℕ) × (slice_get endpoints at ≡ Some e) × (67108864 < size) × (text ≡ request_too_long e.name size)
+IsAskReported before after endpoints s text = ⊥
+
+-- what asking the members leaves on standard output
+abbrev pub IsAskWritten : Seen → List EndpointParts → Query → Status → List ℕ → List ℕ → Type 0
+IsAskWritten before endpoints q status.Done old new = (text : List ℕ) × IsUnionDocument before endpoints q text × (new ≡ old ++ text)
+IsAskWritten before endpoints q status.WriteFault old new = (text : List ℕ) × IsUnionDocument before endpoints q text × AppendsFront old new text
+IsAskWritten before endpoints q s old new = new ≡ old

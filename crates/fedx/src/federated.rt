@@ -1,0 +1,105 @@
+//! The command `query`.
+ghost use Rattle.std.specs.Prelude.{◌≡◌, ◌≤◌, true, All, IsTrue, List, ℕ};
+ghost use Rattle.fx_outside.specs.Endpoints.{is_sendable};
+ghost use Rattle.fx_outside.specs.Faults.{HasRisen};
+ghost use Rattle.fx_syntax.specs.Accepted.{IsSpellable};
+ghost use Rattle.fx_wire.specs.Exchanges.{IsAfter, seen};
+ghost use Rattle.fedx.specs.Files.{file_read};
+ghost use Rattle.fedx.specs.Lines.{Gains};
+ghost use Rattle.fedx.specs.Query.{IsQueryReported, IsQueryWritten};
+ghost use Rattle.fedx.specs.QuerySteps.{GivesUnionDocument, IsAskReported, IsAskWritten};
+
+use crate::loading::{load_query, load_registry};
+use crate::refusals::fed_status;
+use crate::reports::{write_fed_error, write_query_refusal, write_registry_refusal};
+use crate::statuses::Status;
+use fx_algebra::Query;
+use fx_engine::{FedError, federate};
+use fx_outside::{Endpoint, Files, Sink, write_all};
+use fx_results::write;
+use fx_wire::Wire;
+use std::alloc::Global;
+
+/// Answers the query of a file over the members of the registry of a file, and writes the document on `out`, or the line of
+/// the refusal on `err`. The registry's file is read first.
+pub fn run_query<F: Files, W: Wire, O: Sink, E: Sink>(
+    alloc: Global,
+    files: &mut F,
+    wire: &mut W,
+    registry: &str,
+    query: &str,
+    out: &mut O,
+    err: &mut E,
+) -> Status
+    ensures reported { (text : List ℕ) × IsQueryReported (seen W.tells_log W.log W.graph W.faults wire.old) (seen W.tells_log W.log W.graph W.faults wire.new) (file_read F.content F.faults files.old files.new registry.now) (file_read F.content F.faults files.old files.new query.now) result text × (IsTrue E.tells_held → Gains (E.held err.old) (E.held err.new) (E.write_faults err.old) (E.write_faults err.new) text) }
+    ensures written { IsTrue O.tells_held → IsQueryWritten (seen W.tells_log W.log W.graph W.faults wire.old) (file_read F.content F.faults files.old files.new registry.now) (file_read F.content F.faults files.old files.new query.now) result (O.held out.old) (O.held out.new) }
+    ensures wired { IsAfter (seen W.tells_log W.log W.graph W.faults wire.old) (seen W.tells_log W.log W.graph W.faults wire.new) }
+    ensures write_fault { result ≡ Status.WriteFault → HasRisen (O.write_faults out.old) (O.write_faults out.new) }
+    ensures unfailed { ¬ (result ≡ Status.WriteFault) → O.write_faults out.new ≡ O.write_faults out.old }
+    ensures kept { (name : List ℕ) → F.faults files.old name ≤ F.faults files.new name }
+    ensures same { (name : List ℕ) → F.content files.new name ≡ F.content files.old name }
+{
+    match load_registry(alloc, files, registry) {
+        Err(refusal) => {
+            write_registry_refusal(err, refusal, registry);
+            refusal.status()
+        }
+        Ok(members) => match load_query(alloc, files, query) {
+            Err(refusal) => {
+                write_query_refusal(err, refusal, query);
+                refusal.status(Status::QueryRefused)
+            }
+            Ok(asked) => ask_members(alloc, members.endpoints(), &asked, wire, out, err),
+        },
+    }
+}
+
+// Answers a query over endpoints, and writes the document, or the line of the refusal.
+fn ask_members<W: Wire, O: Sink, E: Sink>(
+    alloc: Global,
+    endpoints: &[Endpoint],
+    query: &Query,
+    wire: &mut W,
+    out: &mut O,
+    err: &mut E,
+) -> Status
+    requires spellable { IsSpellable query.now }
+    requires sendable { All (λ e. is_sendable e ≡ true) endpoints.now }
+    ensures reported { (text : List ℕ) × IsAskReported (seen W.tells_log W.log W.graph W.faults wire.old) (seen W.tells_log W.log W.graph W.faults wire.new) endpoints.now result text × (IsTrue E.tells_held → Gains (E.held err.old) (E.held err.new) (E.write_faults err.old) (E.write_faults err.new) text) }
+    ensures written { IsTrue O.tells_held → IsAskWritten (seen W.tells_log W.log W.graph W.faults wire.old) endpoints.now query.now result (O.held out.old) (O.held out.new) }
+    ensures wired { IsAfter (seen W.tells_log W.log W.graph W.faults wire.old) (seen W.tells_log W.log W.graph W.faults wire.new) }
+    ensures write_fault { result ≡ Status.WriteFault → HasRisen (O.write_faults out.old) (O.write_faults out.new) }
+    ensures unfailed { ¬ (result ≡ Status.WriteFault) → O.write_faults out.new ≡ O.write_faults out.old }
+{
+    match union_document(alloc, endpoints, query, wire) {
+        Ok(text) => match write_all(out, text.as_slice()) {
+            Ok(()) => Status::Done,
+            Err(_) => Status::WriteFault,
+        },
+        Err(error) => {
+            write_fed_error(err, endpoints, error);
+            fed_status(error)
+        }
+    }
+}
+
+// The document of a query's answer over the union of the endpoints' graphs.
+fn union_document<W: Wire>(
+    alloc: Global,
+    endpoints: &[Endpoint],
+    query: &Query,
+    wire: &mut W,
+) -> Result<Vec<u8>, FedError>
+    requires spellable { IsSpellable query.now }
+    requires sendable { All (λ e. is_sendable e ≡ true) endpoints.now }
+    ensures document { GivesUnionDocument (seen W.tells_log W.log W.graph W.faults wire.old) (seen W.tells_log W.log W.graph W.faults wire.new) endpoints.now query.now result }
+    ensures wired { IsAfter (seen W.tells_log W.log W.graph W.faults wire.old) (seen W.tells_log W.log W.graph W.faults wire.new) }
+{
+    match federate(alloc, query, endpoints, wire) {
+        Err(error) => Err(error),
+        Ok(answer) => match write(alloc, &answer) {
+            Ok(text) => Ok(text),
+            Err(_) => Err(FedError::Memory),
+        },
+    }
+}

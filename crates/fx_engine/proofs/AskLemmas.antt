@@ -1,0 +1,181 @@
+-- What the reply to a pattern's query gives.
+use Rattle.std.proofs.Common.{◌≡◌, ◌∙◌, ap, sym, subst, refl, ℕ, ◌<◌, ◌≤◌, Bool, true, false, ◌++◌, List, [], ◌∷◌, map, filter, length, ltb, cond, Option, Some, None, Ok, Err, IsTrue, IsPermutation, arith, is_some, ◌||◌}
+use Rattle.std.specs.Prelude.{IfSome, Contains, ◌⊎◌, T}
+use Rattle.std.proofs.Common.{inl, inr, ltb-true, ltb-false}
+use Rattle.std.specs.Prelude.{Result}
+use Rattle.fx_results.specs.declared.faults.ResultsError.{ResultsError}
+use Rattle.std.specs.Ordering.{is_eq}
+use Rattle.std.specs.List.{list_any, AllByRecursion}
+use Rattle.std.proofs.lemmas.Cmp.{tied_itself}
+use Rattle.std.proofs.lemmas.List.Sorted.{IsPermutation-refl, IsPermutation-sym, IsPermutation-cons, IsPermutation-trans, IsPermutation-middle, list_any-IsPermutation}
+use Rattle.std.specs.declared.cmp.Ordering.{Ordering}
+use Rattle.std.specs.Ordering.{is_le}
+use Rattle.std.specs.FinMap.Entries.{below_all}
+use Rattle.fx_terms.specs.Graphs.{IsGraph}
+use Rattle.fx_terms.specs.Texts.{text_cmp, texts_total}
+use Rattle.fx_terms.specs.declared.terms.Term.{Term}
+use Rattle.fx_terms.specs.declared.triples.Triple.{Triple}
+use Rattle.fx_terms.specs.declared.patterns.Pattern.{Pattern}
+use Rattle.fx_terms.proofs.SetLemmas.{Among, among_from, contains_from}
+use Rattle.fx_outside.specs.Endpoints.{EndpointParts}
+use Rattle.fx_algebra.specs.Answers.{answer, patterns_of}
+use Rattle.fx_algebra.specs.BasicGraphPatterns.{bgp, variables, IsSolutionOf}
+use Rattle.fx_algebra.specs.Scopes.{is_among, pattern_names, once}
+use Rattle.fx_algebra.specs.Sequences.{projected, ordered, sorted_by, insert_by, row_cmp}
+use Rattle.fx_algebra.specs.Solutions.{Bindings, term_of, SameRows}
+use Rattle.fx_algebra.specs.declared.answers.Answer.{Answer}
+use Rattle.fx_algebra.specs.declared.answers.Answer.TheVariants.{Table, Truth}
+use Rattle.fx_algebra.proofs.BgpLemmas.{solution_of}
+use Rattle.fx_http.specs.Requests.{IsRequest, request_of}
+use Rattle.fx_http.specs.Replies.{IsReply, Replies}
+use Rattle.fx_http.proofs.ReplyLaws.{reply_unique}
+use Rattle.fx_results.specs.Reading.{read_results}
+use Rattle.fx_results.specs.Meanings.{Denotes, SameAnswer}
+use Rattle.fx_syntax.specs.Accepted.{Accepted}
+use Rattle.fx_syntax.specs.FirstForm.{plain_query, group_of}
+use Rattle.fx_wire.specs.Exchanges.{Exchange, exchanged}
+use Rattle.fx_wire.specs.Honest.{IsHonest}
+use Rattle.fx_engine.specs.MemberQueries.{columns_of, query_of, IsAsked}
+use Rattle.fx_engine.specs.Tables.{SameNames, HasTable, ReadsTable}
+use Rattle.fx_engine.specs.Federation.{IsBadExchange}
+use Rattle.fx_engine.proofs.NameLemmas.{among_once}
+use Rattle.fx_engine.proofs.SpelledLemmas.{patterns_are}
+
+-- ---- rows in order are the rows
+
+insert_moves : {X : Type 0} (R : X → X → Ordering) (x : X) (ys : List X) → IsPermutation (x ∷ ys) (insert_by R x ys)
+unfolding insert_by
+insert_moves R x [] = IsPermutation-refl (x ∷ [])
+insert_moves R x (y ∷ ys) = pick (is_le (R x y)) (insert_moves R x ys)
+  where
+    pick : (b : Bool) → IsPermutation (x ∷ ys) (insert_by R x ys) → IsPermutation (x ∷ y ∷ ys) (cond b (x ∷ y ∷ ys) (y ∷ insert_by R x ys))
+    pick true rest = IsPermutation-refl (x ∷ y ∷ ys)
+    pick false rest =
+        IsPermutation-trans (x ∷ y ∷ ys) (y ∷ x ∷ ys) (y ∷ insert_by R x ys)
+        (IsPermutation-sym (y ∷ x ∷ ys) (x ∷ y ∷ ys) (IsPermutation-middle (y ∷ []) x ys))
+        (IsPermutation-cons y (x ∷ ys) (insert_by R x ys) rest)
+
+sorted_moves : {X : Type 0} (R : X → X → Ordering) (xs : List X) → IsPermutation xs (sorted_by R xs)
+unfolding sorted_by
+sorted_moves R [] = IsPermutation-refl []
+sorted_moves R (x ∷ xs) =
+    IsPermutation-trans (x ∷ xs) (x ∷ sorted_by R xs) (insert_by R x (sorted_by R xs))
+    (IsPermutation-cons x xs (sorted_by R xs) (sorted_moves R xs))
+    (insert_moves R x (sorted_by R xs))
+
+-- ---- a pattern's rows bind its columns alone, so projecting them changes nothing
+
+found_some : (es : Bindings) (e : List ℕ × Term) → Among e es → is_some (term_of es e.0) ≡ true
+found_some [] e m = absurd m
+found_some (f ∷ fs) e m = pick (is_eq (text_cmp e.0 f.0)) refl m (found_some fs e)
+  where
+    pick : (b : Bool) → is_eq (text_cmp e.0 f.0) ≡ b → Among e (f ∷ fs) → (Among e fs → is_some (term_of fs e.0) ≡ true) → is_some (cond b (Some f.1) (term_of fs e.0)) ≡ true
+    pick true g m later = refl
+    pick false g (inl k) later = let tied : is_eq (text_cmp e.0 f.0) ≡ true = ap (λ (n : List ℕ). is_eq (text_cmp e.0 n)) (ap (λ (x : List ℕ × Term). x.0) k) ∙ ap is_eq (tied_itself texts_total e.0) in absurd (cc)
+    pick false g (inr k) later = later k
+
+keeps_all : {X : Type 0} (p : X → Bool) (xs : List X) → ((x : X) → Among x xs → p x ≡ true) → filter p xs ≡ xs
+keeps_all p [] h = refl
+keeps_all p (x ∷ xs) h = ap (λ b. cond b (x ∷ filter p xs) (filter p xs)) (h x (inl refl)) ∙ ap (λ v. x ∷ v) (keeps_all p xs (λ y m. h y (inr m)))
+
+append_nothing : (names : List (List ℕ)) (name : List ℕ) → is_among (names ++ []) name ≡ is_among names name
+append_nothing [] name = refl
+append_nothing (n ∷ ns) name = ap (λ b. is_eq (text_cmp n name) || b) (append_nothing ns name)
+
+projected_row : (graph : List Triple) (p : Pattern) (s : Bindings) → Among s (bgp graph (p ∷ [])) → projected (columns_of p) s ≡ s
+projected_row graph p s m =
+    let h = solution_of graph (p ∷ []) s (contains_from (bgp graph (p ∷ [])) s m) in
+    keeps_all (λ e. is_among (columns_of p) e.0) s
+    (λ e k. among_once (pattern_names p) e.0 ∙ sym (append_nothing (pattern_names p) e.0) ∙ sym (h.binds e.0) ∙ found_some s e k)
+
+map_same : {X : Type 0} (f : X → X) (xs : List X) → ((x : X) → Among x xs → f x ≡ x) → map f xs ≡ xs
+map_same f [] h = refl
+map_same f (x ∷ xs) h = let here : f x ≡ x = h x (inl refl) in let rest : map f xs ≡ xs = map_same f xs (λ y m. h y (inr m)) in λ i. here i ∷ rest i
+
+ordered_rows : (graph : List Triple) (p : Pattern) → IsPermutation (bgp graph (p ∷ [])) (ordered (columns_of p) (bgp graph (p ∷ [])))
+ordered_rows graph p =
+    let rows = bgp graph (p ∷ []) in
+    let same : map (projected (columns_of p)) rows ≡ rows = map_same (projected (columns_of p)) rows (projected_row graph p) in
+    subst (λ (v : List Bindings). IsPermutation rows (sorted_by (row_cmp (columns_of p)) v)) (sym same) (sorted_moves (row_cmp (columns_of p)) rows)
+
+-- ---- an honest reply
+
+-- the answer of a pattern's query
+answer_is : (graph : List Triple) (p : Pattern) → answer (query_of p) graph ≡ Table (columns_of p) (ordered (columns_of p) (bgp graph (p ∷ [])))
+answer_is graph p = ap (λ ps. Table (columns_of p) (ordered (columns_of p) (bgp graph ps))) (patterns_are (p ∷ []))
+
+-- what an honest reply is read as
+pub record Told (reply : List ℕ) (graph : List Triple) (p : Pattern) : Type 0 where
+  pub rows : List Bindings
+  pub body : List ℕ
+  pub replied : IsReply reply body
+  pub table : HasTable body (columns_of p) rows
+  pub same : SameRows rows (bgp graph (p ∷ []))
+
+same_names_of : (names others : List (List ℕ)) → IsPermutation names others → SameNames names others
+same_names_of names others h = λ name. list_any-IsPermutation (λ n. is_eq (text_cmp n name)) names others h
+
+told_table : (reply body : List ℕ) (graph : List Triple) (p : Pattern) (told : Answer) → IsReply reply body → read_results body ≡ Ok told → SameAnswer told (Table (columns_of p) (ordered (columns_of p) (bgp graph (p ∷ [])))) → Told reply graph p
+told_table reply body graph p (Truth truth) h r s = absurd s
+told_table reply body graph p (Table names rows) h r s = record {
+  rows = rows;
+  body = body;
+  replied = h;
+  table = record { told = names; read = r; same = same_names_of names (columns_of p) s.0 };
+  same = IsPermutation-trans rows (ordered (columns_of p) (bgp graph (p ∷ []))) (bgp graph (p ∷ [])) s.1 (IsPermutation-sym _ _ (ordered_rows graph p));
+}
+
+pub honest_told : (request text reply : List ℕ) (graph : List Triple) (p : Pattern) → IsHonest graph request reply → IsRequest request text → length text ≤ 67108864 → Accepted text (query_of p) → Told reply graph p
+honest_told request text reply graph p h r l a =
+    let x = h text (query_of p) r l a in
+    told_table reply x.body graph p x.denotes.told x.replied x.denotes.read (subst (SameAnswer x.denotes.told) (answer_is graph p) x.denotes.same)
+
+equal_tables : (r : Result Answer ResultsError) (names others : List (List ℕ)) (rows more : List Bindings) → r ≡ Ok (Table names rows) → r ≡ Ok (Table others more) → rows ≡ more
+equal_tables r names others rows more e f = cc
+
+-- the graph, where it is told, and what is known of the reply then
+abbrev pub IsToldHonest : Option (List Triple) → List ℕ → List ℕ → Type 0
+IsToldHonest graph request reply = IfSome graph (λ told. IsGraph told × (length reply ≤ 67108864 → IsHonest told request reply))
+
+at_graph : (o : Option (List Triple)) (graph : List Triple) (request reply : List ℕ) → o ≡ Some graph → IsToldHonest o request reply → length reply ≤ 67108864 → IsHonest graph request reply
+at_graph o graph request reply e h = let at : IsToldHonest (Some graph) request reply = subst (λ (v : Option (List Triple)). IsToldHonest v request reply) e h in at.1
+
+-- the rows that are read are the pattern's over the graph
+pub rows_are : (o : Option (List Triple)) (request text reply : List ℕ) (columns : List (List ℕ)) (rows : List Bindings) → IsToldHonest o request reply → IsRequest request text → length text ≤ 67108864 → ReadsTable reply columns rows
+    → (p : Pattern) (graph : List Triple) → IsAsked p columns text → o ≡ Some graph → SameRows rows (bgp graph (p ∷ []))
+rows_are o request text reply columns rows h r l t p graph a e =
+    let x = honest_told request text reply graph p (at_graph o graph request reply e h t.replied.0) r l a.accepted in
+    let body : x.body ≡ t.body = reply_unique reply x.body t.body x.replied t.replied.1 in
+    let same : x.rows ≡ rows = equal_tables (read_results x.body) x.table.told t.table.told x.rows rows x.table.read (ap read_results body ∙ t.table.read) in
+    subst (λ (v : List Bindings). SameRows v (bgp graph (p ∷ []))) same x.same
+
+long_or_short : (n : ℕ) (b : Bool) → ltb 67108864 n ≡ b → (67108864 < n) ⊎ (n ≤ 67108864)
+long_or_short n true h = inl (ltb-true 67108864 n h)
+long_or_short n false h = inr (ltb-false 67108864 n h)
+
+too_long : (o : Option (List Triple)) (request text reply : List ℕ) (columns : List (List ℕ)) (p : Pattern) → IsToldHonest o request reply → IsRequest request text → length text ≤ 67108864 → IsAsked p columns text
+    → ((rows : List Bindings) → ReadsTable reply columns rows → ⊥) → IfSome o (λ _. 67108864 < length reply)
+too_long None request text reply columns p h r l a unread = tt
+too_long (Some graph) request text reply columns p h r l a unread = pick (long_or_short (length reply) (ltb 67108864 (length reply)) refl)
+  where
+    short : length reply ≤ 67108864 → ⊥
+    short s =
+        let x = honest_told request text reply graph p (h.1 s) r l a.accepted in
+        unread x.rows (record { body = x.body; replied = (s, x.replied); table = record { told = x.table.told; read = x.table.read; same = λ name. x.table.same name ∙ ap (λ c. is_among c name) (sym a.named) } })
+
+    pick : (67108864 < length reply) ⊎ (length reply ≤ 67108864) → 67108864 < length reply
+    pick (inl k) = k
+    pick (inr k) = absurd (short k)
+
+-- a reply that isn't read as a table of the columns
+pub bad_exchange : (o : Option (List Triple)) (at : EndpointParts) (request text reply : List ℕ) (columns : List (List ℕ)) (p : Pattern) → IsToldHonest o request reply → IsRequest request text → request ≡ request_of at text → length text ≤ 67108864 → IsAsked p columns text
+    → ((rows : List Bindings) → ReadsTable reply columns rows → ⊥) → IsBadExchange o (exchanged at request reply)
+bad_exchange o at request text reply columns p h r e l a unread = record {
+  text = text;
+  columns = columns;
+  patterns = p ∷ [];
+  requested = e;
+  accepted = subst (λ (c : List (List ℕ)). Accepted text (plain_query c (p ∷ []))) (sym a.named) a.accepted;
+  unread = unread;
+  long = too_long o request text reply columns p h r l a unread;
+}

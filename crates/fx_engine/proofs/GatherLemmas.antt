@@ -1,0 +1,128 @@
+-- The rows of all endpoints, one endpoint after another.
+use Rattle.std.proofs.Common.{◌≡◌, ◌∙◌, ap, sym, subst, refl, ℕ, ◌<◌, ◌≤◌, ◌+◌, zero, suc, List, [], ◌∷◌, ◌++◌, length, take, get_or, Option, Some, None, Err, IsTrue, inl, inr, arith, append_assoc, append-nil}
+use Rattle.std.specs.Prelude.{Contains, ◌⊎◌, reverse, slice_get, IsPermutation}
+use Rattle.std.specs.List.{AllByRecursion}
+use Rattle.std.proofs.lemmas.Option.{slice_get_read}
+use Rattle.std.proofs.lemmas.List.Sorted.{Contains-permutation, IsPermutation-sym, IsPermutation-reverse}
+use Rattle.fx_terms.specs.Graphs.{union, set_of}
+use Rattle.fx_terms.specs.declared.triples.Triple.{Triple}
+use Rattle.fx_terms.specs.declared.patterns.Pattern.{Pattern}
+use Rattle.fx_terms.proofs.SetLemmas.{Among, among_from, contains_from}
+use Rattle.fx_outside.specs.Endpoints.{EndpointParts}
+use Rattle.fx_algebra.specs.BasicGraphPatterns.{bgp}
+use Rattle.fx_algebra.specs.Solutions.{Bindings, SameRows, solution_cmp}
+use Rattle.fx_algebra.proofs.MemberLemmas.{among_left, among_right, among_cases}
+use Rattle.fx_algebra.proofs.UnionLemmas.{rows_of_union}
+use Rattle.fx_wire.specs.Exchanges.{Exchange, Seen, IsAfter}
+use Rattle.fx_engine.specs.Federation.{Tells, AreRowsOf, IsBadExchange, HasFailed, HasBadReply, At, IsRefused, GivesRows}
+use Rattle.fx_engine.specs.Refusals.{refusal_at}
+use Rattle.fx_engine.specs.declared.errors.AskError.{AskError}
+use Rattle.fx_engine.specs.declared.errors.AskError.TheVariants as ask
+use Rattle.fx_engine.specs.declared.errors.FedError.{FedError}
+use Rattle.fx_engine.specs.declared.errors.FedError.TheVariants as fed
+
+-- ---- one thing after another on a wire
+
+pub after_itself : (s : Seen) → IsAfter s s
+after_itself s = record { logged = λ h. ([], sym (append-nil s.log)); same = λ a. refl; kept = λ a. omega arith }
+
+pub after_both : (s t u : Seen) → s.tells_log ≡ t.tells_log → IsAfter s t → IsAfter t u → IsAfter s u
+after_both s t u e h k = record {
+  logged = λ told.
+      let a = h.logged told in
+      let b = k.logged (subst IsTrue e told) in
+      (a.0 ++ b.0, b.1 ∙ ap (λ v. v ++ b.0) a.1 ∙ append_assoc s.log a.0 b.0);
+  same = λ a. k.same a ∙ h.same a;
+  kept = λ a. omega (arith, h.kept a, k.kept a);
+}
+
+bad_later : (s t u : Seen) (e : EndpointParts) → s.tells_log ≡ t.tells_log → IsAfter s t → HasBadReply t u e → HasBadReply s u e
+bad_later s t u e same h k = record {
+  exchange = k.exchange;
+  at = k.at;
+  bad = subst (λ (g : Option (List Triple)). IsBadExchange g k.exchange) (h.same e.iri) k.bad;
+  logged = λ told.
+      let a = h.logged told in
+      let b = k.logged (subst IsTrue same told) in
+      (a.0 ++ b.0, b.1 ∙ ap (λ v. v ++ (b.0 ++ k.exchange ∷ [])) a.1 ∙ append_assoc s.log a.0 (b.0 ++ k.exchange ∷ []) ∙ ap (λ v. s.log ++ v) (sym (append_assoc a.0 b.0 (k.exchange ∷ []))));
+}
+
+-- a refusal after other exchanges is a refusal of all
+pub refused_later : (s t u : Seen) (es : List EndpointParts) (r : FedError) → s.tells_log ≡ t.tells_log → IsAfter s t → IsRefused t u es r → IsRefused s u es r
+refused_later s t u es (fed.Member at) same h k = (k.0, k.1, omega (arith, h.kept k.0.iri, k.2))
+refused_later s t u es (fed.BadReply at) same h k = (k.0, k.1, bad_later s t u k.0 same h k.2)
+refused_later s t u es (fed.RequestTooLong at size) same h k = k
+refused_later s t u es fed.Memory same h k = tt
+
+-- ---- the endpoints in front
+
+tells_front : (graph : List ℕ → Option (List Triple)) (es : List EndpointParts) (e : EndpointParts) (gs : List (List Triple)) → Tells graph (es ++ e ∷ []) gs
+    → (front : List (List Triple)) × (last : List Triple) × (gs ≡ front ++ last ∷ []) × Tells graph es front × (graph e.iri ≡ Some last)
+tells_front graph [] e [] h = absurd h
+tells_front graph [] e (g ∷ []) h = ([], g, refl, tt, h.0)
+tells_front graph [] e (g ∷ k ∷ gs) h = absurd h.1
+tells_front graph (d ∷ es) e [] h = absurd h
+tells_front graph (d ∷ es) e (g ∷ gs) h =
+    let r = tells_front graph es e gs h.1 in
+    (g ∷ r.0, r.1, ap (λ v. g ∷ v) r.2, (h.0, r.3), r.4)
+
+-- ---- the rows of one more graph
+
+among_reversed : (s : Bindings) (rows : List Bindings) → Among s rows → Among s (reverse rows)
+among_reversed s rows m = among_from (reverse rows) s (Contains-permutation rows (reverse rows) s (IsPermutation-reverse rows) (contains_from rows s m))
+
+among_from_reversed : (s : Bindings) (rows : List Bindings) → Among s (reverse rows) → Among s rows
+among_from_reversed s rows m = among_from rows s (Contains-permutation (reverse rows) rows s (IsPermutation-sym rows (reverse rows) (IsPermutation-reverse rows)) (contains_from (reverse rows) s m))
+
+pub more_rows : (front : List (List Triple)) (g : List Triple) (p : Pattern) (all rows : List Bindings) → AreRowsOf front p all → SameRows rows (bgp g (p ∷ [])) → AreRowsOf (front ++ g ∷ []) p (all ++ reverse rows)
+more_rows front g p all rows h k =
+    let own = bgp g (p ∷ []) in
+    record {
+      only = λ s m. old_or_new s (among_cases s all (reverse rows) (among_from (all ++ reverse rows) s m));
+      all = λ s graph m n. by_graph s graph (among_cases graph front (g ∷ []) (among_from (front ++ g ∷ []) graph m)) n;
+    }
+  where
+    old_or_new : (s : Bindings) → Among s all ⊎ Among s (reverse rows) → (graph : List Triple) × Contains (front ++ g ∷ []) graph × Contains (bgp graph (p ∷ [])) s
+    old_or_new s (inl m) = let x = h.only s (contains_from all s m) in (x.0, contains_from (front ++ g ∷ []) x.0 (among_left x.0 front (g ∷ []) (among_from front x.0 x.1)), x.2)
+    old_or_new s (inr m) = (g, contains_from (front ++ g ∷ []) g (among_right g front (g ∷ []) (inl refl)), Contains-permutation rows (bgp g (p ∷ [])) s k (contains_from rows s (among_from_reversed s rows m)))
+
+    by_graph : (s : Bindings) (graph : List Triple) → Among graph front ⊎ Among graph (g ∷ []) → Contains (bgp graph (p ∷ [])) s → Contains (all ++ reverse rows) s
+    by_graph s graph (inl m) n = contains_from (all ++ reverse rows) s (among_left s all (reverse rows) (among_from all s (h.all s graph (contains_from front graph m) n)))
+    by_graph s graph (inr (inl e)) n =
+        let own : Contains (bgp g (p ∷ [])) s = subst (λ (v : List Triple). Contains (bgp v (p ∷ [])) s) (sym e) n in
+        contains_from (all ++ reverse rows) s (among_right s all (reverse rows) (among_reversed s rows (among_from rows s (Contains-permutation (bgp g (p ∷ [])) rows s (IsPermutation-sym rows (bgp g (p ∷ [])) k) own))))
+    by_graph s graph (inr (inr m)) n = absurd m
+
+pub no_rows : (p : Pattern) → AreRowsOf [] p []
+no_rows p = record { only = λ s m. absurd (among_from [] s m); all = λ s g m n. absurd (among_from [] g m) }
+
+pub rows_step : (graph : List ℕ → Option (List Triple)) (es : List EndpointParts) (e : EndpointParts) (p : Pattern) (all rows : List Bindings)
+    → ((gs : List (List Triple)) → Tells graph es gs → AreRowsOf gs p all)
+    → ((g : List Triple) → graph e.iri ≡ Some g → SameRows rows (bgp g (p ∷ [])))
+    → (gs : List (List Triple)) → Tells graph (es ++ e ∷ []) gs → AreRowsOf gs p (all ++ reverse rows)
+rows_step graph es e p all rows h k gs t =
+    let f = tells_front graph es e gs t in
+    subst (λ (v : List (List Triple)). AreRowsOf v p (all ++ reverse rows)) (sym f.2) (more_rows f.0 f.1 p all rows (h f.0 f.3) (k f.1 f.4))
+
+-- ---- the rows of the union
+
+pub gathered : (graphs : List (List Triple)) (p : Pattern) (rows all : List Bindings) → AreRowsOf graphs p rows → all ≡ set_of solution_cmp rows → SameRows (bgp (union graphs) (p ∷ [])) all
+gathered graphs p rows all h e =
+    subst (λ (v : List Bindings). SameRows (bgp (union graphs) (p ∷ [])) v) (sym e)
+    (rows_of_union graphs p rows
+    (λ s m. let x = h.only s (contains_from rows s m) in (x.0, among_from graphs x.0 x.1, among_from (bgp x.0 (p ∷ [])) s x.2))
+    (λ s graph m n. among_from rows s (h.all s graph (contains_from graphs graph m) (contains_from (bgp graph (p ∷ [])) s n))))
+
+-- the refusal of one endpoint, by its number
+pub refused_at : (t u : Seen) (es : List EndpointParts) (at : ℕ) (e : EndpointParts) (columns : List (List ℕ)) (text : List ℕ) (r : AskError) → slice_get es at ≡ Some e → GivesRows t u e columns text (Err r) → IsRefused t u es (refusal_at at r)
+refused_at t u es at e columns text ask.Failed s h = (e, s, h)
+refused_at t u es at e columns text ask.Bad s h = (e, s, h)
+refused_at t u es at e columns text (ask.TooLong size) s h = (e, s, h.1)
+refused_at t u es at e columns text ask.Memory s h = tt
+
+-- graphs that no exchange changed are told as before
+pub tells_same : (f g : List ℕ → Option (List Triple)) → ((address : List ℕ) → g address ≡ f address) → (es : List EndpointParts) (gs : List (List Triple)) → Tells f es gs → Tells g es gs
+tells_same f g same [] [] h = tt
+tells_same f g same [] (k ∷ gs) h = absurd h
+tells_same f g same (e ∷ es) [] h = absurd h
+tells_same f g same (e ∷ es) (k ∷ gs) h = (same e.iri ∙ h.0, tells_same f g same es gs h.1)

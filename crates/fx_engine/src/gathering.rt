@@ -1,0 +1,94 @@
+//! The rows of one pattern over all endpoints.
+ghost use Rattle.std.specs.Prelude.{◌≡◌, ◌++◌, ◌∷◌, [], true, All, IfOk, OnOk, reverse};
+ghost use Rattle.fx_terms.specs.Graphs.{set_of};
+ghost use Rattle.fx_terms.specs.declared.patterns.Pattern.{Pattern as PatternTree};
+ghost use Rattle.fx_outside.specs.Endpoints.{is_sendable};
+ghost use Rattle.fx_algebra.specs.Solutions.{solution_cmp};
+ghost use Rattle.fx_wire.specs.Exchanges.{IsAfter, seen};
+ghost use Rattle.fx_engine.specs.Federation.{CollectsRows, GathersRows};
+ghost use Rattle.fx_engine.specs.MemberQueries.{IsAsked, IsPrintable};
+
+use crate::asking::ask;
+use crate::errors::FedError;
+use crate::queries::{columns_of, text_of};
+use fx_algebra::Solution;
+use fx_outside::Endpoint;
+use fx_terms::{Items, Memory, Name, Pattern};
+use fx_wire::Wire;
+use std::alloc::Global;
+
+/// The rows of a pattern over the union of the endpoints' graphs: each endpoint is asked in turn, their rows are united, and
+/// each is kept once.
+pub fn gather<W: Wire>(
+    alloc: Global,
+    wire: &mut W,
+    endpoints: &[Endpoint],
+    pattern: &Pattern,
+) -> Result<Vec<Solution>, FedError>
+    requires sendable { All (λ e. is_sendable e ≡ true) endpoints.now }
+    requires printable { IsPrintable pattern.now }
+    ensures rows { GathersRows (seen W.tells_log W.log W.graph W.faults wire.old) (seen W.tells_log W.log W.graph W.faults wire.new) endpoints.now (pattern.now ∷ []) result }
+    ensures after { IsAfter (seen W.tells_log W.log W.graph W.faults wire.old) (seen W.tells_log W.log W.graph W.faults wire.new) }
+{
+    let Ok(columns) = columns_of(alloc, pattern) else {
+        return Err(FedError::Memory);
+    };
+    let Ok(text) = text_of(alloc, pattern, columns.as_slice()) else {
+        return Err(FedError::Memory);
+    };
+    match collect(alloc, wire, endpoints, text.as_str(), columns.as_slice()) {
+        Err(error) => Err(error),
+        Ok(rows) => match each_once(rows) {
+            Ok(rows) => Ok(rows),
+            Err(Memory) => Err(FedError::Memory),
+        },
+    }
+}
+
+// The rows that the endpoints give for a text, one endpoint after another.
+fn collect<W: Wire>(
+    alloc: Global,
+    wire: &mut W,
+    endpoints: &[Endpoint],
+    text: &str,
+    columns: &[Name],
+) -> Result<Vec<Solution>, FedError>
+    requires sendable { All (λ e. is_sendable e ≡ true) endpoints.now }
+    requires asked { (p : PatternTree) × IsAsked p columns.now text.now }
+    ensures rows { CollectsRows (seen W.tells_log W.log W.graph W.faults wire.old) (seen W.tells_log W.log W.graph W.faults wire.new) endpoints.now columns.now text.now result }
+    ensures after { IsAfter (seen W.tells_log W.log W.graph W.faults wire.old) (seen W.tells_log W.log W.graph W.faults wire.new) }
+{
+    let mut all = Vec::new(alloc);
+    for (at, endpoint) in endpoints.iter().enumerate() {
+        match ask(alloc, wire, endpoint, text, columns) {
+            Err(error) => return Err(error.of(at)),
+            Ok(rows) => {
+                if let Err(Memory) = take_rows(&mut all, rows) {
+                    return Err(FedError::Memory);
+                }
+            }
+        }
+    }
+    Ok(all)
+}
+
+// Moves rows behind others.
+fn take_rows(all: &mut Vec<Solution>, rows: Items<Solution>) -> Result<(), Memory>
+    ensures { OnOk result (all.new.items ≡ all.old.items ++ reverse rows) }
+{
+    let mut rows = rows;
+    while let Some(row) = rows.pop() {
+        all.push(row)?;
+    }
+    Ok(())
+}
+
+// The rows in their order, each once.
+fn each_once(rows: Vec<Solution>) -> Result<Vec<Solution>, Memory>
+    ensures { IfOk result (λ all. all.items ≡ set_of solution_cmp rows.items) }
+{
+    let mut rows = rows;
+    rows.sort()?;
+    rows.dedup();
+    Ok(rows)
+}

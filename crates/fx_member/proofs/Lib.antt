@@ -1,0 +1,5 @@
+pub mod FitLemmas
+pub mod ObjectLemmas
+pub mod RunLemmas
+pub mod AnswerLemmas
+pub mod HonestLemmas

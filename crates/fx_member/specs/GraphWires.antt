@@ -1,0 +1,32 @@
+-- What a wire that answers by graphs holds, and what it has answered.
+use Rattle.std.specs.Prelude.{◌≡◌, ℕ, Bool, List, [], ◌∷◌, Option, Some, None, if◌then◌else◌, map}
+use Rattle.std.specs.Ordering.{is_eq}
+use Rattle.fx_outside.specs.NameCounts.{count_of}
+use Rattle.fx_terms.specs.Texts.{text_cmp}
+use Rattle.fx_terms.specs.declared.triples.Triple.{Triple}
+use Rattle.fx_wire.specs.Exchanges.{Exchange}
+use Rattle.fx_wire.specs.Scripts.{exchange_of}
+use Rattle.fx_member.specs.declared.graph_wires.GraphWire.{GraphWire}
+
+-- the graph of the first pair with an address
+abbrev pub graph_of : List (List ℕ × List Triple) → List ℕ → Option (List Triple)
+graph_of [] address = None
+graph_of (pair ∷ pairs) address = if is_eq (text_cmp pair.0 address) then Some pair.1 else graph_of pairs address
+
+-- the graph of an address
+abbrev pub graph_in : GraphWire → List ℕ → Option (List Triple)
+graph_in wire address = graph_of wire.graphs.items address
+
+-- the exchanges that were answered
+abbrev pub log_in : GraphWire → List Exchange
+log_in wire = map exchange_of wire.log.items
+
+-- how many exchanges at an address have failed
+abbrev pub faults_in : GraphWire → List ℕ → ℕ
+faults_in wire address = count_of wire.faults address
+
+-- a wire that was just made
+pub record IsFreshWire (wire : GraphWire) (graphs : List (List ℕ × List Triple)) : Type 0 where
+  pub told : (address : List ℕ) → graph_in wire address ≡ graph_of graphs address
+  pub silent : log_in wire ≡ []
+  pub faultless : (address : List ℕ) → faults_in wire address ≡ 0

@@ -1,0 +1,102 @@
+//! A wire in memory whose exchanges fail where they are to.
+ghost use Rattle.std.specs.Prelude.{◌≡◌, IsOkAnd};
+ghost use Rattle.std.specs.List.{list_any};
+ghost use Rattle.fx_member.specs.FaultWires as spec;
+
+use crate::graph_wires::GraphWire;
+use fx_outside::{Endpoint, NameCounts};
+use fx_terms::{Iri, Memory};
+use fx_wire::{Wire, WireError};
+use std::alloc::{AllocError, Global};
+
+/// A wire that answers by graphs, but fails at the exchanges that are to fail. An exchange is named by its number on the
+/// wire, or by its address and its number there, from 1.
+#[derive(Debug, Drop)]
+pub struct FaultWire {
+    wire: GraphWire,
+    fails: Vec<u64>,
+    fails_at: Vec<(Iri, u64)>,
+    exchanges: u64,
+    exchanges_at: NameCounts,
+    faults: NameCounts,
+}
+
+impl FaultWire {
+    /// The wire that fails at the exchanges whose numbers stand in `fails`, and at those whose address and number there
+    /// stand in `fails_at`. It takes no memory, so `Memory` doesn't come: the answer is always `Ok`.
+    pub fn new(
+        alloc: Global,
+        wire: GraphWire,
+        fails: Vec<u64>,
+        fails_at: Vec<(Iri, u64)>,
+    ) -> Result<FaultWire, Memory>
+        ensures { IsOkAnd result (λ made. spec.IsFreshWire made wire) }
+    {
+        Ok(FaultWire {
+            wire,
+            fails,
+            fails_at,
+            exchanges: 0,
+            exchanges_at: NameCounts::new(alloc),
+            faults: NameCounts::new(alloc),
+        })
+    }
+
+    // Counts one more exchange at an address, and says whether it is to fail.
+    fn counts_a_failure(&mut self, address: &Iri) -> Result<bool, AllocError>
+        ensures wire { self.new.wire ≡ self.old.wire }
+        ensures faults { self.new.faults ≡ self.old.faults }
+    {
+        if self.exchanges == u64::MAX {
+            return Err(AllocError);
+        }
+        let place = self.exchanges_at.place(address.text())?;
+        let number = self.exchanges_at.raise(place);
+        self.exchanges += 1;
+        Ok(
+            self.fails.contains(&self.exchanges)
+                || is_failing(self.fails_at.as_slice(), address, number),
+        )
+    }
+}
+
+impl Wire for FaultWire {
+    ghost use Rattle.std.specs.Prelude.{true};
+    ghost use Rattle.fx_member.specs.FaultWires.{faults_in, graph_in, log_in};
+
+    ghost tells_log = { true };
+
+    ghost log = { λ wire. log_in wire };
+
+    ghost graph = { λ wire address. graph_in wire address };
+
+    ghost faults = { λ wire address. faults_in wire address };
+
+    /// The first bytes of the reply to a request: all of them where it has at most `limit` bytes, and else `limit + 1`.
+    ///
+    /// `Failed` comes where the exchange is to fail, and where the address has no graph. `Memory` comes where memory runs
+    /// out, or where a count stands at the end of `u64`.
+    fn exchange(
+        &mut self,
+        alloc: Global,
+        at: &Endpoint,
+        request: &[u8],
+        limit: u64,
+    ) -> Result<Vec<u8>, WireError> {
+        let place = self.faults.place(at.iri().text())?;
+        if self.counts_a_failure(at.iri())? {
+            self.faults.raise(place);
+            return Err(WireError::Failed);
+        }
+        self.wire.exchange(alloc, at, request, limit)
+    }
+}
+
+// Whether the exchange of this number at an address is to fail.
+fn is_failing(fails_at: &[(Iri, u64)], address: &Iri, number: u64) -> bool
+    ensures { result ≡ list_any (spec.names address.now number) fails_at.now }
+{
+    fails_at
+        .iter()
+        .any(|fails| fails.0 == *address && fails.1 == number)
+}

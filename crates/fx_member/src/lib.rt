@@ -1,0 +1,23 @@
+//! The member: the answer of a query over a graph, and wires in memory that answer by it.
+#![tactic(auto)]
+
+pub mod answering;
+mod evaluation;
+pub mod fault_wires;
+pub mod graph_wires;
+mod known_answers;
+mod objects;
+
+pub use answering::answer;
+pub use fault_wires::FaultWire;
+use fx_terms::shareable;
+pub use graph_wires::GraphWire;
+
+/// Every type of this crate may be shared between threads and sent to them.
+pub fn all_shareable() {
+    shareable::<GraphWire>();
+    shareable::<FaultWire>();
+}
+
+#[cfg(test)]
+mod tests;

@@ -1,0 +1,10 @@
+pub mod Answered
+pub mod Back
+pub mod Complete
+pub mod LineSteps
+pub mod Placed
+pub mod PrintSteps
+pub mod Sound
+pub mod Steps
+pub mod Stops
+pub mod Tags

@@ -1,0 +1,201 @@
+-- Which line a refusal stands in, and where.
+use Rattle.std.proofs.Common.{◌≡◌, ◌≢◌, ℕ, zero, suc, ◌+◌, ◌-◌, inl, inr, Bool, true, false, cond, Option, Some, None, Result, Ok, Err, List, [], ◌∷◌, ◌++◌, length, take, drop, refl, sym, ap, ◌∙◌, subst, arith, append_assoc, length-append}
+use Rattle.std.specs.List.{slice_split, onto_first}
+use Rattle.std.specs.Str.{is_utf8}
+use Rattle.std.proofs.lemmas.List.{drop-drop}
+use Rattle.fx_terms.specs.declared.triples.Triple.{Triple}
+use Rattle.fx_ntriples.specs.declared.faults.Fault.{Fault}
+use Rattle.fx_ntriples.specs.declared.faults.Fault.TheVariants as fault_is
+use Rattle.fx_ntriples.specs.declared.faults.NtError.{NtError}
+use Rattle.fx_ntriples.specs.declared.faults.NtError.TheVariants as error
+use Rattle.fx_ntriples.specs.Quotes.{Got, got, stop}
+use Rattle.fx_ntriples.specs.Places.{line_ends, char_count, utf8_fault}
+use Rattle.fx_ntriples.specs.Reading.{is_line_end, line, Lines, all, fault, also, followed, read_lines, answered, read_document}
+use Rattle.fx_ntriples.specs.Forms as form
+use Rattle.fx_ntriples.specs.Refusals.{StandsAt, BlankStands, RelativeStands, span}
+use Rattle.fx_ntriples.specs.Answers.{Answers}
+use Rattle.fx_ntriples.proofs.Sound.{line_spelled}
+use Rattle.fx_ntriples.proofs.Stops.{Ends, Stands, line_stop}
+
+-- ---- lines of a text, by places
+
+first_test : (p : ℕ → Bool) (b : ℕ) (s l : List ℕ) (parts after : List (List ℕ)) (v : Bool) → cond v ([] ∷ parts) (onto_first b parts) ≡ l ∷ after →
+    ((q : List ℕ) (qs : List (List ℕ)) → parts ≡ q ∷ qs → (r : List ℕ) × (s ≡ q ++ r)) → (r : List ℕ) × (b ∷ s ≡ l ++ r)
+first_test p b s l parts after true h ih = let none : [] ≡ l = cc in (b ∷ s, ap (λ z. z ++ b ∷ s) none)
+first_test p b s l [] after false h ih = let one : b ∷ [] ≡ l = cc in (s, ap (λ z. z ++ s) one)
+first_test p b s l (q ∷ qs) after false h ih = let one : b ∷ q ≡ l = cc in let m = ih q qs refl in (m.0, ap (λ z. b ∷ z) m.1 ∙ ap (λ z. z ++ m.0) one)
+
+-- a text begins with its first part
+first_part : (p : ℕ → Bool) (s l : List ℕ) (after : List (List ℕ)) → slice_split p s ≡ l ∷ after → (r : List ℕ) × (s ≡ l ++ r)
+first_part p [] l after h = let none : [] ≡ l = cc in ([], ap (λ z. z ++ []) none)
+first_part p (b ∷ s) l after h = first_test p b s l (slice_split p s) after (p b) h (λ q qs e. first_part p s q qs e)
+
+later_test : (p : ℕ → Bool) (b : ℕ) (s m x : List ℕ) (parts xs : List (List ℕ)) (v : Bool) → slice_split p s ≡ parts → cond v ([] ∷ parts) (onto_first b parts) ≡ m ∷ x ∷ xs →
+    ((q : List ℕ) → slice_split p s ≡ q ∷ x ∷ xs → slice_split p (drop (length q + 1) s) ≡ x ∷ xs) → slice_split p (drop (length m + 1) (b ∷ s)) ≡ x ∷ xs
+later_test p b s m x parts xs true e h ih =
+    let none : [] ≡ m = cc in
+    let rest : parts ≡ x ∷ xs = cc in
+    subst (λ (y : List ℕ). slice_split p (drop (length y + 1) (b ∷ s)) ≡ x ∷ xs) none (e ∙ rest)
+later_test p b s m x [] xs false e h ih = absurd (cc)
+later_test p b s m x (q ∷ qs) xs false e h ih =
+    let one : b ∷ q ≡ m = cc in
+    let rest : qs ≡ x ∷ xs = cc in
+    let n : suc (length q) + 1 ≡ suc (length q + 1) = omega arith in
+    subst (λ (y : List ℕ). slice_split p (drop (length y + 1) (b ∷ s)) ≡ x ∷ xs) one (rw n (ih q (e ∙ ap (λ z. q ∷ z) rest)))
+
+-- what follows the first part
+later_parts : (p : ℕ → Bool) (s m x : List ℕ) (xs : List (List ℕ)) → slice_split p s ≡ m ∷ x ∷ xs → slice_split p (drop (length m + 1) s) ≡ x ∷ xs
+later_parts p [] m x xs h = absurd (cc)
+later_parts p (b ∷ s) m x xs h = later_test p b s m x (slice_split p s) xs (p b) refl h (λ q e. later_parts p s q x xs e)
+
+-- behind the lines before it, a line begins
+begins : (p : ℕ → Bool) (s l : List ℕ) (before after : List (List ℕ)) → slice_split p s ≡ before ++ l ∷ after → (r : List ℕ) × (drop (span before) s ≡ l ++ r)
+begins p s l [] after h = first_part p s l after h
+begins p s l (m ∷ []) after h =
+    let t = first_part p (drop (length m + 1) s) l after (later_parts p s m l after h) in
+    (t.0, ap (λ n. drop n s) (add_zero (length m + 1)) ∙ t.1)
+  where
+    add_zero : (n : ℕ) → n + 0 ≡ n
+    add_zero n = omega arith
+begins p s l (m ∷ x ∷ ms) after h =
+    let t = begins p (drop (length m + 1) s) l (x ∷ ms) after (later_parts p s m x (ms ++ l ∷ after) h) in
+    (t.0, sym (drop-drop (span (x ∷ ms)) (length m + 1) s) ∙ t.1)
+
+-- ---- the line that stops the reading
+
+record StopsIn (start : ℕ) (ls : List (List ℕ)) (k : Fault) (at place : ℕ) : Type 0 where
+  pub before : List (List ℕ)
+  pub triples : List Triple
+  pub read : form.AreLines before triples
+  pub text : List ℕ
+  pub rest : List ℕ
+  pub after : List (List ℕ)
+  pub lines : ls ≡ before ++ text ∷ after
+  pub stops : line text ≡ stop k rest
+  pub at_is : at ≡ start + span before
+  pub place_is : place ≡ length text - length rest
+
+also_fault : (t : Triple) (more : Lines) (k : Fault) (at place : ℕ) → also (Some t) more ≡ fault k at place → more ≡ fault k at place
+also_fault t (all us) k at place h = absurd (cc)
+also_fault t (fault j s p) k at place h = h
+
+line_then : (start : ℕ) (l : List ℕ) (ls : List (List ℕ)) (k : Fault) (at place : ℕ) (g : Got (Option Triple)) (more : Lines) → line l ≡ g → followed start (length l) g more ≡ fault k at place →
+    (more ≡ fault k at place → StopsIn (start + length l + 1) ls k at place) → StopsIn start (l ∷ ls) k at place
+line_then start l ls k at place (got None s) more e h ih =
+    let m = ih h in
+    record {
+      before = l ∷ m.before;
+      triples = m.triples;
+      read = form.silent (line_spelled l None s e) m.read;
+      text = m.text;
+      rest = m.rest;
+      after = m.after;
+      lines = ap (λ z. l ∷ z) m.lines;
+      stops = m.stops;
+      at_is = omega (arith, m.at_is);
+      place_is = m.place_is;
+    }
+line_then start l ls k at place (got (Some t) s) more e h ih =
+    let m = ih (also_fault t more k at place h) in
+    record {
+      before = l ∷ m.before;
+      triples = t ∷ m.triples;
+      read = form.more (line_spelled l (Some t) s e) m.read;
+      text = m.text;
+      rest = m.rest;
+      after = m.after;
+      lines = ap (λ z. l ∷ z) m.lines;
+      stops = m.stops;
+      at_is = omega (arith, m.at_is);
+      place_is = m.place_is;
+    }
+line_then start l ls k at place (stop j s) more e h ih =
+    let kind : j ≡ k = cc in
+    let begin : start ≡ at = cc in
+    let here : length l - length s ≡ place = cc in
+    record { before = []; triples = []; read = form.none; text = l; rest = s; after = ls; lines = refl; stops = e ∙ ap (λ z. stop z s) kind; at_is = omega arith; place_is = sym here }
+
+lines_stop : (start : ℕ) (ls : List (List ℕ)) (k : Fault) (at place : ℕ) → read_lines start ls ≡ fault k at place → StopsIn start ls k at place
+lines_stop start [] k at place h = absurd (cc)
+lines_stop start (l ∷ ls) k at place h = line_then start l ls k at place (line l) (read_lines (start + length l + 1) ls) refl h (λ e. lines_stop (start + length l + 1) ls k at place e)
+
+front_is : (xs ys : List ℕ) (n : ℕ) → n ≡ length xs → take n (xs ++ ys) ≡ xs
+front_is [] ys zero e = refl
+front_is [] ys (suc n) e = absurd (cc)
+front_is (x ∷ xs) ys zero e = absurd (cc)
+front_is (x ∷ xs) ys (suc n) e = ap (λ t. x ∷ t) (front_is xs ys n (omega arith))
+
+-- a fault of a kind other than Bad
+placed : (What : List ℕ → List ℕ → Type 0) (bytes : List ℕ) (k : Fault) (at place line column : ℕ) → (k ≢ fault_is.Bad) → ((p r : List ℕ) → Stands k p r → What p r) → StopsIn 0 (slice_split is_line_end bytes) k at place →
+    line ≡ line_ends (take at bytes) + 1 → column ≡ char_count (take place (drop at bytes)) + 1 → StandsAt What bytes line column
+unfolding Ends
+placed What bytes k at place line column other f m e g =
+    elim (line_stop m.text m.rest k m.stops) [
+      | inl x ↦ absurd (other x)
+      | inr x ↦
+          let start : at ≡ span m.before = omega (arith, m.at_is) in
+          let b = begins is_line_end bytes m.text m.before m.after m.lines in
+          let behind : drop (span m.before) bytes ≡ x.front ++ (m.rest ++ b.0) = b.1 ∙ ap (λ z. z ++ b.0) x.is ∙ append_assoc x.front m.rest b.0 in
+          let size : place ≡ length x.front = omega (arith, m.place_is, ap length x.is, length-append x.front m.rest) in
+          let front : take place (drop at bytes) ≡ x.front = ap (λ n. take place (drop n bytes)) start ∙ ap (take place) behind ∙ front_is x.front (m.rest ++ b.0) place size in
+          record {
+            before = m.before;
+            triples = m.triples;
+            read = m.read;
+            front = x.front;
+            rest = m.rest;
+            after = m.after;
+            lines = m.lines ∙ ap (λ z. m.before ++ z ∷ m.after) x.is;
+            stands = f x.front m.rest x.stands;
+            line_is = e ∙ ap (λ n. line_ends (take n bytes) + 1) start;
+            column_is = g ∙ ap (λ z. char_count z + 1) front;
+          }
+    ]
+
+blank_answer : (bytes : List ℕ) (ls : Lines) (l c : ℕ) → answered bytes ls ≡ Err (error.Blank l c) → (at : ℕ) × (place : ℕ) × (ls ≡ fault fault_is.Blank at place) × (l ≡ line_ends (take at bytes) + 1) × (c ≡ char_count (take place (drop at bytes)) + 1)
+blank_answer bytes (all ts) l c h = absurd (cc)
+blank_answer bytes (fault fault_is.Bad at place) l c h = absurd (cc)
+blank_answer bytes (fault fault_is.Relative at place) l c h = absurd (cc)
+blank_answer bytes (fault fault_is.Blank at place) l c h = (at, place, refl, cc, cc)
+
+relative_answer : (bytes : List ℕ) (ls : Lines) (l c : ℕ) → answered bytes ls ≡ Err (error.Relative l c) → (at : ℕ) × (place : ℕ) × (ls ≡ fault fault_is.Relative at place) × (l ≡ line_ends (take at bytes) + 1) × (c ≡ char_count (take place (drop at bytes)) + 1)
+relative_answer bytes (all ts) l c h = absurd (cc)
+relative_answer bytes (fault fault_is.Bad at place) l c h = absurd (cc)
+relative_answer bytes (fault fault_is.Blank at place) l c h = absurd (cc)
+relative_answer bytes (fault fault_is.Relative at place) l c h = (at, place, refl, cc, cc)
+
+blank_test : (bytes : List ℕ) (l c n : ℕ) (v : Bool) → cond v (answered bytes (read_lines 0 (slice_split is_line_end bytes))) (Err (error.BadUtf8 n)) ≡ Err (error.Blank l c) → StandsAt BlankStands bytes l c
+unfolding Stands
+blank_test bytes l c n true h =
+    let a = blank_answer bytes (read_lines 0 (slice_split is_line_end bytes)) l c h in
+    placed BlankStands bytes fault_is.Blank a.0 a.1 l c (λ e. cc) (λ p r s. s) (lines_stop 0 (slice_split is_line_end bytes) fault_is.Blank a.0 a.1 a.2) a.3 a.4
+blank_test bytes l c n false h = absurd (cc)
+
+relative_test : (bytes : List ℕ) (l c n : ℕ) (v : Bool) → cond v (answered bytes (read_lines 0 (slice_split is_line_end bytes))) (Err (error.BadUtf8 n)) ≡ Err (error.Relative l c) → StandsAt RelativeStands bytes l c
+unfolding Stands
+relative_test bytes l c n true h =
+    let a = relative_answer bytes (read_lines 0 (slice_split is_line_end bytes)) l c h in
+    placed RelativeStands bytes fault_is.Relative a.0 a.1 l c (λ e. cc) (λ p r s. s) (lines_stop 0 (slice_split is_line_end bytes) fault_is.Relative a.0 a.1 a.2) a.3 a.4
+relative_test bytes l c n false h = absurd (cc)
+
+pub blank_stands : (bytes : List ℕ) (l c : ℕ) → read_document bytes ≡ Err (error.Blank l c) → StandsAt BlankStands bytes l c
+blank_stands bytes l c h = blank_test bytes l c (utf8_fault bytes) (is_utf8 bytes) h
+
+pub relative_stands : (bytes : List ℕ) (l c : ℕ) → read_document bytes ≡ Err (error.Relative l c) → StandsAt RelativeStands bytes l c
+relative_stands bytes l c h = relative_test bytes l c (utf8_fault bytes) (is_utf8 bytes) h
+
+pub told_blank : {X : Type 0} (r : Result X NtError) (wanted : Result X NtError) (l c : ℕ) → Answers r wanted → r ≡ Err (error.Blank l c) → wanted ≡ Err (error.Blank l c)
+told_blank (Ok x) wanted l c a h = absurd (cc)
+told_blank (Err error.Memory) wanted l c a h = absurd (cc)
+told_blank (Err (error.BadUtf8 p)) wanted l c a h = absurd (cc)
+told_blank (Err (error.Bad m d)) wanted l c a h = absurd (cc)
+told_blank (Err (error.Blank m d)) wanted l c a h = cc
+told_blank (Err (error.Relative m d)) wanted l c a h = absurd (cc)
+
+pub told_relative : {X : Type 0} (r : Result X NtError) (wanted : Result X NtError) (l c : ℕ) → Answers r wanted → r ≡ Err (error.Relative l c) → wanted ≡ Err (error.Relative l c)
+told_relative (Ok x) wanted l c a h = absurd (cc)
+told_relative (Err error.Memory) wanted l c a h = absurd (cc)
+told_relative (Err (error.BadUtf8 p)) wanted l c a h = absurd (cc)
+told_relative (Err (error.Bad m d)) wanted l c a h = absurd (cc)
+told_relative (Err (error.Blank m d)) wanted l c a h = absurd (cc)
+told_relative (Err (error.Relative m d)) wanted l c a h = cc

@@ -1,0 +1,7 @@
+pub mod Answers
+pub mod Forms
+pub mod Places
+pub mod Printing
+pub mod Quotes
+pub mod Reading
+pub mod Refusals

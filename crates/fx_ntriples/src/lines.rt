@@ -1,0 +1,222 @@
+//! A line: nothing, or a triple.
+ghost use Rattle.std.specs.Prelude.{◌≡◌, ◌+◌, ◌<◌, ◌≤◌, length, take, drop, true, false};
+ghost use Rattle.std.specs.Str.{IsCharBoundary, IsUtf8};
+ghost use Rattle.fx_ntriples.specs.Reading as spec;
+ghost use Rattle.fx_ntriples.specs.Answers.{Reads};
+ghost use Rattle.fx_terms.specs.Iris.{read_iri};
+ghost use Rattle.fx_terms.specs.Answers.{AnswersTerm};
+
+use crate::faults::{Fault, Stop};
+use crate::quotes::{Quote, quoted};
+use fx_terms::{Iri, Literal, LiteralError, Memory, Term, TermError, Triple};
+use std::alloc::Global;
+
+/// The triple of a line, if it has one, and a place at which nothing follows.
+#[tactic(auto, unfolding(crate::specs::Reading::line))]
+pub fn line(
+    alloc: Global,
+    line: &str,
+    last: Option<&Triple>,
+) -> Result<(Option<Triple>, usize), Stop>
+    ensures { Reads line.now result (spec.line line.now) }
+{
+    let bytes = line.as_bytes();
+    let at = blanks_end(bytes, 0);
+    if at == bytes.len() || bytes[at] == b'#' {
+        return Ok((None, bytes.len()));
+    }
+    let (triple, at) = triple(alloc, line, at, last)?;
+    let at = blanks_end(bytes, at);
+    if at == bytes.len() || bytes[at] == b'#' {
+        return Ok((Some(triple), bytes.len()));
+    }
+    Err(Stop::At(Fault::Bad, at))
+}
+
+// Where the blanks from a place on end.
+fn blanks_end(line: &[u8], from: usize) -> usize
+    requires { from ≤ length line.now }
+    ensures rest { drop result line.now ≡ spec.unblanked (drop from line.now) }
+    ensures within { result ≤ length line.now }
+{
+    let mut end = from;
+    while end < line.len() && (line[end] == b' ' || line[end] == b'\t') {
+        end += 1;
+    }
+    end
+}
+
+fn triple(
+    alloc: Global,
+    line: &str,
+    at: usize,
+    last: Option<&Triple>,
+) -> Result<(Triple, usize), Stop>
+    requires { at < length line.now }
+    ensures { Reads line.now result (spec.triple (drop at line.now)) }
+{
+    let bytes = line.as_bytes();
+    let (subject, at) = subject(alloc, line, at, last)?;
+    let at = blanks_end(bytes, at);
+    let (predicate, at) = iri(alloc, line, at, last.map(|t| &t.predicate))?;
+    let at = blanks_end(bytes, at);
+    let (object, at) = object(alloc, line, at)?;
+    let at = blanks_end(bytes, at);
+    if at == bytes.len() || bytes[at] != b'.' {
+        return Err(Stop::At(Fault::Bad, at));
+    }
+    let triple = Triple {
+        subject,
+        predicate,
+        object,
+    };
+    Ok((triple, at + 1))
+}
+
+fn subject(
+    alloc: Global,
+    line: &str,
+    at: usize,
+    last: Option<&Triple>,
+) -> Result<(Iri, usize), Stop>
+    requires { at ≤ length line.now }
+    ensures { Reads line.now result (spec.subject (drop at line.now)) }
+{
+    let bytes = line.as_bytes();
+    if at < bytes.len() && bytes[at] == b'_' {
+        return Err(Stop::At(Fault::Blank, at));
+    }
+    iri(alloc, line, at, last.map(|t| &t.subject))
+}
+
+// The IRI that begins at a place, and where it ends. One that is equal to the last shares its text.
+fn iri(alloc: Global, line: &str, at: usize, last: Option<&Iri>) -> Result<(Iri, usize), Stop>
+    requires { at ≤ length line.now }
+    ensures { Reads line.now result (spec.iri (drop at line.now)) }
+{
+    let bytes = line.as_bytes();
+    if at == bytes.len() || bytes[at] != b'<' {
+        return Err(Stop::At(Fault::Bad, at));
+    }
+    let (text, next) = quoted(alloc, line, at + 1, Quote::Iri)?;
+    match iri_of(alloc, text.text(), last) {
+        Ok(iri) => Ok((iri, next)),
+        Err(TermError::Memory) => Err(Stop::Memory),
+        Err(_) => Err(Stop::At(Fault::Relative, at)),
+    }
+}
+
+fn iri_of(alloc: Global, text: &str, last: Option<&Iri>) -> Result<Iri, TermError>
+    ensures { AnswersTerm result (read_iri text.now) }
+{
+    if let Some(iri) = last
+        && iri.text() == text
+    {
+        return match iri.copy() {
+            Ok(copy) => Ok(copy),
+            Err(Memory) => Err(TermError::Memory),
+        };
+    }
+    Iri::read(alloc, text)
+}
+
+fn object(alloc: Global, line: &str, at: usize) -> Result<(Term, usize), Stop>
+    requires { at ≤ length line.now }
+    ensures { Reads line.now result (spec.object (drop at line.now)) }
+{
+    let bytes = line.as_bytes();
+    if at == bytes.len() {
+        return Err(Stop::At(Fault::Bad, at));
+    }
+    if bytes[at] == b'_' {
+        return Err(Stop::At(Fault::Blank, at));
+    }
+    if bytes[at] == b'"' {
+        let (form, next) = quoted(alloc, line, at + 1, Quote::Text)?;
+        return literal(alloc, line, next, form.text());
+    }
+    let (iri, next) = iri(alloc, line, at, None)?;
+    Ok((Term::Iri(iri), next))
+}
+
+// The literal of a form, by what follows its closing quote.
+fn literal(alloc: Global, line: &str, at: usize, form: &str) -> Result<(Term, usize), Stop>
+    requires { at ≤ length line.now }
+    ensures { Reads line.now result (spec.literal form.now (drop at line.now)) }
+{
+    let bytes = line.as_bytes();
+    if at < bytes.len() && bytes[at] == b'@' {
+        return tagged(alloc, line, at + 1, form);
+    }
+    let at = blanks_end(bytes, at);
+    if at < bytes.len() && bytes[at] == b'^' {
+        return typed(alloc, line, at + 1, form);
+    }
+    let literal = Literal::plain(alloc, form)?;
+    Ok((Term::Literal(literal), at))
+}
+
+fn tagged(alloc: Global, line: &str, at: usize, form: &str) -> Result<(Term, usize), Stop>
+    requires { IsCharBoundary line.now at }
+    ensures { Reads line.now result (spec.with_tag form.now (drop at line.now)) }
+{
+    let end = tag_end(line.as_bytes(), at);
+    match Literal::tagged(alloc, form, &line[at..end]) {
+        Ok(literal) => Ok((Term::Literal(literal), end)),
+        Err(LiteralError::Memory) => Err(Stop::Memory),
+        Err(_) => Err(Stop::At(Fault::Bad, end)),
+    }
+}
+
+// Where the bytes from a place on end that begin a tag.
+#[tactic(auto, unfolding(crate::specs::Reading::tag_len))]
+fn tag_end(line: &[u8], at: usize) -> usize
+    requires utf8 { IsUtf8 line.now }
+    requires boundary { IsCharBoundary line.now at }
+    ensures place { result ≡ at + spec.tag_len true true (drop at line.now) }
+    ensures cut { IsCharBoundary line.now result }
+{
+    let mut end = at;
+    let mut is_first = true;
+    let mut is_empty = true;
+    while end < line.len() {
+        let b = line[end];
+        if in_part(is_first, b) {
+            is_empty = false;
+        } else if b == b'-' && !is_empty {
+            is_first = false;
+            is_empty = true;
+        } else {
+            return end;
+        }
+        end += 1;
+    }
+    end
+}
+
+fn in_part(is_first: bool, b: u8) -> bool
+    ensures { result ≡ spec.in_part is_first b }
+{
+    if is_first {
+        b.is_ascii_alphabetic()
+    } else {
+        b.is_ascii_alphanumeric()
+    }
+}
+
+fn typed(alloc: Global, line: &str, at: usize, form: &str) -> Result<(Term, usize), Stop>
+    requires { at ≤ length line.now }
+    ensures { Reads line.now result (spec.with_datatype form.now (drop at line.now)) }
+{
+    let bytes = line.as_bytes();
+    if at == bytes.len() || bytes[at] != b'^' {
+        return Err(Stop::At(Fault::Bad, at));
+    }
+    let start = blanks_end(bytes, at + 1);
+    let (datatype, next) = iri(alloc, line, start, None)?;
+    match Literal::typed(alloc, form, &datatype) {
+        Ok(literal) => Ok((Term::Literal(literal), next)),
+        Err(LiteralError::Memory) => Err(Stop::Memory),
+        Err(_) => Err(Stop::At(Fault::Bad, start)),
+    }
+}

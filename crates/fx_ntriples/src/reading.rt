@@ -1,0 +1,211 @@
+//! Documents are read.
+ghost use Rattle.std.specs.Prelude.{◌≡◌, ℕ, Err, ◌<◌, ◌≤◌, ◌+◌, ◌∷◌, length, take, drop, List, IfOk, MatchResult, Some, None, if◌then◌else◌, IfErr};
+ghost use Rattle.std.specs.List.{slice_split, position_or_len};
+ghost use Rattle.std.specs.Str.{IsErrorLen, valid_up_to, error_len};
+ghost use Rattle.std.specs.Str.Lossy.{utf8_valid_len, utf8_error_len};
+ghost use Rattle.fx_terms.specs.declared.triples.Triple.{Triple as TripleParts};
+ghost use Rattle.fx_ntriples.specs.Reading as spec;
+ghost use Rattle.fx_ntriples.specs.Places as places;
+ghost use Rattle.fx_ntriples.specs.Forms.{IsDocument};
+ghost use Rattle.fx_ntriples.specs.Refusals.{StandsAt, BlankStands, RelativeStands};
+ghost use Rattle.fx_ntriples.specs.Answers.{Answers, AnswersLines, Pushes, stopped_at};
+
+use crate::faults::{Fault, NtError, Stop};
+use crate::lines::line;
+use fx_terms::{Graph, Memory, Triple};
+use std::alloc::Global;
+use std::str;
+use std::str::Utf8Error;
+
+/// The graph that an N-Triples document is (RDF 1.1 N-Triples, section 7), in this project's profile: IRIs are absolute, there
+/// are no blank nodes, tags are kept in lower case, and blanks may stand on both sides of `^^`.
+///
+/// `BadUtf8` comes exactly where the bytes are not UTF-8. Each other error but `Memory` comes exactly where `NtError` says:
+/// the first that is met from the front on. A line ends with CR, LF or both together.
+pub fn read_graph(alloc: Global, bytes: &[u8]) -> Result<Graph, NtError>
+    // The one answer, with the place of a refusal, unless memory ran out.
+    ensures answer { Answers result (spec.read_document bytes.now) }
+
+    // What is read is a document by the forms, and this is its graph.
+    ensures found { IfOk result (IsDocument bytes.now) }
+
+    // A document by the forms is read, as its graph and no other.
+    ensures only { (graph : List TripleParts) → IsDocument bytes.now graph → MatchResult result (λ g. g ≡ graph) (λ e. e ≡ NtError.Memory) }
+
+    // What stands at the place of a blank node, and of an IRI that isn't absolute, and before it.
+    ensures blank { (l c : ℕ) → result ≡ Err (NtError.Blank l c) → StandsAt BlankStands bytes.now l c }
+    ensures relative { (l c : ℕ) → result ≡ Err (NtError.Relative l c) → StandsAt RelativeStands bytes.now l c }
+{
+    read(alloc, bytes)
+}
+
+fn read(alloc: Global, bytes: &[u8]) -> Result<Graph, NtError>
+    ensures { Answers result (spec.read_document bytes.now) }
+{
+    match str::from_utf8(bytes) {
+        Ok(text) => graph(alloc, text),
+        Err(error) => {
+            Err(NtError::BadUtf8 {
+                place: utf8_place(bytes, &error) as u64,
+            })
+        }
+    }
+}
+
+// Where bytes stop being UTF-8.
+fn utf8_place(bytes: &[u8], error: &Utf8Error) -> usize
+    requires valid { valid_up_to error.now ≡ utf8_valid_len bytes.now }
+    requires within { valid_up_to error.now < length bytes.now }
+    requires size { IsErrorLen bytes.now (valid_up_to error.now) (error_len error.now) }
+    requires fault { error_len error.now ≡ utf8_error_len (drop (valid_up_to error.now) bytes.now) }
+    ensures { result ≡ places.utf8_fault bytes.now }
+{
+    let start = error.valid_up_to();
+    let Some(size) = error.error_len() else {
+        return bytes.len();
+    };
+    let first = bytes[start];
+    if first >= 0xC2 && first <= 0xF4 {
+        start + size
+    } else {
+        start
+    }
+}
+
+fn graph(alloc: Global, text: &str) -> Result<Graph, NtError>
+    ensures { Answers result (spec.answered text.now (spec.read_lines 0 (slice_split spec.is_line_end text.now))) }
+{
+    match triples(alloc, text) {
+        Ok(triples) => {
+            match Graph::of(triples) {
+                Ok(graph) => Ok(graph),
+                Err(Memory) => Err(NtError::Memory),
+            }
+        }
+        Err(
+            Halt::At {
+                fault,
+                start,
+                place,
+            },
+        ) => Err(at_place(text.as_bytes(), fault, start, place)),
+        Err(Halt::Memory) => Err(NtError::Memory),
+    }
+}
+
+/// Why the reading of lines stops.
+#[derive(Clone, Copy, Debug, PartialEq, Eq)]
+pub enum Halt {
+    /// A fault, so many bytes behind the place where its line begins.
+    At {
+        fault: Fault,
+        start: usize,
+        place: usize,
+    },
+    /// Memory ran out.
+    Memory,
+}
+
+// The triples of all lines.
+fn triples(alloc: Global, text: &str) -> Result<Vec<Triple>, Halt>
+    ensures { AnswersLines text.now result (spec.read_lines 0 (slice_split spec.is_line_end text.now)) }
+{
+    let bytes = text.as_bytes();
+    let mut triples = Vec::new(alloc);
+    let mut start = 0;
+    'lines: loop {
+        let end = line_end(bytes, start);
+        if let Err(stop) = push_line(alloc, &text[start..end], &mut triples) {
+            return Err(stopped(stop, start));
+        }
+        if end == bytes.len() {
+            return Ok(triples);
+        }
+        start = end + 1;
+    }
+}
+
+fn stopped(stop: Stop, start: usize) -> Halt
+    ensures { result ≡ stopped_at stop start }
+{
+    match stop {
+        Stop::At(fault, place) => Halt::At {
+            fault,
+            start,
+            place,
+        },
+        Stop::Memory => Halt::Memory,
+    }
+}
+
+// What a line says, pushed.
+fn push_line(alloc: Global, text: &str, triples: &mut Vec<Triple>) -> Result<(), Stop>
+    ensures { Pushes text.now result triples.old.items triples.new.items (spec.line text.now) }
+{
+    let (said, _) = line(alloc, text, triples.last())?;
+    if let Some(triple) = said {
+        triples.push(triple)?;
+    }
+    Ok(())
+}
+
+// Where the line that begins at a place ends.
+fn line_end(bytes: &[u8], start: usize) -> usize
+    requires { start ≤ length bytes.now }
+    ensures place { result ≡ start + position_or_len spec.is_line_end (drop start bytes.now) }
+    ensures within { result ≤ length bytes.now }
+{
+    let mut end = start;
+    while end < bytes.len() && !is_line_end(bytes[end]) {
+        end += 1;
+    }
+    end
+}
+
+fn is_line_end(b: u8) -> bool
+    ensures { result ≡ spec.is_line_end b }
+{
+    b == b'\n' || b == b'\r'
+}
+
+fn at_place(bytes: &[u8], fault: Fault, start: usize, place: usize) -> NtError
+    requires inside { start ≤ length bytes.now }
+    requires within { place ≤ length (drop start bytes.now) }
+    ensures { result ≡ places.at_place bytes.now fault start place }
+{
+    let line = count_line_ends(&bytes[..start]) + 1;
+    let column = count_chars(&bytes[start..start + place]) + 1;
+    match fault {
+        Fault::Bad => NtError::Bad { line, column },
+        Fault::Blank => NtError::Blank { line, column },
+        Fault::Relative => NtError::Relative { line, column },
+    }
+}
+
+// How many line ends there are: CR, LF, or both together.
+fn count_line_ends(bytes: &[u8]) -> u64
+    ensures count { result ≡ places.line_ends bytes.now }
+    ensures few { result ≤ length bytes.now }
+{
+    let mut count = 0;
+    for (i, b) in bytes.iter().enumerate() {
+        if *b == b'\n' || (*b == b'\r' && !(i + 1 < bytes.len() && bytes[i + 1] == b'\n')) {
+            count += 1;
+        }
+    }
+    count
+}
+
+// How many characters begin.
+fn count_chars(bytes: &[u8]) -> u64
+    ensures count { result ≡ places.char_count bytes.now }
+    ensures few { result ≤ length bytes.now }
+{
+    bytes.iter().filter(|b| is_char_start(**b)).count() as u64
+}
+
+fn is_char_start(b: u8) -> bool
+    ensures { result ≡ places.is_char_start b }
+{
+    b < 0x80 || b >= 0xC0
+}

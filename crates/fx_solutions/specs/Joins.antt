@@ -1,0 +1,23 @@
+-- How a join finds the rows that may agree.
+use Rattle.std.specs.Prelude.{ℕ, Bool, List, ◌&&◌, filter, is_some}
+use Rattle.std.specs.List.{flat_map, list_all}
+use Rattle.std.specs.Ordering.{is_eq}
+use Rattle.fx_algebra.specs.Operators.{merges}
+use Rattle.fx_algebra.specs.Sequences.{row_cmp}
+use Rattle.fx_algebra.specs.Solutions.{Bindings, term_of}
+
+-- whether each row binds a name
+abbrev pub is_bound_in : List Bindings → List ℕ → Bool
+is_bound_in rows name = list_all (λ row. is_some (term_of row name)) rows
+
+-- whether each row of both sides binds a name
+abbrev pub is_shared : List Bindings → List Bindings → List ℕ → Bool
+is_shared left right name = is_bound_in left name && is_bound_in right name
+
+-- the rows that have a row's terms under names
+abbrev pub with_terms : List (List ℕ) → List Bindings → Bindings → List Bindings
+with_terms names rows row = filter (λ r. is_eq (row_cmp names r row)) rows
+
+-- each row of the left with those of the right that have its terms under the names and agree with it
+abbrev pub merged : List (List ℕ) → List Bindings → List Bindings → List Bindings
+merged names right left = flat_map (λ row. merges (with_terms names right row) row) left

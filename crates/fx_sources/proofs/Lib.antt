@@ -1,0 +1,3 @@
+mod PartLemmas
+mod LineLemmas
+mod RegistryLemmas

@@ -1,0 +1,19 @@
+use Rattle.std.proofs.Common.{◌≡◌, ◌∙◌, ◌<◌, ap, rules, sym, subst, IsTrue, Bool, true, false, not, List, ℕ, length, map, ◌==◌}
+use Rattle.std.specs.Char.{to_ascii_lowercase}
+use Rattle.std.specs.Str.{bytes_eq}
+use Rattle.fx_terms.specs.Iris.{IsIri}
+use Rattle.fx_terms.specs.Literals.{IsTag, is_tag, lang_string}
+use Rattle.fx_terms.proofs.TagLemmas.{tag_in_lower_case, tag_is_some}
+use Rattle.fx_terms.proofs.literals.Literal.tagged.Goals as goal
+
+pub invariant_of-result : goal.invariant_of-result
+invariant_of-result c =
+    let text = c.args.tag.now in
+    let is : is_tag text ≡ true = search rules in
+    let lower : Rattle.std.specs.Arc.arc_str_bytes c.in_ok-from_string.field-0 ≡ map to_ascii_lowercase text = c.in_ok-from_string.ensures.ok ∙ c.in_ok-to_ascii_lowercase.ensures.ok in
+    record {
+      form = search rules;
+      datatype = c.in_ok-known.ensures.valid;
+      fits = ap (λ (t : List ℕ). length t == 0) lower ∙ tag_is_some text is ∙ ap (λ (d : List ℕ). not (bytes_eq d lang_string)) (sym c.in_ok-known.ensures.value);
+      tag = λ _. subst IsTag (sym lower) (tag_in_lower_case text is);
+    }

@@ -1,0 +1,6 @@
+pub mod Answers
+pub mod Classes
+pub mod Forms
+pub mod Kinds
+pub mod Reads
+pub mod Scan

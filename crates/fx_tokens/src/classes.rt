@@ -1,0 +1,211 @@
+//! Classes of characters.
+ghost use Rattle.std.specs.Prelude.{◌≡◌};
+ghost use Rattle.fx_terms.specs.Names.{is_base_char, is_name_start, is_name_char};
+ghost use Rattle.fx_tokens.specs.Classes as class;
+
+/// A quote.
+#[derive(Clone, Copy, Debug, PartialEq, Eq)]
+pub enum Quote {
+    Single,
+    Double,
+}
+
+impl Quote {
+    /// The quote's character.
+    pub fn char(self) -> char
+        ensures { result ≡ class.quote self }
+    {
+        match self {
+            Quote::Single => '\'',
+            Quote::Double => '"',
+        }
+    }
+}
+
+/// A class of characters of the grammar (SPARQL 1.1 section 19.8).
+#[derive(Clone, Copy, Debug, PartialEq, Eq)]
+pub enum Class {
+    /// This character.
+    Is(char),
+    Digit,
+    Letter,
+    LetterOrDigit,
+    /// What a keyword goes on with.
+    WordChar,
+    /// PN_CHARS_BASE.
+    BaseChar,
+    /// PN_CHARS_U or a digit.
+    NameStart,
+    /// What a variable's name goes on with.
+    NameChar,
+    /// PN_CHARS.
+    PartChar,
+    /// What PN_LOCAL begins with, save PLX.
+    LocalStart,
+    /// What PN_LOCAL goes on with, save PLX and dots.
+    LocalChar,
+    /// What may stand behind the backslash of PN_LOCAL_ESC.
+    LocalEscape,
+    HexDigit,
+    VariableMark,
+    Sign,
+    Exponent,
+    /// What may stand in an IRI.
+    IriChar,
+    /// What may stand behind the backslash of ECHAR.
+    EscapeLetter,
+    /// Not a line end.
+    InLine,
+    /// What a text between two of these quotes holds as it is.
+    Plain(Quote),
+    /// What a text between three of these quotes holds as it is.
+    LongPlain(Quote),
+    /// A mark of one character.
+    OneMark,
+    /// The first of a mark of two characters that ends in `=`.
+    BeforeEqual,
+}
+
+impl Class {
+    /// Whether the class holds a character.
+    pub fn holds(self, c: char) -> bool
+        ensures { result ≡ class.holds self c }
+    {
+        match self {
+            Class::Is(a) => c == a,
+            Class::Digit => is_digit(c),
+            Class::Letter => is_letter(c),
+            Class::LetterOrDigit => is_letter_or_digit(c),
+            Class::WordChar => is_letter_or_digit(c) || c == '_',
+            Class::BaseChar => is_base_char(c),
+            Class::NameStart => is_name_start(c),
+            Class::NameChar => is_name_char(c),
+            Class::PartChar => is_part_char(c),
+            Class::LocalStart => is_name_start(c) || c == ':',
+            Class::LocalChar => is_part_char(c) || c == ':',
+            Class::LocalEscape => is_local_escape(c),
+            Class::HexDigit => is_hex(c),
+            Class::VariableMark => c == '?' || c == '$',
+            Class::Sign => c == '+' || c == '-',
+            Class::Exponent => c == 'e' || c == 'E',
+            Class::IriChar => is_iri_char(c),
+            Class::EscapeLetter => is_escape_letter(c),
+            Class::InLine => is_in_line(c),
+            Class::Plain(quote) => is_long_plain(quote.char(), c) && is_in_line(c),
+            Class::LongPlain(quote) => is_long_plain(quote.char(), c),
+            Class::OneMark => is_mark(c),
+            Class::BeforeEqual => c == '!' || c == '<' || c == '>',
+        }
+    }
+}
+
+fn is_digit(c: char) -> bool
+    ensures { result ≡ class.is_digit c }
+{
+    c.is_ascii_digit()
+}
+
+fn is_letter(c: char) -> bool
+    ensures { result ≡ class.is_letter c }
+{
+    matches!(c, 'A'..='Z' | 'a'..='z')
+}
+
+fn is_letter_or_digit(c: char) -> bool
+    ensures { result ≡ class.is_letter_or_digit c }
+{
+    is_letter(c) || is_digit(c)
+}
+
+fn is_hex(c: char) -> bool
+    ensures { result ≡ class.is_hex c }
+{
+    is_digit(c) || matches!(c, 'A'..='F' | 'a'..='f')
+}
+
+fn is_base_char(c: char) -> bool
+    ensures { result ≡ is_base_char c }
+{
+    matches!(c, 'A'..='Z' | 'a'..='z' | '\u{C0}'..='\u{D6}' | '\u{D8}'..='\u{F6}' | '\u{F8}'..='\u{2FF}'
+        | '\u{370}'..='\u{37D}' | '\u{37F}'..='\u{1FFF}' | '\u{200C}'..='\u{200D}' | '\u{2070}'..='\u{218F}'
+        | '\u{2C00}'..='\u{2FEF}' | '\u{3001}'..='\u{D7FF}' | '\u{F900}'..='\u{FDCF}' | '\u{FDF0}'..='\u{FFFD}'
+        | '\u{10000}'..='\u{EFFFF}')
+}
+
+fn is_name_start(c: char) -> bool
+    ensures { result ≡ is_name_start c }
+{
+    is_base_char(c) || c == '_' || c.is_ascii_digit()
+}
+
+fn is_name_char(c: char) -> bool
+    ensures { result ≡ is_name_char c }
+{
+    is_name_start(c)
+        || c == '\u{B7}'
+        || matches!(c, '\u{300}'..='\u{36F}' | '\u{203F}'..='\u{2040}')
+}
+
+fn is_part_char(c: char) -> bool
+    ensures { result ≡ class.is_part_char c }
+{
+    is_name_char(c) || c == '-'
+}
+
+fn is_local_escape(c: char) -> bool
+    ensures { result ≡ class.is_local_escape c }
+{
+    matches!(c, '#'..='/' | '!' | ';' | '=' | '?' | '@' | '_' | '~')
+}
+
+fn is_forbidden_in_iri(c: char) -> bool
+    ensures { result ≡ class.is_forbidden_in_iri c }
+{
+    matches!(
+        c,
+        '\0'..=' ' | '<' | '>' | '"' | '{' | '}' | '|' | '^' | '`' | '\\'
+    )
+}
+
+fn is_iri_char(c: char) -> bool
+    ensures { result ≡ class.is_iri_char c }
+{
+    !is_forbidden_in_iri(c)
+}
+
+fn is_escape_letter(c: char) -> bool
+    ensures { result ≡ class.is_escape_letter c }
+{
+    matches!(c, 't' | 'b' | 'n' | 'r' | 'f' | '"' | '\'' | '\\')
+}
+
+fn is_line_end(c: char) -> bool
+    ensures { result ≡ class.is_line_end c }
+{
+    c == '\n' || c == '\r'
+}
+
+fn is_in_line(c: char) -> bool
+    ensures { result ≡ class.is_in_line c }
+{
+    !is_line_end(c)
+}
+
+/// Whether a character is white space: a space, a tab or a line end.
+pub fn is_blank(c: char) -> bool
+    ensures { result ≡ class.is_blank c }
+{
+    c == ' ' || c == '\t' || is_line_end(c)
+}
+
+fn is_long_plain(quote: char, c: char) -> bool
+    ensures { result ≡ class.is_long_plain quote c }
+{
+    c != quote && c != '\\'
+}
+
+fn is_mark(c: char) -> bool
+    ensures { result ≡ class.is_mark c }
+{
+    matches!(c, '('..='/' | '{' | '}' | '[' | ']' | ';' | '|' | '^' | '?' | '!' | '<'..='>')
+}

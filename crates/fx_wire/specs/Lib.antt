@@ -1,0 +1,4 @@
+pub mod Exchanges
+pub mod Honest
+pub mod Scripts
+pub mod TcpWires

@@ -1,0 +1,100 @@
+//! A wire in memory that answers by a script.
+ghost use Rattle.std.specs.Prelude.{◌≡◌, ◌≢◌, ◌+◌, ◌∷◌, ◌<◌, ◌≤◌, ◌++◌, [], ℕ, List, IfOk, IfSome, IsErrOf, IsOkAnd, IsTrue, MatchResult, OnOk, length, option_copied, position, take, vec_len};
+ghost use Rattle.fx_wire.specs.Scripts as spec;
+ghost use Rattle.fx_wire.specs.Exchanges.{exchanged};
+
+use crate::wires::{Wire, WireError};
+use fx_outside::{Endpoint, NameCounts};
+use fx_terms::{Iri, Memory};
+use std::alloc::Global;
+
+/// An exchange that was answered.
+#[derive(Debug, Drop)]
+pub struct Answered {
+    pub at: Endpoint,
+    pub request: Vec<u8>,
+    pub reply: Vec<u8>,
+}
+
+/// A wire in memory that answers each address by its replies in order, and tells its log. An address without a further reply
+/// is a fault.
+#[derive(Debug, Drop)]
+pub struct ScriptWire {
+    replies: Vec<(Iri, Vec<u8>)>,
+    log: Vec<Answered>,
+    faults: NameCounts,
+}
+
+impl ScriptWire {
+    /// The wire that has these replies, each for its address. It takes no memory, so `Memory` doesn't come: the answer is
+    /// always `Ok`.
+    pub fn new(alloc: Global, replies: Vec<(Iri, Vec<u8>)>) -> Result<ScriptWire, Memory>
+        ensures { IsOkAnd result (λ wire. spec.IsFreshWire wire replies.items) }
+    {
+        Ok(ScriptWire {
+            replies,
+            log: Vec::new(alloc),
+            faults: NameCounts::new(alloc),
+        })
+    }
+
+    /// The exchanges that were answered, in order.
+    pub fn log(&self) -> &[Answered]
+        ensures { result.now ≡ self.now.log.items }
+    {
+        self.log.as_slice()
+    }
+}
+
+impl Wire for ScriptWire {
+    ghost use Rattle.std.specs.Prelude.{true, None};
+    ghost use Rattle.fx_wire.specs.Scripts.{log_in, faults_in};
+
+    ghost tells_log = { true };
+
+    ghost log = { λ wire. log_in wire };
+
+    ghost graph = { λ _ _. None };
+
+    ghost faults = { λ wire address. faults_in wire address };
+
+    /// The first bytes of the next reply of the endpoint's address: all of them where it has at most `limit` bytes, and else
+    /// `limit + 1`.
+    ///
+    /// `Failed` comes where the address has no further reply. `Memory` comes where memory runs out, or where the count of
+    /// faults of the address stands at the end of `u64`.
+    fn exchange(
+        &mut self,
+        alloc: Global,
+        at: &Endpoint,
+        request: &[u8],
+        limit: u64,
+    ) -> Result<Vec<u8>, WireError> {
+        let place = self.faults.place(at.iri().text())?;
+        let Some(next) = next_reply(self.replies.as_slice(), at.iri()) else {
+            self.faults.raise(place);
+            return Err(WireError::Failed);
+        };
+        let whole = self.replies[next].1.as_slice();
+        let front = &whole[..whole.len().min(limit as usize + 1)];
+        let reply = Vec::from_slice(alloc, front)?;
+        let kept = Vec::from_slice(alloc, front)?;
+        let request = Vec::from_slice(alloc, request)?;
+        let at = at.copy(alloc)?;
+        self.log.push(Answered {
+            at,
+            request,
+            reply: kept,
+        })?;
+        self.replies.remove(next);
+        Ok(reply)
+    }
+}
+
+// The place of the first reply for an address.
+fn next_reply(replies: &[(Iri, Vec<u8>)], address: &Iri) -> Option<usize>
+    ensures place { result ≡ position (spec.is_for address.now) replies.now }
+    ensures within { IfSome result (λ place. place < length replies.now) }
+{
+    replies.iter().position(|reply| reply.0 == *address)
+}
