@@ -31,7 +31,8 @@ use Rattle.fx_ntriples.specs.declared.quotes.Quote.TheVariants.{Iri, Text}
 use Rattle.fx_ntriples.specs.Quotes.{is_plain, letter, IsBody, nothing, itself, escape}
 use Rattle.fx_ntriples.specs.Reading.{is_line_end, in_part, read_document}
 use Rattle.fx_ntriples.specs.Forms as form
-use Rattle.fx_ntriples.specs.Printing.{printed_byte, printed_form, printed_iri, printed_kind, printed_term, printed_triple, printed_line, printed_graph}
+use Rattle.fx_ntriples.specs.Printing.{printed_triple, printed_line, printed_graph}
+use Rattle.fx_terms.specs.Writing.{written_byte, written_form, written_iri, written_kind, written_term}
 use Rattle.fx_ntriples.proofs.Complete.{both, Parts, parts_of_tag, later_parts, document_reads}
 use Rattle.fx_ntriples.proofs.Sound.{passes_all}
 
@@ -77,14 +78,14 @@ iri_body : (t : List ℕ) → list_all (is_plain Iri) t ≡ true → IsBody Iri 
 iri_body [] h = nothing
 iri_body (b ∷ t) h = let x = both (is_plain Iri b) (list_all (is_plain Iri) t) h in itself x.0 (iri_body t x.1)
 
-iri_form : (t : List ℕ) → IsIri t → form.IsIriRef (printed_iri t) t
+iri_form : (t : List ℕ) → IsIri t → form.IsIriRef (written_iri t) t
 iri_form t h = form.iriref (iri_body t (iri_plain t h)) h.iri
 
 plain_inside : (b : ℕ) → is_plain Iri b ≡ true → inside b ≡ true
 unfolding inside
 plain_inside b h = grind (arith, nat_tests)
 
-iri_inside : (t : List ℕ) → IsIri t → list_all inside (printed_iri t) ≡ true
+iri_inside : (t : List ℕ) → IsIri t → list_all inside (written_iri t) ≡ true
 unfolding inside
 iri_inside t h = join inside t (62 ∷ []) (weaker (is_plain Iri) inside plain_inside t (iri_plain t h)) refl
 
@@ -98,11 +99,11 @@ byte_test b s t false false true y e f g k h = subst (λ (c : ℕ). IsBody Text 
 byte_test b s t false false false true e f g k h = subst (λ (c : ℕ). IsBody Text (92 ∷ 114 ∷ s) (c ∷ t)) (sym (eqb-true b 13 k)) (escape (letter refl) h)
 byte_test b s t false false false false e f g k h = itself (rw (e, f, g, k) refl) h
 
-form_body : (t : List ℕ) → IsBody Text (flat_map printed_byte t) t
+form_body : (t : List ℕ) → IsBody Text (flat_map written_byte t) t
 form_body [] = nothing
-form_body (b ∷ t) = byte_test b (flat_map printed_byte t) t (b == 34) (b == 92) (b == 10) (b == 13) refl refl refl refl (form_body t)
+form_body (b ∷ t) = byte_test b (flat_map written_byte t) t (b == 34) (b == 92) (b == 10) (b == 13) refl refl refl refl (form_body t)
 
-string_form : (t : List ℕ) → form.IsString (printed_form t) t
+string_form : (t : List ℕ) → form.IsString (written_form t) t
 string_form t = form.quoted (form_body t)
 
 byte_inside : (b : ℕ) (v w x y : Bool) → (b == 10) ≡ x → (b == 13) ≡ y → list_all inside (cond v (92 ∷ 34 ∷ []) (cond w (92 ∷ 92 ∷ []) (cond x (92 ∷ 110 ∷ []) (cond y (92 ∷ 114 ∷ []) (b ∷ []))))) ≡ true
@@ -113,13 +114,13 @@ byte_inside b false false true y e f = refl
 byte_inside b false false false true e f = refl
 byte_inside b false false false false e f = rw (e, f) refl
 
-form_inside : (t : List ℕ) → list_all inside (flat_map printed_byte t) ≡ true
+form_inside : (t : List ℕ) → list_all inside (flat_map written_byte t) ≡ true
 form_inside [] = refl
-form_inside (b ∷ t) = join inside (printed_byte b) (flat_map printed_byte t) (byte_inside b (b == 34) (b == 92) (b == 10) (b == 13) refl refl) (form_inside t)
+form_inside (b ∷ t) = join inside (written_byte b) (flat_map written_byte t) (byte_inside b (b == 34) (b == 92) (b == 10) (b == 13) refl refl) (form_inside t)
 
-string_inside : (t : List ℕ) → list_all inside (printed_form t) ≡ true
+string_inside : (t : List ℕ) → list_all inside (written_form t) ≡ true
 unfolding inside
-string_inside t = join inside (flat_map printed_byte t) (34 ∷ []) (form_inside t) refl
+string_inside t = join inside (flat_map written_byte t) (34 ∷ []) (form_inside t) refl
 
 -- ---- tags
 
@@ -157,7 +158,7 @@ turned false true h = refl
 turned false false h = absurd (cc)
 
 record Writes (l : LiteralParts) (kind : List ℕ) : Type 0 where
-  form : form.IsObject (printed_form l.form ++ kind) (term.Literal l)
+  form : form.IsObject (written_form l.form ++ kind) (term.Literal l)
   stays : list_all inside kind ≡ true
 
 kind_of_tag : (l : LiteralParts) → IsLiteral l → (length l.tag == 0) ≡ false → Writes l (64 ∷ l.tag)
@@ -172,45 +173,45 @@ kind_of_tag l h e =
 abbrev parts : List ℕ → List ℕ → List ℕ → LiteralParts
 parts form datatype tag = record { form = form; datatype = datatype; tag = tag }
 
-kind_of_datatype : (l : LiteralParts) (v : Bool) → IsLiteral l → (length l.tag == 0) ≡ true → bytes_eq l.datatype xsd_string ≡ v → Writes l (cond v [] (94 ∷ 94 ∷ printed_iri l.datatype))
+kind_of_datatype : (l : LiteralParts) (v : Bool) → IsLiteral l → (length l.tag == 0) ≡ true → bytes_eq l.datatype xsd_string ≡ v → Writes l (cond v [] (94 ∷ 94 ∷ written_iri l.datatype))
 unfolding inside
 kind_of_datatype l true h e f =
     let datatype : l.datatype ≡ xsd_string = same_text l.datatype xsd_string (sym f) in
     let tag : l.tag ≡ [] = no_bytes l.tag e in
     let same : plain l.form ≡ l = ap (λ d. parts l.form d []) (sym datatype) ∙ ap (λ t. parts l.form l.datatype t) (sym tag) in
-    record { form = rw (append-nil (printed_form l.form)) (subst (λ (x : LiteralParts). form.IsObject (printed_form l.form) (term.Literal x)) same (form.alone (string_form l.form))); stays = refl }
+    record { form = rw (append-nil (written_form l.form)) (subst (λ (x : LiteralParts). form.IsObject (written_form l.form) (term.Literal x)) same (form.alone (string_form l.form))); stays = refl }
 kind_of_datatype l false h e f =
     let tag : l.tag ≡ [] = no_bytes l.tag e in
     let other : bytes_eq l.datatype lang_string ≡ false = turned (length l.tag == 0) (bytes_eq l.datatype lang_string) h.fits ∙ rw e refl in
     let made : typed l.form l.datatype ≡ Ok l = rw (other, ← tag) refl in
-    record { form = form.with_datatype [] [] (printed_iri l.datatype) (string_form l.form) refl refl (iri_form l.datatype h.datatype) made; stays = iri_inside l.datatype h.datatype }
+    record { form = form.with_datatype [] [] (written_iri l.datatype) (string_form l.form) refl refl (iri_form l.datatype h.datatype) made; stays = iri_inside l.datatype h.datatype }
 
-kind_test : (l : LiteralParts) (v : Bool) → IsLiteral l → (length l.tag == 0) ≡ v → Writes l (cond v (cond (bytes_eq l.datatype xsd_string) [] (94 ∷ 94 ∷ printed_iri l.datatype)) (64 ∷ l.tag))
+kind_test : (l : LiteralParts) (v : Bool) → IsLiteral l → (length l.tag == 0) ≡ v → Writes l (cond v (cond (bytes_eq l.datatype xsd_string) [] (94 ∷ 94 ∷ written_iri l.datatype)) (64 ∷ l.tag))
 kind_test l true h e = kind_of_datatype l (bytes_eq l.datatype xsd_string) h e refl
 kind_test l false h e = kind_of_tag l h e
 
-literal_written : (l : LiteralParts) → IsLiteral l → Writes l (printed_kind l)
+literal_written : (l : LiteralParts) → IsLiteral l → Writes l (written_kind l)
 literal_written l h = kind_test l (length l.tag == 0) h refl
 
-term_form : (t : Term) → IsTerm t → form.IsObject (printed_term t) t
+term_form : (t : Term) → IsTerm t → form.IsObject (written_term t) t
 term_form (term.Iri a) h = form.reference (iri_form a h)
 term_form (term.Literal l) h = (literal_written l h).form
 
-term_inside : (t : Term) → IsTerm t → list_all inside (printed_term t) ≡ true
+term_inside : (t : Term) → IsTerm t → list_all inside (written_term t) ≡ true
 term_inside (term.Iri a) h = iri_inside a h
-term_inside (term.Literal l) h = join inside (printed_form l.form) (printed_kind l) (string_inside l.form) (literal_written l h).stays
+term_inside (term.Literal l) h = join inside (written_form l.form) (written_kind l) (string_inside l.form) (literal_written l h).stays
 
 -- ---- triples and graphs
 
 triple_form : (t : Triple) → IsTriple t → form.IsLine (printed_triple t) (Some t)
-triple_form t h = form.says [] (32 ∷ []) (32 ∷ []) (32 ∷ []) [] [] (printed_iri t.subject) (printed_iri t.predicate) (printed_term t.object) refl refl refl refl refl tt (iri_form t.subject h.subject) (iri_form t.predicate h.predicate) (term_form t.object h.object)
+triple_form t h = form.says [] (32 ∷ []) (32 ∷ []) (32 ∷ []) [] [] (written_iri t.subject) (written_iri t.predicate) (written_term t.object) refl refl refl refl refl tt (iri_form t.subject h.subject) (iri_form t.predicate h.predicate) (term_form t.object h.object)
 
 triple_inside : (t : Triple) → IsTriple t → list_all inside (printed_triple t) ≡ true
 unfolding inside
 triple_inside t h =
-    join inside (printed_iri t.subject) _ (iri_inside t.subject h.subject)
-    (join inside (printed_iri t.predicate) _ (iri_inside t.predicate h.predicate)
-    (join inside (printed_term t.object) _ (term_inside t.object h.object) refl))
+    join inside (written_iri t.subject) _ (iri_inside t.subject h.subject)
+    (join inside (written_iri t.predicate) _ (iri_inside t.predicate h.predicate)
+    (join inside (written_term t.object) _ (term_inside t.object h.object) refl))
 
 line_first : (t : Triple) (rest : List ℕ) → IsTriple t → slice_split is_line_end (printed_line t ++ rest) ≡ printed_triple t ∷ slice_split is_line_end rest
 line_first t rest h = ap (slice_split is_line_end) (append_assoc (printed_triple t) (10 ∷ []) rest) ∙ first_line (printed_triple t) rest 10 (triple_inside t h) refl

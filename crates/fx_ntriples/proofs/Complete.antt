@@ -23,7 +23,7 @@ both false b h = absurd (cc)
 
 -- ---- what stands between signs
 
-front_of : (xs ys : List ℕ) (n : ℕ) → length xs ≡ n → take n (xs ++ ys) ≡ xs
+pub front_of : (xs ys : List ℕ) (n : ℕ) → length xs ≡ n → take n (xs ++ ys) ≡ xs
 front_of [] ys zero e = refl
 front_of [] ys (suc n) e = absurd (cc)
 front_of (x ∷ xs) ys zero e = absurd (cc)
@@ -35,7 +35,7 @@ back_of [] ys (suc n) e = absurd (cc)
 back_of (x ∷ xs) ys zero e = absurd (cc)
 back_of (x ∷ xs) ys (suc n) e = back_of xs ys n (omega arith)
 
-all_pass : (p : ℕ → Bool) (xs : List ℕ) → list_all p xs ≡ true → prefix_len p xs ≡ length xs
+pub all_pass : (p : ℕ → Bool) (xs : List ℕ) → list_all p xs ≡ true → prefix_len p xs ≡ length xs
 all_pass p [] h = refl
 all_pass p (x ∷ xs) h = let b = both (p x) (list_all p xs) h in rw (b.0, all_pass p xs b.1) (omega arith)
 
@@ -62,11 +62,11 @@ closing_plain Text = refl
 same_test : (n : ℕ) → (n == n) ≡ true
 same_test n = grind (arith, nat_tests)
 
-backslash_plain : (q : Quote) → is_plain q 92 ≡ false
+pub backslash_plain : (q : Quote) → is_plain q 92 ≡ false
 backslash_plain Iri = refl
 backslash_plain Text = refl
 
-backslash_closing : (q : Quote) → (92 == closing q) ≡ false
+pub backslash_closing : (q : Quote) → (92 == closing q) ≡ false
 backslash_closing Iri = refl
 backslash_closing Text = refl
 
@@ -74,11 +74,11 @@ body_closes : (q : Quote) (rest : List ℕ) → body q 0 (closing q ∷ rest) �
 unfolding body
 body_closes q rest = rw (closing_plain q, same_test (closing q)) refl
 
-body_plain : (q : Quote) (b : ℕ) (s : List ℕ) → is_plain q b ≡ true → body q 0 (b ∷ s) ≡ in_front (b ∷ []) (body q 0 s)
+pub body_plain : (q : Quote) (b : ℕ) (s : List ℕ) → is_plain q b ≡ true → body q 0 (b ∷ s) ≡ in_front (b ∷ []) (body q 0 s)
 unfolding body
 body_plain q b s h = rw h refl
 
-body_escapes : (q : Quote) (s c : List ℕ) (n : ℕ) → escape_at q s ≡ names c n → body q 0 (92 ∷ s) ≡ in_front c (body q 0 (drop n s))
+pub body_escapes : (q : Quote) (s c : List ℕ) (n : ℕ) → escape_at q s ≡ names c n → body q 0 (92 ∷ s) ≡ in_front c (body q 0 (drop n s))
 unfolding body
 body_escapes q s c n e = rw (backslash_plain q, backslash_closing q, e) (ap (in_front c) (passed_over q n s))
 
@@ -102,7 +102,7 @@ pub blanks_read : (a s : List ℕ) → form.AreBlanks a → unblanked (a ++ s) �
 blanks_read [] s h = refl
 blanks_read (b ∷ a) s h = let t = both (is_blank b) (list_all is_blank a) h in blank_step b (a ++ s) t.0 ∙ blanks_read a s t.1
 
-iri_unblanked : (s t rest : List ℕ) → form.IsIriRef s t → unblanked (s ++ rest) ≡ s ++ rest
+pub iri_unblanked : (s t rest : List ℕ) → form.IsIriRef s t → unblanked (s ++ rest) ≡ s ++ rest
 iri_unblanked _ _ rest (form.iriref {s} {t} h e) = refl
 
 -- ---- tags
@@ -134,6 +134,10 @@ later_parts (p ∷ ps) l h =
 pub NoTag : List ℕ → Type 0
 NoTag [] = Unit {0}
 NoTag (b ∷ s) = (is_letter_or_digit b ≡ false) × ((b == 45) ≡ false)
+
+pub no_tag_nil : NoTag []
+unfolding NoTag
+no_tag_nil = tt
 
 no_part : (first : Bool) (b : ℕ) → is_letter_or_digit b ≡ false → in_part first b ≡ false
 no_part true b h = grind (arith, nat_tests)
@@ -167,7 +171,7 @@ tag_step first empty b t rest (p ∷ ps) false d l h ih =
     let a = both (in_part first b) (list_all (in_part first) p) h.1 in
     tag_part first empty b (t ++ rest) a.0 ∙ ap (λ n. 1 + n) (ih first false (λ e. absurd (cc), a.1, h.2)) ∙ omega arith
 
-tag_reads : (first empty : Bool) (t rest : List ℕ) → NoTag rest → Parts first empty (slice_split is_dash t) → tag_len first empty (t ++ rest) ≡ length t
+pub tag_reads : (first empty : Bool) (t rest : List ℕ) → NoTag rest → Parts first empty (slice_split is_dash t) → tag_len first empty (t ++ rest) ≡ length t
 tag_reads first empty [] rest n h = tag_stops first empty rest n
 tag_reads first empty (b ∷ t) rest n h =
     tag_step first empty b t rest (slice_split is_dash t) (b == 45) refl (omega (arith, length-slice_split is_dash t)) h (λ f e k. tag_reads f e t rest n k)
@@ -184,7 +188,7 @@ tag_is_read form_text tag rest l n h =
 
 -- ---- literals and objects
 
-string_object : (s t rest : List ℕ) → form.IsString s t → object (s ++ rest) ≡ literal t rest
+pub string_object : (s t rest : List ℕ) → form.IsString s t → object (s ++ rest) ≡ literal t rest
 string_object _ _ rest (form.quoted {s} {t} h) = ap (λ x. object (34 ∷ x)) (append_assoc s (34 ∷ []) rest) ∙ rw (body_reads Text s t rest h) refl
 
 -- what stands behind blanks and is no @ and no blank

@@ -1,10 +1,16 @@
 pub mod Answered
 pub mod Back
 pub mod Complete
+pub mod Exact
+pub mod Halts
 pub mod LineSteps
 pub mod Placed
-pub mod PrintSteps
+pub mod Refused
 pub mod Sound
+pub mod States
 pub mod Steps
 pub mod Stops
 pub mod Tags
+pub mod Utf8Shapes
+pub mod Utf8Stops
+pub mod Viable

@@ -1,7 +1,8 @@
 -- Which line a refusal stands in, and where.
 use Rattle.std.proofs.Common.{◌≡◌, ◌≢◌, ℕ, zero, suc, ◌+◌, ◌-◌, inl, inr, Bool, true, false, cond, Option, Some, None, Result, Ok, Err, List, [], ◌∷◌, ◌++◌, length, take, drop, refl, sym, ap, ◌∙◌, subst, arith, append_assoc, length-append}
 use Rattle.std.specs.List.{slice_split, onto_first}
-use Rattle.std.specs.Str.{is_utf8}
+use Rattle.std.specs.Str.{is_utf8, IsUtf8}
+use Rattle.std.proofs.lemmas.Str.{is_utf8-from_IsUtf8}
 use Rattle.std.proofs.lemmas.List.{drop-drop}
 use Rattle.fx_terms.specs.declared.triples.Triple.{Triple}
 use Rattle.fx_ntriples.specs.declared.faults.Fault.{Fault}
@@ -9,13 +10,16 @@ use Rattle.fx_ntriples.specs.declared.faults.Fault.TheVariants as fault_is
 use Rattle.fx_ntriples.specs.declared.faults.NtError.{NtError}
 use Rattle.fx_ntriples.specs.declared.faults.NtError.TheVariants as error
 use Rattle.fx_ntriples.specs.Quotes.{Got, got, stop}
-use Rattle.fx_ntriples.specs.Places.{line_ends, char_count, utf8_fault}
+use Rattle.fx_ntriples.specs.Places.{line_ends, char_count, utf8_fault, at_place}
 use Rattle.fx_ntriples.specs.Reading.{is_line_end, line, Lines, all, fault, also, followed, read_lines, answered, read_document}
 use Rattle.fx_ntriples.specs.Forms as form
-use Rattle.fx_ntriples.specs.Refusals.{StandsAt, BlankStands, RelativeStands, span}
+use Rattle.fx_ntriples.specs.Refusals.{StandsAt, BlankStands, RelativeStands, BadStands, span}
 use Rattle.fx_ntriples.specs.Answers.{Answers}
 use Rattle.fx_ntriples.proofs.Sound.{line_spelled}
 use Rattle.fx_ntriples.proofs.Stops.{Ends, Stands, line_stop}
+use Rattle.fx_ntriples.proofs.Complete.{line_reads}
+use Rattle.fx_ntriples.proofs.Exact.{line_bad, bad_refused}
+use Rattle.fx_ntriples.proofs.Refused.{blank_refused, relative_refused}
 
 -- ---- lines of a text, by places
 
@@ -125,6 +129,29 @@ front_is [] ys (suc n) e = absurd (cc)
 front_is (x ∷ xs) ys zero e = absurd (cc)
 front_is (x ∷ xs) ys (suc n) e = ap (λ t. x ∷ t) (front_is xs ys n (omega arith))
 
+-- Bad
+placed_bad : (bytes : List ℕ) (at place line column : ℕ) → StopsIn 0 (slice_split is_line_end bytes) fault_is.Bad at place →
+    line ≡ line_ends (take at bytes) + 1 → column ≡ char_count (take place (drop at bytes)) + 1 → StandsAt BadStands bytes line column
+placed_bad bytes at place line column m e g =
+    let x = line_bad m.text m.rest m.stops in
+    let start : at ≡ span m.before = omega (arith, m.at_is) in
+    let b = begins is_line_end bytes m.text m.before m.after m.lines in
+    let behind : drop (span m.before) bytes ≡ x.front ++ (m.rest ++ b.0) = b.1 ∙ ap (λ z. z ++ b.0) x.is ∙ append_assoc x.front m.rest b.0 in
+    let size : place ≡ length x.front = omega (arith, m.place_is, ap length x.is, length-append x.front m.rest) in
+    let front : take place (drop at bytes) ≡ x.front = ap (λ n. take place (drop n bytes)) start ∙ ap (take place) behind ∙ front_is x.front (m.rest ++ b.0) place size in
+    record {
+      before = m.before;
+      triples = m.triples;
+      read = m.read;
+      front = x.front;
+      rest = m.rest;
+      after = m.after;
+      lines = m.lines ∙ ap (λ z. m.before ++ z ∷ m.after) x.is;
+      stands = x.bad;
+      line_is = e ∙ ap (λ n. line_ends (take n bytes) + 1) start;
+      column_is = g ∙ ap (λ z. char_count z + 1) front;
+    }
+
 -- a fault of a kind other than Bad
 placed : (What : List ℕ → List ℕ → Type 0) (bytes : List ℕ) (k : Fault) (at place line column : ℕ) → (k ≢ fault_is.Bad) → ((p r : List ℕ) → Stands k p r → What p r) → StopsIn 0 (slice_split is_line_end bytes) k at place →
     line ≡ line_ends (take at bytes) + 1 → column ≡ char_count (take place (drop at bytes)) + 1 → StandsAt What bytes line column
@@ -158,6 +185,12 @@ blank_answer bytes (fault fault_is.Bad at place) l c h = absurd (cc)
 blank_answer bytes (fault fault_is.Relative at place) l c h = absurd (cc)
 blank_answer bytes (fault fault_is.Blank at place) l c h = (at, place, refl, cc, cc)
 
+bad_answer : (bytes : List ℕ) (ls : Lines) (l c : ℕ) → answered bytes ls ≡ Err (error.Bad l c) → (at : ℕ) × (place : ℕ) × (ls ≡ fault fault_is.Bad at place) × (l ≡ line_ends (take at bytes) + 1) × (c ≡ char_count (take place (drop at bytes)) + 1)
+bad_answer bytes (all ts) l c h = absurd (cc)
+bad_answer bytes (fault fault_is.Blank at place) l c h = absurd (cc)
+bad_answer bytes (fault fault_is.Relative at place) l c h = absurd (cc)
+bad_answer bytes (fault fault_is.Bad at place) l c h = (at, place, refl, cc, cc)
+
 relative_answer : (bytes : List ℕ) (ls : Lines) (l c : ℕ) → answered bytes ls ≡ Err (error.Relative l c) → (at : ℕ) × (place : ℕ) × (ls ≡ fault fault_is.Relative at place) × (l ≡ line_ends (take at bytes) + 1) × (c ≡ char_count (take place (drop at bytes)) + 1)
 relative_answer bytes (all ts) l c h = absurd (cc)
 relative_answer bytes (fault fault_is.Bad at place) l c h = absurd (cc)
@@ -177,6 +210,23 @@ relative_test bytes l c n true h =
     let a = relative_answer bytes (read_lines 0 (slice_split is_line_end bytes)) l c h in
     placed RelativeStands bytes fault_is.Relative a.0 a.1 l c (λ e. cc) (λ p r s. s) (lines_stop 0 (slice_split is_line_end bytes) fault_is.Relative a.0 a.1 a.2) a.3 a.4
 relative_test bytes l c n false h = absurd (cc)
+
+bad_test : (bytes : List ℕ) (l c n : ℕ) (v : Bool) → cond v (answered bytes (read_lines 0 (slice_split is_line_end bytes))) (Err (error.BadUtf8 n)) ≡ Err (error.Bad l c) → StandsAt BadStands bytes l c
+bad_test bytes l c n true h =
+    let a = bad_answer bytes (read_lines 0 (slice_split is_line_end bytes)) l c h in
+    placed_bad bytes a.0 a.1 l c (lines_stop 0 (slice_split is_line_end bytes) fault_is.Bad a.0 a.1 a.2) a.3 a.4
+bad_test bytes l c n false h = absurd (cc)
+
+pub bad_stands : (bytes : List ℕ) (l c : ℕ) → read_document bytes ≡ Err (error.Bad l c) → StandsAt BadStands bytes l c
+bad_stands bytes l c h = bad_test bytes l c (utf8_fault bytes) (is_utf8 bytes) h
+
+pub told_bad : {X : Type 0} (r : Result X NtError) (wanted : Result X NtError) (l c : ℕ) → Answers r wanted → r ≡ Err (error.Bad l c) → wanted ≡ Err (error.Bad l c)
+told_bad (Ok x) wanted l c a h = absurd (cc)
+told_bad (Err error.Memory) wanted l c a h = absurd (cc)
+told_bad (Err (error.BadUtf8 p)) wanted l c a h = absurd (cc)
+told_bad (Err (error.Bad m d)) wanted l c a h = cc
+told_bad (Err (error.Blank m d)) wanted l c a h = absurd (cc)
+told_bad (Err (error.Relative m d)) wanted l c a h = absurd (cc)
 
 pub blank_stands : (bytes : List ℕ) (l c : ℕ) → read_document bytes ≡ Err (error.Blank l c) → StandsAt BlankStands bytes l c
 blank_stands bytes l c h = blank_test bytes l c (utf8_fault bytes) (is_utf8 bytes) h
@@ -199,3 +249,53 @@ told_relative (Err (error.BadUtf8 p)) wanted l c a h = absurd (cc)
 told_relative (Err (error.Bad m d)) wanted l c a h = absurd (cc)
 told_relative (Err (error.Blank m d)) wanted l c a h = absurd (cc)
 told_relative (Err (error.Relative m d)) wanted l c a h = cc
+
+-- ---- the other way round
+
+abbrev refusal : Fault → ℕ → ℕ → NtError
+refusal fault_is.Bad l c = error.Bad l c
+refusal fault_is.Blank l c = error.Blank l c
+refusal fault_is.Relative l c = error.Relative l c
+
+placed_is : (bytes : List ℕ) (k : Fault) (start place : ℕ) → at_place bytes k start place ≡ refusal k (line_ends (take start bytes) + 1) (char_count (take place (drop start bytes)) + 1)
+placed_is bytes fault_is.Bad start place = refl
+placed_is bytes fault_is.Blank start place = refl
+placed_is bytes fault_is.Relative start place = refl
+
+-- behind lines that are read, a line stops the reading
+lines_halt : (start : ℕ) (before after : List (List ℕ)) (ts : List Triple) (text rest : List ℕ) (k : Fault) → form.AreLines before ts → line text ≡ stop k rest →
+    read_lines start (before ++ text ∷ after) ≡ fault k (start + span before) (length text - length rest)
+lines_halt start _ after ts text rest k form.none h =
+    let same : start ≡ start + 0 = omega arith in
+    ap (λ g. followed start (length text) g (read_lines (start + length text + 1) after)) h ∙ ap (λ n. fault k n (length text - length rest)) same
+lines_halt start _ after ts text rest k (form.silent {l} {ls} {ts = us} m others) h =
+    let same : start + length l + 1 + span ls ≡ start + (length l + 1 + span ls) = omega arith in
+    ap (λ g. followed start (length l) g (read_lines (start + length l + 1) (ls ++ text ∷ after))) (line_reads l None m)
+    ∙ lines_halt (start + length l + 1) ls after us text rest k others h ∙ ap (λ n. fault k n (length text - length rest)) same
+lines_halt start _ after ts text rest k (form.more {l} {ls} {t} {ts = us} m others) h =
+    let same : start + length l + 1 + span ls ≡ start + (length l + 1 + span ls) = omega arith in
+    ap (λ g. followed start (length l) g (read_lines (start + length l + 1) (ls ++ text ∷ after))) (line_reads l (Some t) m)
+    ∙ ap (also (Some t)) (lines_halt (start + length l + 1) ls after us text rest k others h ∙ ap (λ n. fault k n (length text - length rest)) same)
+
+stands_read : (What : List ℕ → List ℕ → Type 0) (k : Fault) (bytes : List ℕ) (l c : ℕ) → ((p r : List ℕ) → What p r → line (p ++ r) ≡ stop k r) → IsUtf8 bytes → StandsAt What bytes l c → read_document bytes ≡ Err (refusal k l c)
+stands_read What k bytes l c f u h =
+    let text = h.front ++ h.rest in
+    let place = length text - length h.rest in
+    let size : place ≡ length h.front = omega (arith, length-append h.front h.rest) in
+    let b = begins is_line_end bytes text h.before h.after h.lines in
+    let behind : drop (span h.before) bytes ≡ h.front ++ (h.rest ++ b.0) = b.1 ∙ append_assoc h.front h.rest b.0 in
+    let front : take place (drop (span h.before) bytes) ≡ h.front = ap (take place) behind ∙ front_is h.front (h.rest ++ b.0) place size in
+    let halt : read_lines 0 (slice_split is_line_end bytes) ≡ fault k (0 + span h.before) place = ap (read_lines 0) h.lines ∙ lines_halt 0 h.before h.after h.triples text h.rest k h.read (f h.front h.rest h.stands) in
+    let zero_plus : 0 + span h.before ≡ span h.before = omega arith in
+    rw (is_utf8-from_IsUtf8 bytes u)
+    (ap (answered bytes) (halt ∙ ap (λ n. fault k n place) zero_plus)
+    ∙ ap (λ e. Err e) (placed_is bytes k (span h.before) place ∙ (λ i. refusal k (sym h.line_is i) (char_count (front i) + 1)) ∙ ap (refusal k l) (sym h.column_is)))
+
+pub bad_only : (bytes : List ℕ) (l c : ℕ) → IsUtf8 bytes → StandsAt BadStands bytes l c → read_document bytes ≡ Err (error.Bad l c)
+bad_only bytes l c u h = stands_read BadStands fault_is.Bad bytes l c bad_refused u h
+
+pub blank_only : (bytes : List ℕ) (l c : ℕ) → IsUtf8 bytes → StandsAt BlankStands bytes l c → read_document bytes ≡ Err (error.Blank l c)
+blank_only bytes l c u h = stands_read BlankStands fault_is.Blank bytes l c blank_refused u h
+
+pub relative_only : (bytes : List ℕ) (l c : ℕ) → IsUtf8 bytes → StandsAt RelativeStands bytes l c → read_document bytes ≡ Err (error.Relative l c)
+relative_only bytes l c u h = stands_read RelativeStands fault_is.Relative bytes l c relative_refused u h

@@ -24,7 +24,7 @@ use Rattle.fx_ntriples.specs.Quotes.{Got, got, stop, and_then, in_front, Escape,
 use Rattle.fx_ntriples.specs.Reading.{is_blank, is_line_end, unblanked, iri, tag_len, if_absolute, if_literal, with_tag, with_datatype, untagged, literal, subject, object, dotted, triple, ended, said, line, Lines, all, fault, also, followed, read_lines, answered, read_document}
 use Rattle.fx_ntriples.specs.Forms as form
 
-and_then_got : {A B : Type 0} (g : Got A) (f : A → List ℕ → Got B) (b : B) (r : List ℕ) → and_then g f ≡ got b r → (a : A) × (s : List ℕ) × (g ≡ got a s) × (f a s ≡ got b r)
+pub and_then_got : {A B : Type 0} (g : Got A) (f : A → List ℕ → Got B) (b : B) (r : List ℕ) → and_then g f ≡ got b r → (a : A) × (s : List ℕ) × (g ≡ got a s) × (f a s ≡ got b r)
 and_then_got (got a s) f b r h = (a, s, refl, h)
 and_then_got (stop k s) f b r h = absurd (cc)
 
@@ -95,6 +95,10 @@ unfolding escape_at
 escape_spelled q [] c n h = absurd (cc)
 escape_spelled q (b ∷ s) c n h = escape_test q b s c n (b == 117) (b == 85) refl refl h
 
+pub escape_is : (q : Quote) (s c : List ℕ) (n : ℕ) → escape_at q s ≡ names c n → IsEscape q (take n s) c × (n ≤ length s)
+unfolding Spelled
+escape_is q s c n h = escape_spelled q s c n h
+
 -- a text is spelled up to the closing sign
 pub record SpellsBody (q : Quote) (s t r : List ℕ) : Type 0 where
   pub raw : List ℕ
@@ -151,6 +155,9 @@ scheme_same text t false h = absurd (cc)
 after_same : (text t : List ℕ) (o : Option ℕ) → iri_after text o ≡ Ok t → text ≡ t
 after_same text t (Some place) h = absurd (cc)
 after_same text t None h = scheme_same text t (has_scheme text) h
+
+pub same_text : (text t : List ℕ) → read_iri text ≡ Ok t → text ≡ t
+same_text text t h = after_same text t (position is_forbidden text) h
 
 iri_is : (here x t r u : List ℕ) (a : Result (List ℕ) TermError) → read_iri u ≡ a → if_absolute here x a ≡ got t r → (read_iri u ≡ Ok t) × (u ≡ t) × (x ≡ r)
 iri_is here x t r u (Ok w) e h =
@@ -294,25 +301,25 @@ dotted_spelled : (t u : Triple) (s r : List ℕ) → dotted t s ≡ got u r → 
 dotted_spelled t u [] r h = absurd (cc)
 dotted_spelled t u (b ∷ s) r h = dotted_test t u b s r (b == 46) refl h
 
-record SpellsTriple (l : List ℕ) (t : Triple) (r : List ℕ) : Type 0 where
-  b : List ℕ
-  c : List ℕ
-  d : List ℕ
-  s : List ℕ
-  p : List ℕ
-  o : List ℕ
-  hb : form.AreBlanks b
-  hc : form.AreBlanks c
-  hd : form.AreBlanks d
-  hs : form.IsIriRef s t.subject
-  hp : form.IsIriRef p t.predicate
-  ho : form.IsObject o t.object
+pub record SpellsTriple (l : List ℕ) (t : Triple) (r : List ℕ) : Type 0 where
+  pub b : List ℕ
+  pub c : List ℕ
+  pub d : List ℕ
+  pub s : List ℕ
+  pub p : List ℕ
+  pub o : List ℕ
+  pub hb : form.AreBlanks b
+  pub hc : form.AreBlanks c
+  pub hd : form.AreBlanks d
+  pub hs : form.IsIriRef s t.subject
+  pub hp : form.IsIriRef p t.predicate
+  pub ho : form.IsObject o t.object
   pub is : l ≡ s ++ (b ++ (p ++ (c ++ (o ++ (d ++ 46 ∷ r)))))
 
 join_blanks : (a b : List ℕ) → form.AreBlanks a → form.AreBlanks b → form.AreBlanks (a ++ b)
 join_blanks a b h k = list_all-append is_blank a b ∙ rw (h, k) refl
 
-triple_spelled : (l : List ℕ) (t : Triple) (r : List ℕ) → triple l ≡ got t r → SpellsTriple l t r
+pub triple_spelled : (l : List ℕ) (t : Triple) (r : List ℕ) → triple l ≡ got t r → SpellsTriple l t r
 triple_spelled l t r h =
     let f2 = λ (s : List ℕ) (p : List ℕ) (q : List ℕ). and_then (object (unblanked q)) (λ o e. dotted (record { subject = s; predicate = p; object = o }) (unblanked e)) in
     let f1 = λ (s : List ℕ) (r : List ℕ). and_then (iri (unblanked r)) (f2 s) in

@@ -17,12 +17,12 @@ use Rattle.fx_ntriples.specs.Forms as form
 use Rattle.fx_ntriples.specs.Refusals as what
 use Rattle.fx_ntriples.proofs.Sound.{body_spelled, subject_spelled, iri_spelled, blanks_spelled}
 
-in_front_stop : (c : List ℕ) (g : Got (List ℕ)) (k : Fault) (r : List ℕ) → in_front c g ≡ stop k r → g ≡ stop k r
+pub in_front_stop : (c : List ℕ) (g : Got (List ℕ)) (k : Fault) (r : List ℕ) → in_front c g ≡ stop k r → g ≡ stop k r
 in_front_stop c (got t s) k r h = absurd (cc)
 in_front_stop c (stop j s) k r h = h
 
 -- a reading after another stops: the first stops, or it gives something behind which the other stops
-and_then_stop : {A B : Type 0} (g : Got A) (f : A → List ℕ → Got B) (k : Fault) (r : List ℕ) → and_then g f ≡ stop k r → (g ≡ stop k r) ⊎ ((a : A) × (s : List ℕ) × (g ≡ got a s) × (f a s ≡ stop k r))
+pub and_then_stop : {A B : Type 0} (g : Got A) (f : A → List ℕ → Got B) (k : Fault) (r : List ℕ) → and_then g f ≡ stop k r → (g ≡ stop k r) ⊎ ((a : A) × (s : List ℕ) × (g ≡ got a s) × (f a s ≡ stop k r))
 and_then_stop (got a s) f k r h = inr (a, s, refl, h)
 and_then_stop (stop j s) f k r h = inl (let e : j ≡ k = cc in let d : s ≡ r = cc in ap (λ x. stop x s) e ∙ ap (stop k) d)
 

@@ -11,7 +11,6 @@ use Rattle.fx_ntriples.specs.declared.quotes.Spelled.TheVariants.{Slice, Decoded
 use Rattle.std.specs.declared.vec.Vec.{Vec}
 use Rattle.std.specs.declared.alloc.Global.{Global}
 use Rattle.fx_terms.specs.declared.triples.Triple.{Triple}
-use Rattle.fx_terms.specs.declared.allocation.Memory.{Memory as NoMemory}
 use Rattle.fx_ntriples.specs.declared.reading.Halt.{Halt}
 use Rattle.fx_ntriples.specs.declared.reading.Halt.TheVariants as halt
 use Rattle.fx_ntriples.specs.Reading.{Lines, all, fault}
@@ -51,11 +50,6 @@ abbrev pub AnswersLines : List ℕ → Result (Vec Triple Global) Halt → Lines
 AnswersLines bytes (Ok v) wanted = wanted ≡ all v.items
 AnswersLines bytes (Err (halt.At k start place)) wanted = (start ≤ length bytes) × (place ≤ length (drop start bytes)) × (wanted ≡ fault k start place)
 AnswersLines bytes (Err halt.Memory) wanted = Unit {0}
-
--- after success a text has grown by another
-abbrev pub Grows : Result (Unit {0}) NoMemory → List ℕ → List ℕ → List ℕ → Type 0
-Grows (Ok u) old new more = new ≡ old ++ more
-Grows (Err e) old new more = Unit {0}
 
 -- what a line says, as a list
 abbrev pub triples_of : Option Triple → List Triple

@@ -1,5 +1,6 @@
 pub mod Answers
 pub mod Forms
+pub mod Loose
 pub mod Places
 pub mod Printing
 pub mod Quotes

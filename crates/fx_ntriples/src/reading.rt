@@ -1,13 +1,13 @@
 //! Documents are read.
 ghost use Rattle.std.specs.Prelude.{◌≡◌, ℕ, Err, ◌<◌, ◌≤◌, ◌+◌, ◌∷◌, length, take, drop, List, IfOk, MatchResult, Some, None, if◌then◌else◌, IfErr};
 ghost use Rattle.std.specs.List.{slice_split, position_or_len};
-ghost use Rattle.std.specs.Str.{IsErrorLen, valid_up_to, error_len};
+ghost use Rattle.std.specs.Str.{IsErrorLen, IsUtf8, valid_up_to, error_len};
 ghost use Rattle.std.specs.Str.Lossy.{utf8_valid_len, utf8_error_len};
 ghost use Rattle.fx_terms.specs.declared.triples.Triple.{Triple as TripleParts};
 ghost use Rattle.fx_ntriples.specs.Reading as spec;
 ghost use Rattle.fx_ntriples.specs.Places as places;
 ghost use Rattle.fx_ntriples.specs.Forms.{IsDocument};
-ghost use Rattle.fx_ntriples.specs.Refusals.{StandsAt, BlankStands, RelativeStands};
+ghost use Rattle.fx_ntriples.specs.Refusals.{StandsAt, BadStands, BlankStands, RelativeStands, StopsUtf8};
 ghost use Rattle.fx_ntriples.specs.Answers.{Answers, AnswersLines, Pushes, stopped_at};
 
 use crate::faults::{Fault, NtError, Stop};
@@ -32,9 +32,19 @@ pub fn read_graph(alloc: Global, bytes: &[u8]) -> Result<Graph, NtError>
     // A document by the forms is read, as its graph and no other.
     ensures only { (graph : List TripleParts) → IsDocument bytes.now graph → MatchResult result (λ g. g ≡ graph) (λ e. e ≡ NtError.Memory) }
 
-    // What stands at the place of a blank node, and of an IRI that isn't absolute, and before it.
+    // Bytes that aren't UTF-8 are refused where they stop being it.
+    ensures bad_utf8 { (n : ℕ) → result ≡ Err (NtError.BadUtf8 n) → StopsUtf8 bytes.now n }
+    ensures bad_utf8_only { (n : ℕ) → StopsUtf8 bytes.now n → Answers result (Err (NtError.BadUtf8 n)) }
+
+    // What stands at the place of any other refusal, and before it.
+    ensures bad { (l c : ℕ) → result ≡ Err (NtError.Bad l c) → StandsAt BadStands bytes.now l c }
     ensures blank { (l c : ℕ) → result ≡ Err (NtError.Blank l c) → StandsAt BlankStands bytes.now l c }
     ensures relative { (l c : ℕ) → result ≡ Err (NtError.Relative l c) → StandsAt RelativeStands bytes.now l c }
+
+    // Where that stands in UTF-8, this is the refusal.
+    ensures bad_only { IsUtf8 bytes.now → (l c : ℕ) → StandsAt BadStands bytes.now l c → Answers result (Err (NtError.Bad l c)) }
+    ensures blank_only { IsUtf8 bytes.now → (l c : ℕ) → StandsAt BlankStands bytes.now l c → Answers result (Err (NtError.Blank l c)) }
+    ensures relative_only { IsUtf8 bytes.now → (l c : ℕ) → StandsAt RelativeStands bytes.now l c → Answers result (Err (NtError.Relative l c)) }
 {
     read(alloc, bytes)
 }

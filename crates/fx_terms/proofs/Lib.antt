@@ -2,3 +2,4 @@ pub mod OrderLemmas
 pub mod SetLemmas
 pub mod TagLemmas
 pub mod IriLemmas
+pub mod WriteSteps

@@ -1,5 +1,6 @@
 -- What an answer says where want of memory, and nothing else, is free.
-use Rattle.std.specs.Prelude.{◌≡◌, Result, Ok, Err}
+use Rattle.std.specs.Prelude.{◌≡◌, ◌++◌, ℕ, List, Result, Ok, Err}
+use Rattle.fx_terms.specs.declared.allocation.Memory.{Memory}
 use Rattle.fx_terms.specs.declared.iris.TermError.{TermError}
 use Rattle.fx_terms.specs.declared.iris.TermError.TheVariants as term
 use Rattle.fx_terms.specs.declared.literals.LiteralError.{LiteralError}
@@ -24,3 +25,8 @@ abbrev pub AnswersLiteral : {X : Type 0} → Result X LiteralError → Result X 
 AnswersLiteral (Ok x) wanted = wanted ≡ Ok x
 AnswersLiteral (Err literal.Memory) wanted = Unit {0}
 AnswersLiteral (Err e) wanted = wanted ≡ Err e
+
+-- after success a text has grown by another
+abbrev pub Grows : Result (Unit {0}) Memory → List ℕ → List ℕ → List ℕ → Type 0
+Grows (Ok u) old new more = new ≡ old ++ more
+Grows (Err e) old new more = Unit {0}

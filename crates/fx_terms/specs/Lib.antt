@@ -6,3 +6,4 @@ pub mod Names
 pub mod Terms
 pub mod Texts
 pub mod Triples
+pub mod Writing

@@ -11,6 +11,7 @@ pub mod names;
 pub mod patterns;
 pub mod terms;
 pub mod triples;
+pub mod writing;
 
 pub use allocation::Memory;
 pub use graphs::Graph;
@@ -21,6 +22,7 @@ pub use patterns::{Pattern, PatternTerm};
 pub use sqlite_items::{Boxed, Items};
 pub use terms::Term;
 pub use triples::Triple;
+pub use writing::{write_iri, write_term};
 
 /// A call of this shows that a type may be shared between threads and sent to them.
 pub fn shareable<T: Send + Sync>() {}
