@@ -1,8 +1,10 @@
+pub mod Endpoints
 pub mod Faults
-pub mod NameCounts
-pub mod Streams
+pub mod MemoryLinks
 pub mod MemoryStorage
 pub mod MemoryStreams
-pub mod SystemStreams
+pub mod NameCounts
+pub mod Streams
+pub mod SystemLinks
 pub mod SystemStorage
-pub mod Endpoints
+pub mod SystemStreams

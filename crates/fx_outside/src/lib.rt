@@ -4,22 +4,26 @@
 #![tactic(auto)]
 
 pub mod endpoints;
+pub mod memory_links;
 pub mod memory_storage;
 pub mod memory_streams;
 pub mod name_counts;
 pub mod storage;
 pub mod streams;
+pub mod system_links;
 pub mod system_storage;
 pub mod system_streams;
 pub mod writing;
 
 pub use endpoints::Endpoint;
 use fx_terms::shareable;
+pub use memory_links::MemoryLink;
 pub use memory_storage::MemoryFiles;
 pub use memory_streams::MemorySink;
 pub use name_counts::NameCounts;
 pub use storage::{FileError, Files};
-pub use streams::{Ends, ReadFailed, Sink, WriteFailed};
+pub use streams::{Ends, ReadFailed, Sink, Source, WriteFailed};
+pub use system_links::StdLink;
 pub use system_storage::Folder;
 pub use system_streams::StdSink;
 pub use writing::write_all;
@@ -31,10 +35,12 @@ pub fn all_shareable<T: Send + Sync>() {
     shareable::<ReadFailed>();
     shareable::<WriteFailed>();
     shareable::<FileError>();
+    shareable::<MemoryLink>();
     shareable::<MemorySink>();
     shareable::<MemoryFiles>();
     shareable::<NameCounts>();
     shareable::<Folder<T>>();
+    shareable::<StdLink<T>>();
     shareable::<StdSink<T>>();
 }
 

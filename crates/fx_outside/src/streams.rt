@@ -1,5 +1,5 @@
-//! What is written to, and what is known of it.
-ghost use Rattle.std.specs.Prelude.{◌≡◌, ◌<◌, ◌≤◌, ◌++◌, ℕ, List, Bool, length, take, IsTrue, IsErr, IfOk, OnErr};
+//! What is read from and written to, and what is known of it.
+ghost use Rattle.std.specs.Prelude.{◌≡◌, ◌<◌, ◌≤◌, ◌++◌, ℕ, List, [], Bool, length, take, drop, IsTrue, IsErr, IfOk, OnErr};
 ghost use Rattle.fx_outside.specs.Faults.{HasRisen};
 
 /// A read failed, and was counted as a read fault.
@@ -32,6 +32,25 @@ pub trait Ends {
 
     /// How many writes have failed.
     ghost write_faults: { Self → ℕ };
+}
+
+/// What bytes are read from.
+pub trait Source: Ends {
+    /// Reads bytes into the front of `into`, and gives their number. Where `into` isn't empty, 0 comes only at the end
+    /// of the input.
+    ///
+    /// `ReadFailed` comes where the read failed. The count of read faults rose in this call then, or stands at the end
+    /// of `u64`, and a source that tells what is left, has the same left. No other call changes the count.
+    fn read(&mut self, into: &mut [u8]) -> Result<usize, ReadFailed>
+        ensures within { IfOk result (λ n. n ≤ length into.old) }
+        ensures taken { IsTrue Self.tells_left → IfOk result (λ n. (n ≤ length (Self.left self.old)) × (take n into.new ≡ take n (Self.left self.old)) × (Self.left self.new ≡ drop n (Self.left self.old))) }
+        ensures ends { IsTrue Self.tells_left → 0 < length into.old → IfOk result (λ n. n ≡ 0 → Self.left self.old ≡ []) }
+        ensures unread { IsTrue Self.tells_left → OnErr result (Self.left self.new ≡ Self.left self.old) }
+        ensures kept { Self.read_faults self.old ≤ Self.read_faults self.new }
+        ensures failed { IsErr result → HasRisen (Self.read_faults self.old) (Self.read_faults self.new) }
+        ensures faultless { IfOk result (λ _. Self.read_faults self.new ≡ Self.read_faults self.old) }
+        ensures held { IsTrue Self.tells_held → Self.held self.new ≡ Self.held self.old }
+        ensures writes { Self.write_faults self.new ≡ Self.write_faults self.old };
 }
 
 /// What bytes are written to.

@@ -78,7 +78,7 @@ fn read_front<R: rt::Files>(
 }
 
 // Reads some bytes. A read that was interrupted is tried again, but not for ever.
-fn read_some<F: Read>(file: &mut F, into: &mut [u8]) -> io::Result<usize>
+pub(crate) fn read_some<F: Read>(file: &mut F, into: &mut [u8]) -> io::Result<usize>
     ensures { IfOk result (λ n. n ≤ length into.old) }
 {
     for _ in 1..TRIES {

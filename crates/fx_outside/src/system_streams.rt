@@ -52,7 +52,7 @@ impl<W: Write> Sink for StdSink<W> {
 }
 
 // Writes some of a piece, and gives nothing where the writer failed, took no byte, or was interrupted each time.
-fn write_some<W: Write>(writer: &mut W, piece: &[u8]) -> Option<usize>
+pub(crate) fn write_some<W: Write>(writer: &mut W, piece: &[u8]) -> Option<usize>
     ensures within { IfSome result (λ n. n ≤ length piece.now) }
     ensures some { 0 < length piece.now → IfSome result (λ n. 0 < n) }
 {

@@ -1,11 +1,11 @@
 //! What the calls answer at given values.
 use crate::{
-    Endpoint, FileError, Files, Folder, MemoryFiles, MemorySink, Sink, StdSink, WriteFailed,
-    write_all,
+    Endpoint, FileError, Files, Folder, MemoryFiles, MemoryLink, MemorySink, ReadFailed, Sink,
+    Source, StdLink, StdSink, WriteFailed, write_all,
 };
 use fx_terms::{Iri, Memory};
 use std::alloc::Global;
-use std::io::{ErrorKind, Write};
+use std::io::{ErrorKind, Read, Write};
 use std::test::Fail;
 use std::{env, fs, io};
 
@@ -26,6 +26,52 @@ fn a_memory_sink_moves_a_step_and_fails_where_it_is_to(rt: HostRuntime) -> Resul
         assert_eq!(rt; sink.write(piece.as_bytes()), want, "at {piece}");
         assert_eq!(rt; sink.bytes(), held.as_bytes());
     }
+    Ok(())
+}
+
+#[test]
+fn a_memory_link_gives_its_input_and_keeps_what_is_written(rt: HostRuntime) -> Result<(), Fail> {
+    let input = Vec::from_slice(rt.alloc(), b"abcdefg")?;
+    let read_fails = vec![in rt.alloc(); 2u64]?;
+    let write_fails = vec![in rt.alloc(); 1u64]?;
+    let mut link = MemoryLink::new(rt.alloc(), input, 3, 3, read_fails, write_fails)?;
+    for (size, want, given) in [
+        (2, Ok(2), "ab"),
+        (2, Err(ReadFailed), ""),
+        (0, Ok(0), ""),
+        (5, Ok(3), "cde"),
+        (5, Ok(2), "fg"),
+        (5, Ok(0), ""),
+    ] {
+        let mut into = [0u8; 5];
+        let count = link.read(&mut into[..size]);
+        assert_eq!(rt; count, want, "at {given}");
+        assert_eq!(rt; &into[..given.len()], given.as_bytes());
+    }
+    for (piece, want, written) in [
+        ("x", Err(WriteFailed), ""),
+        ("xy", Ok(2), "xy"),
+        ("zz", Ok(1), "xyz"),
+        ("z", Err(WriteFailed), "xyz"),
+    ] {
+        assert_eq!(rt; link.write(piece.as_bytes()), want, "at {piece}");
+        assert_eq!(rt; link.written(), written.as_bytes());
+    }
+    Ok(())
+}
+
+#[test]
+fn a_std_link_hands_on_and_counts(rt: HostRuntime) -> Result<(), Fail> {
+    let mut link = StdLink::new(Failing {
+        kind: ErrorKind::BrokenPipe,
+        times: 2,
+    });
+    let mut into = [0u8; 4];
+    assert_eq!(rt; link.read(&mut into), Err(ReadFailed));
+    assert_eq!(rt; link.write(b"ab"), Err(WriteFailed));
+    assert_eq!(rt; link.read(&mut into), Ok(1));
+    assert_eq!(rt; into, [7u8, 0, 0, 0]);
+    assert_eq!(rt; link.write(b"ab"), Ok(2));
     Ok(())
 }
 
@@ -207,7 +253,7 @@ fn endpoint(alloc: Global, host: &str, target: &str) -> Result<Endpoint, Fail> {
     Ok(Endpoint::new(name, iri, host, 8001, target))
 }
 
-// A writer whose first writes fail.
+// A stream whose first reads and writes fail. It gives the byte 7 without end, one at a time.
 #[derive(Drop)]
 struct Failing {
     kind: ErrorKind,
@@ -225,6 +271,22 @@ impl Write for Failing {
 
     fn flush(&mut self) -> io::Result<()> {
         Ok(())
+    }
+}
+
+impl Read for Failing {
+    fn read(&mut self, into: &mut [u8]) -> io::Result<usize> {
+        if self.times > 0 {
+            self.times -= 1;
+            return Err(io::Error::from(self.kind));
+        }
+        match into {
+            [] => Ok(0),
+            [first, ..] => {
+                *first = 7;
+                Ok(1)
+            }
+        }
     }
 }
 
