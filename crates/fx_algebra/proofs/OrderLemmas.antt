@@ -46,13 +46,13 @@ module _ {X : Type 0} (R : X → X → Ordering) (o : IsTotalOrder R) where
 
   -- ---- how often an element stands in a list
 
-  abbrev one_if : X → X → ℕ
+  abbrev pub one_if : X → X → ℕ
   one_if x y = cond (is_eq (R x y)) 1 0
 
   pub times : X → List X → ℕ
   times x ys = sum_by (one_if x) ys
 
-  times-cons : (x y : X) (ys : List X) → times x (y ∷ ys) ≡ one_if x y + times x ys
+  pub times-cons : (x y : X) (ys : List X) → times x (y ∷ ys) ≡ one_if x y + times x ys
   unfolding times
   times-cons x y ys = sum_by-cons (one_if x) y ys
 
@@ -74,19 +74,19 @@ module _ {X : Type 0} (R : X → X → Ordering) (o : IsTotalOrder R) where
   below x y [] h b = absurd (omega (arith, no_times x))
   below x y (z ∷ zs) h b = below_at x y z zs (is_eq (R x z)) refl h.0 b (below x y zs h.1)
 
-  once_here : (x : X) (xs : List X) → times x (x ∷ xs) ≡ 1 + times x xs
+  pub once_here : (x : X) (xs : List X) → times x (x ∷ xs) ≡ 1 + times x xs
   once_here x xs = times-cons x x xs ∙ ap (λ a. cond (is_eq a) 1 0 + times x xs) (tied_itself o x)
 
-  least : (x y : X) (ys : List X) → Ascends (y ∷ ys) → 0 < times x (y ∷ ys) → Le y x
+  pub least : (x y : X) (ys : List X) → Ascends (y ∷ ys) → 0 < times x (y ∷ ys) → Le y x
   least x y ys h b = below x y (y ∷ ys) (le_self y, h.0) b
 
-  one_more : (z x : X) (xs ys : List X) → times z (x ∷ xs) ≡ times z (x ∷ ys) → times z xs ≡ times z ys
+  pub one_more : (z x : X) (xs ys : List X) → times z (x ∷ xs) ≡ times z (x ∷ ys) → times z xs ≡ times z ys
   one_more z x xs ys e = omega (arith, times-cons z x xs, times-cons z x ys)
 
-  none : (y : X) (ys : List X) → times y [] ≡ times y (y ∷ ys) → ⊥
+  pub none : (y : X) (ys : List X) → times y [] ≡ times y (y ∷ ys) → ⊥
   none y ys e = omega (arith, once_here y ys, no_times y)
 
-  same_times : (z : X) (xs ys : List X) → IsPermutation xs ys → times z ys ≡ times z xs
+  pub same_times : (z : X) (xs ys : List X) → IsPermutation xs ys → times z ys ≡ times z xs
   unfolding times
   same_times z xs ys p = sum_by-IsPermutation (one_if z) xs ys p
 
@@ -149,7 +149,7 @@ module _ {X : Type 0} (R : X → X → Ordering) (o : IsTotalOrder R) where
   all_from P [] h = tt
   all_from P (y ∷ ys) h = (h 0 y (omega arith), all_from P ys (λ j d b. h (suc j) d (omega arith)))
 
-  ascends_from : (ys : List X) → ((i j : ℕ) (d : X) → i ≤ j → j < length ys → is_lt (R (get_or ys j d) (get_or ys i d)) ≡ false) → Ascends ys
+  pub ascends_from : (ys : List X) → ((i j : ℕ) (d : X) → i ≤ j → j < length ys → is_lt (R (get_or ys j d) (get_or ys i d)) ≡ false) → Ascends ys
   ascends_from [] h = tt
   ascends_from (y ∷ ys) h = (
     all_from (Le y) ys (λ j d b. flip_at y (get_or ys j d) (R (get_or ys j d) y) (R y (get_or ys j d)) refl refl (o.antisymm y (get_or ys j d)) (h 0 (suc j) d (omega arith) (omega arith))),

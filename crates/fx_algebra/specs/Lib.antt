@@ -1,8 +1,9 @@
 pub mod Answers
 pub mod BasicGraphPatterns
 pub mod Evaluation
+pub mod Occurrences
 pub mod Operators
-pub mod Graphs
+pub mod Printed
 pub mod Scopes
 pub mod Sequences
 pub mod Solutions

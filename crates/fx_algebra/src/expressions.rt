@@ -1,6 +1,8 @@
 //! Expressions (SPARQL 1.1 section 17), as trees.
+ghost use Rattle.std.specs.Prelude.{◌≡◌, IfOk};
 
-use fx_terms::{Boxed, Items, Name, Term};
+use fx_terms::{Boxed, Items, Memory, Name, Term};
+use std::alloc::Global;
 
 /// A comparison.
 #[derive(Clone, Copy, Debug, PartialEq, Eq)]
@@ -74,4 +76,71 @@ pub enum Expr {
         function: Function,
         args: Items<Expr>,
     },
+}
+
+impl Expr {
+    /// An equal expression, which shares the texts.
+    #[cycle(copy)]
+    pub fn copy(&self, alloc: Global) -> Result<Expr, Memory>
+        ensures { IfOk result (λ copy. copy ≡ self.now) }
+    {
+        match self {
+            Expr::Variable(name) => Ok(Expr::Variable(name.copy()?)),
+            Expr::Constant(term) => Ok(Expr::Constant(term.copy()?)),
+            Expr::Or(parts) => Ok(Expr::Or(copy_all(alloc, parts.as_slice())?)),
+            Expr::And(parts) => Ok(Expr::And(copy_all(alloc, parts.as_slice())?)),
+            Expr::Not(part) => Ok(Expr::Not(Boxed::new(alloc, part.get().copy(alloc)?)?)),
+            Expr::Positive(part) => {
+                Ok(Expr::Positive(Boxed::new(alloc, part.get().copy(alloc)?)?))
+            }
+            Expr::Negative(part) => {
+                Ok(Expr::Negative(Boxed::new(alloc, part.get().copy(alloc)?)?))
+            }
+            Expr::Compare { op, left, right } => Ok(Expr::Compare {
+                op: *op,
+                left: Boxed::new(alloc, left.get().copy(alloc)?)?,
+                right: Boxed::new(alloc, right.get().copy(alloc)?)?,
+            }),
+            Expr::Among {
+                negated,
+                item,
+                list,
+            } => Ok(Expr::Among {
+                negated: *negated,
+                item: Boxed::new(alloc, item.get().copy(alloc)?)?,
+                list: copy_all(alloc, list.as_slice())?,
+            }),
+            Expr::Sum { first, rest } => Ok(Expr::Sum {
+                first: Boxed::new(alloc, first.get().copy(alloc)?)?,
+                rest: copy_signed(alloc, rest.as_slice())?,
+            }),
+            Expr::Product(parts) => Ok(Expr::Product(copy_all(alloc, parts.as_slice())?)),
+            Expr::Call { function, args } => Ok(Expr::Call {
+                function: *function,
+                args: copy_all(alloc, args.as_slice())?,
+            }),
+        }
+    }
+}
+
+#[cycle(copy)]
+fn copy_all(alloc: Global, parts: &[Expr]) -> Result<Items<Expr>, Memory>
+    ensures { IfOk result (λ copies. copies ≡ parts.now) }
+{
+    let mut copies = Items::new(alloc);
+    for part in parts {
+        copies.push(part.copy(alloc)?)?;
+    }
+    Ok(copies)
+}
+
+#[cycle(copy)]
+fn copy_signed(alloc: Global, parts: &[(Sign, Expr)]) -> Result<Items<(Sign, Expr)>, Memory>
+    ensures { IfOk result (λ copies. copies ≡ parts.now) }
+{
+    let mut copies = Items::new(alloc);
+    for (sign, part) in parts {
+        copies.push((*sign, part.copy(alloc)?))?;
+    }
+    Ok(copies)
 }

@@ -1,7 +1,9 @@
 //! Queries (SPARQL 1.1 sections 5 to 16), as trees.
+ghost use Rattle.std.specs.Prelude.{◌≡◌, IfOk};
 
 use crate::expressions::Expr;
-use fx_terms::{Iri, Items, Name, Pattern, Term};
+use fx_terms::{Iri, Items, Memory, Name, Pattern, Term};
+use std::alloc::Global;
 
 /// A block of solutions written out (section 10.2): each row is as wide as the columns, and `None` stands for UNDEF.
 #[derive(Debug, Drop)]
@@ -71,4 +73,181 @@ pub struct Query {
     pub limit: Option<u64>,
     /// The VALUES that stands behind the query.
     pub inline: Option<Inline>,
+}
+
+impl Inline {
+    /// An equal block, which shares the texts.
+    pub fn copy(&self, alloc: Global) -> Result<Inline, Memory>
+        ensures { IfOk result (λ copy. copy ≡ self.now) }
+    {
+        Ok(Inline {
+            columns: copy_names(alloc, self.columns.as_slice())?,
+            rows: copy_rows(alloc, self.rows.as_slice())?,
+        })
+    }
+}
+
+impl Group {
+    /// An equal group, which shares the texts.
+    #[cycle(copy)]
+    pub fn copy(&self, alloc: Global) -> Result<Group, Memory>
+        ensures { IfOk result (λ copy. copy ≡ self.now) }
+    {
+        Ok(Group {
+            elements: copy_elements(alloc, self.elements.as_slice())?,
+        })
+    }
+}
+
+impl Element {
+    /// An equal element, which shares the texts.
+    #[cycle(copy)]
+    pub fn copy(&self, alloc: Global) -> Result<Element, Memory>
+        ensures { IfOk result (λ copy. copy ≡ self.now) }
+    {
+        match self {
+            Element::Triple(pattern) => Ok(Element::Triple(pattern.copy()?)),
+            Element::Filter(expr) => Ok(Element::Filter(expr.copy(alloc)?)),
+            Element::Optional(group) => Ok(Element::Optional(group.copy(alloc)?)),
+            Element::Union(groups) => Ok(Element::Union(copy_groups(alloc, groups.as_slice())?)),
+            Element::Minus(group) => Ok(Element::Minus(group.copy(alloc)?)),
+            Element::Bind { expr, name } => Ok(Element::Bind {
+                expr: expr.copy(alloc)?,
+                name: name.copy()?,
+            }),
+            Element::Values(inline) => Ok(Element::Values(inline.copy(alloc)?)),
+            Element::Service { silent, iri, group } => Ok(Element::Service {
+                silent: *silent,
+                iri: iri.copy()?,
+                group: group.copy(alloc)?,
+            }),
+        }
+    }
+}
+
+impl Form {
+    /// An equal form, which shares the texts.
+    pub fn copy(&self, alloc: Global) -> Result<Form, Memory>
+        ensures { IfOk result (λ copy. copy ≡ self.now) }
+    {
+        match self {
+            Form::Select { distinct, columns } => Ok(Form::Select {
+                distinct: *distinct,
+                columns: copy_names(alloc, columns.as_slice())?,
+            }),
+            Form::Ask => Ok(Form::Ask),
+        }
+    }
+}
+
+impl Order {
+    /// An equal key, which shares the texts.
+    pub fn copy(&self, alloc: Global) -> Result<Order, Memory>
+        ensures { IfOk result (λ copy. copy ≡ self.now) }
+    {
+        Ok(Order {
+            descending: self.descending,
+            expr: self.expr.copy(alloc)?,
+        })
+    }
+}
+
+impl Query {
+    /// An equal query, which shares the texts.
+    pub fn copy(&self, alloc: Global) -> Result<Query, Memory>
+        ensures { IfOk result (λ copy. copy ≡ self.now) }
+    {
+        Ok(Query {
+            form: self.form.copy(alloc)?,
+            group: self.group.copy(alloc)?,
+            order: copy_keys(alloc, self.order.as_slice())?,
+            offset: self.offset,
+            limit: self.limit,
+            inline: copy_inline(alloc, &self.inline)?,
+        })
+    }
+}
+
+/// An equal list of names, which shares the texts.
+pub fn copy_names(alloc: Global, names: &[Name]) -> Result<Items<Name>, Memory>
+    ensures { IfOk result (λ copies. copies ≡ names.now) }
+{
+    let mut copies = Items::new(alloc);
+    for name in names {
+        copies.push(name.copy()?)?;
+    }
+    Ok(copies)
+}
+
+fn copy_value(value: &Option<Term>) -> Result<Option<Term>, Memory>
+    ensures { IfOk result (λ copy. copy ≡ value.now) }
+{
+    match value {
+        Some(term) => Ok(Some(term.copy()?)),
+        None => Ok(None),
+    }
+}
+
+fn copy_row(alloc: Global, row: &[Option<Term>]) -> Result<Items<Option<Term>>, Memory>
+    ensures { IfOk result (λ copies. copies ≡ row.now) }
+{
+    let mut copies = Items::new(alloc);
+    for value in row {
+        copies.push(copy_value(value)?)?;
+    }
+    Ok(copies)
+}
+
+fn copy_rows(
+    alloc: Global,
+    rows: &[Items<Option<Term>>],
+) -> Result<Items<Items<Option<Term>>>, Memory>
+    ensures { IfOk result (λ copies. copies ≡ rows.now) }
+{
+    let mut copies = Items::new(alloc);
+    for row in rows {
+        copies.push(copy_row(alloc, row.as_slice())?)?;
+    }
+    Ok(copies)
+}
+
+fn copy_inline(alloc: Global, inline: &Option<Inline>) -> Result<Option<Inline>, Memory>
+    ensures { IfOk result (λ copy. copy ≡ inline.now) }
+{
+    match inline {
+        Some(block) => Ok(Some(block.copy(alloc)?)),
+        None => Ok(None),
+    }
+}
+
+fn copy_keys(alloc: Global, keys: &[Order]) -> Result<Items<Order>, Memory>
+    ensures { IfOk result (λ copies. copies ≡ keys.now) }
+{
+    let mut copies = Items::new(alloc);
+    for key in keys {
+        copies.push(key.copy(alloc)?)?;
+    }
+    Ok(copies)
+}
+
+#[cycle(copy)]
+fn copy_elements(alloc: Global, elements: &[Element]) -> Result<Items<Element>, Memory>
+    ensures { IfOk result (λ copies. copies ≡ elements.now) }
+{
+    let mut copies = Items::new(alloc);
+    for element in elements {
+        copies.push(element.copy(alloc)?)?;
+    }
+    Ok(copies)
+}
+
+#[cycle(copy)]
+fn copy_groups(alloc: Global, groups: &[Group]) -> Result<Items<Group>, Memory>
+    ensures { IfOk result (λ copies. copies ≡ groups.now) }
+{
+    let mut copies = Items::new(alloc);
+    for group in groups {
+        copies.push(group.copy(alloc)?)?;
+    }
+    Ok(copies)
 }

@@ -40,6 +40,14 @@ impl Solution {
         }
     }
 
+    /// The solution of pairs whose names rise. It takes no memory.
+    pub fn of_rising(pairs: Vec<(Name, Term)>) -> Solution
+        requires { IsTrue (spec.rises pairs.items) }
+        ensures { result ≡ pairs.items }
+    {
+        Solution { pairs }
+    }
+
     /// The names and their terms, by rising name.
     pub fn pairs(&self) -> &[(Name, Term)]
         ensures all { result.now ≡ self.now }

@@ -1,6 +1,9 @@
 //! What the calls answer at given values.
-use crate::{Element, Expr, Group, Inline, Solution, scope, scopes};
-use fx_terms::{Iri, Items, Name, Pattern, PatternTerm, Term};
+use crate::{
+    Answer, Compare, Element, Expr, Form, Function, Group, Inline, Order, Query, Sign, Solution,
+    scope, scopes, services,
+};
+use fx_terms::{Boxed, Iri, Items, Name, Pattern, PatternTerm, Term};
 use std::alloc::Global;
 use std::process::Abort;
 use std::test::Fail;
@@ -102,6 +105,137 @@ fn a_scope_has_what_the_elements_bind(rt: HostRuntime) -> Result<(), Fail> {
     Ok(())
 }
 
+// A copy has the same scope and the same occurrences of SERVICE, in text order.
+#[test]
+fn a_copy_has_what_the_query_has(rt: HostRuntime) -> Result<(), Fail> {
+    let query = services_in(rt.alloc()).ok_or("no query")?;
+    let copy = query.copy(rt.alloc())?;
+    let names = scope(rt.alloc(), &copy.group)?;
+    has_names(&rt, names.as_slice(), "a b c m n");
+    let found = services(rt.alloc(), &copy)?;
+    let found = found.iter().map(|(iri, silent)| (iri.text(), *silent));
+    let want = [("s:1", true), ("s:2", false), ("s:3", false), ("s:4", true)];
+    assert!(rt; found.eq(want.iter().copied()));
+    let columns = copy.inline.ok_or("no rows")?.columns;
+    let rows = Items::new(rt.alloc());
+    match (Answer::Table { columns, rows }).copy(rt.alloc())? {
+        Answer::Table { columns, rows } => {
+            has_names(&rt, columns.as_slice(), "v");
+            assert_eq!(rt; rows.len(), 0);
+        }
+        Answer::Truth(_) => return Err("no table")?,
+    }
+    Ok(())
+}
+
+// A query with one of each thing: SERVICE in a group, in OPTIONAL, in a union and in MINUS.
+fn services_in(alloc: Global) -> Option<Query> {
+    let mut elements = Items::new(alloc);
+    elements.push(service(alloc, "s:1", true, "a b c")?).ok()?;
+    let inner = one(alloc, service(alloc, "s:2", false, "m b c")?)?;
+    elements.push(Element::Optional(inner)).ok()?;
+    let mut groups = Items::new(alloc);
+    groups
+        .push(one(alloc, service(alloc, "s:3", false, "n b c")?)?)
+        .ok()?;
+    elements.push(Element::Union(groups)).ok()?;
+    let inner = one(alloc, service(alloc, "s:4", true, "o p q")?)?;
+    elements.push(Element::Minus(inner)).ok()?;
+    elements.push(Element::Filter(expression(alloc)?)).ok()?;
+    let mut order = Items::new(alloc);
+    order
+        .push(Order {
+            descending: true,
+            expr: expression(alloc)?,
+        })
+        .ok()?;
+    Some(Query {
+        form: Form::Select {
+            distinct: true,
+            columns: Items::from_vec(names(alloc, "a b")?),
+        },
+        group: Group { elements },
+        order,
+        offset: 1,
+        limit: Some(2),
+        inline: Some(inline(alloc, "v")?),
+    })
+}
+
+// One of each kind of expression.
+fn expression(alloc: Global) -> Option<Expr> {
+    let sum = Expr::Sum {
+        first: boxed(alloc, "a")?,
+        rest: signed(alloc, "b")?,
+    };
+    let call = Expr::Call {
+        function: Function::Str,
+        args: variables(alloc, "c")?,
+    };
+    let mut parts = variables(alloc, "d e")?;
+    for part in [
+        Expr::Or(variables(alloc, "f g")?),
+        Expr::And(variables(alloc, "h i")?),
+        Expr::Product(variables(alloc, "j k")?),
+        Expr::Not(boxed(alloc, "l")?),
+        Expr::Positive(boxed(alloc, "m")?),
+        Expr::Negative(boxed(alloc, "n")?),
+        Expr::Constant(Term::Iri(Iri::read(alloc, "x:1").ok()?)),
+        Expr::Compare {
+            op: Compare::Less,
+            left: boxed(alloc, "o")?,
+            right: boxed(alloc, "p")?,
+        },
+        sum,
+        call,
+    ] {
+        parts.push(part).ok()?;
+    }
+    Some(Expr::Among {
+        negated: true,
+        item: boxed(alloc, "q")?,
+        list: parts,
+    })
+}
+
+fn boxed(alloc: Global, text: &str) -> Option<Boxed<Expr>> {
+    Boxed::new(alloc, Expr::Variable(name(alloc, text)?)).ok()
+}
+
+fn signed(alloc: Global, text: &str) -> Option<Items<(Sign, Expr)>> {
+    let mut parts = Items::new(alloc);
+    parts
+        .push((Sign::Minus, Expr::Variable(name(alloc, text)?)))
+        .ok()?;
+    Some(parts)
+}
+
+fn variables(alloc: Global, texts: &str) -> Option<Items<Expr>> {
+    let mut parts = Items::new(alloc);
+    for text in texts.split_whitespace() {
+        parts.push(Expr::Variable(name(alloc, text)?)).ok()?;
+    }
+    Some(parts)
+}
+
+fn one(alloc: Global, element: Element) -> Option<Group> {
+    let mut elements = Items::new(alloc);
+    elements.push(element).ok()?;
+    Some(Group { elements })
+}
+
+// A column with a term and with UNDEF.
+fn inline(alloc: Global, texts: &str) -> Option<Inline> {
+    let columns = Items::from_vec(names(alloc, texts)?);
+    let mut rows = Items::new(alloc);
+    for value in [Some(Term::Iri(Iri::read(alloc, "x:2").ok()?)), None] {
+        let mut row = Items::new(alloc);
+        row.push(value).ok()?;
+        rows.push(row).ok()?;
+    }
+    Some(Inline { columns, rows })
+}
+
 #[derive(Clone, Copy)]
 enum Kind {
     Triple,
@@ -123,8 +257,8 @@ fn element(alloc: Global, kind: Kind, texts: &str) -> Option<Element> {
         Kind::Union => union(alloc, texts),
         Kind::Minus => Some(Element::Minus(group(alloc, texts)?)),
         Kind::Bind => bind(alloc, texts),
-        Kind::Values => values(alloc, texts),
-        Kind::Service => service(alloc, texts),
+        Kind::Values => Some(Element::Values(inline(alloc, texts)?)),
+        Kind::Service => service(alloc, "http://e/sparql", false, texts),
     }
 }
 
@@ -143,26 +277,14 @@ fn bind(alloc: Global, text: &str) -> Option<Element> {
     Some(Element::Bind { expr, name })
 }
 
-fn values(alloc: Global, texts: &str) -> Option<Element> {
-    let columns = Items::from_vec(names(alloc, texts)?);
-    let rows = Items::new(alloc);
-    Some(Element::Values(Inline { columns, rows }))
-}
-
-fn service(alloc: Global, texts: &str) -> Option<Element> {
+fn service(alloc: Global, address: &str, silent: bool, texts: &str) -> Option<Element> {
     let group = group(alloc, texts)?;
-    let iri = Iri::read(alloc, "http://e/sparql").ok()?;
-    Some(Element::Service {
-        silent: false,
-        iri,
-        group,
-    })
+    let iri = Iri::read(alloc, address).ok()?;
+    Some(Element::Service { silent, iri, group })
 }
 
 fn group(alloc: Global, texts: &str) -> Option<Group> {
-    let mut elements = Items::new(alloc);
-    elements.push(Element::Triple(pattern(alloc, texts)?)).ok()?;
-    Some(Group { elements })
+    one(alloc, Element::Triple(pattern(alloc, texts)?))
 }
 
 fn pattern(alloc: Global, texts: &str) -> Option<Pattern> {

@@ -1,0 +1,7 @@
+use Rattle.std.proofs.Common.{◌∙◌}
+use Rattle.fx_print.proofs.Equations.{nothing_in_front}
+use Rattle.fx_print.proofs.words.without_the_first_space.Goals as goal
+
+pub returns-in-None : goal.returns-in-None
+unfolding lib.Utf8.encode
+returns-in-None c = nothing_in_front _ (λ rest e. c.in-None.ensures.cases rest (c.deref.ensures ∙ e))
