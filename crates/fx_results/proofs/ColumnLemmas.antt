@@ -1,15 +1,16 @@
 -- Columns, a name at a time.
-use Rattle.std.proofs.Common.{◌≡◌, ◌∙◌, ℕ, Bool, true, false, not, ◌&&◌, ◌||◌, List, [], ◌∷◌, ◌++◌, Option, Some, None, Ok, BTreeMap, String, Global, string_bytes, option_and_then, is_some, refl, sym, ap, append_assoc, append-nil, cond}
+use Rattle.std.proofs.Common.{◌≡◌, ◌∙◌, ℕ, Bool, true, false, not, ◌&&◌, ◌||◌, List, [], ◌∷◌, ◌++◌, Option, Some, None, Ok, String, Global, string_bytes, option_and_then, is_some, refl, sym, ap, append_assoc, append-nil, cond}
 use Rattle.std.specs.declared.cmp.Ordering.{Ordering}
 use Rattle.std.specs.declared.cmp.Ordering.TheVariants.{Less, Equal, Greater}
 use Rattle.std.specs.Option.{ok_or}
 use Rattle.std.specs.Ordering.{is_eq, ordering_reverse}
 use Rattle.std.specs.Str.{bytes_eq}
-use Rattle.std.specs.String.{string_cmp}
-use Rattle.std.specs.BTreeMap as tree
+use Rattle.std.specs.String.{string_eq}
+use Rattle.std.specs.HashMap.{HashMap}
+use Rattle.std.specs.HashMap as hash
 use Rattle.std.proofs.lemmas.Cmp.{nat_list_cmp_total, tied_itself}
 use Rattle.std.proofs.lemmas.Slice.Eq.{bytes_eq-Decides}
-use Rattle.std.proofs.lemmas.Map.Text.{is_eq-slice_cmp, btree_map_updates_text}
+use Rattle.std.proofs.lemmas.Map.Text.{is_eq-slice_cmp, hash_map_updates_text}
 use Rattle.fx_terms.specs.Texts.{text_cmp}
 use Rattle.fx_algebra.specs.Scopes.{is_among}
 use Rattle.fx_results.specs.Columns.{IsIndex}
@@ -111,9 +112,9 @@ found_by true done name q e = ap Some ((bytes_eq-Decides name q).0 e) ∙ rw (or
 found_by false done name q e = rw (or_false (is_among done q)) refl
 
 -- one more name, at its own text
-pub IsIndex-one : (m n : BTreeMap (String Global) (List ℕ)) (key : String Global) (value name : List ℕ) (done : List (List ℕ)) → string_bytes key ≡ name → value ≡ name → IsIndex m.entries done → tree.Updates string_cmp m n key (Some value) → IsIndex n.entries (done ++ name ∷ [])
+pub IsIndex-one : {S : Type 0} (m n : HashMap (String Global) (List ℕ) S) (key : String Global) (value name : List ℕ) (done : List (List ℕ)) → string_bytes key ≡ name → value ≡ name → IsIndex m.entries done → hash.Updates string_eq m n key (Some value) → IsIndex n.entries (done ++ name ∷ [])
 IsIndex-one m n key value name done named same index updates q =
-    btree_map_updates_text (string_bytes key) m n (Some value) updates q
+    hash_map_updates_text (string_bytes key) m n (Some value) updates q
     ∙ (λ j. cond (bytes_eq (named j) q) (Some (same j)) (index q j))
     ∙ found_by (bytes_eq name q) done name q refl
     ∙ ap (λ b. cond (is_among done q || (b || false)) (Some q) None) (sym (is_eq-slice_cmp name q))
@@ -124,7 +125,7 @@ is_some-cond true q = refl
 is_some-cond false q = refl
 
 -- what an insert finds at a name
-pub is_some-found : (m : BTreeMap (String Global) (List ℕ)) (names : List (List ℕ)) (key : String Global) (name : List ℕ) (old : Option (List ℕ)) → string_bytes key ≡ name → IsIndex m.entries names → old ≡ tree.get string_cmp m key → is_some old ≡ is_among names name
+pub is_some-found : {S : Type 0} (m : HashMap (String Global) (List ℕ) S) (names : List (List ℕ)) (key : String Global) (name : List ℕ) (old : Option (List ℕ)) → string_bytes key ≡ name → IsIndex m.entries names → old ≡ hash.get string_eq m key → is_some old ≡ is_among names name
 is_some-found m names key name old named index e = ap is_some (e ∙ index (string_bytes key)) ∙ is_some-cond (is_among names (string_bytes key)) (string_bytes key) ∙ ap (is_among names) named
 
 -- what is found at a text is the text

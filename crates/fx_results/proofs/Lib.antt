@@ -2,6 +2,7 @@ pub mod BackLemmas
 pub mod ColumnLemmas
 pub mod DataLemmas
 pub mod Floats
+pub mod KnownLemmas
 pub mod ReadingLemmas
 pub mod Rows
 pub mod TextLemmas

@@ -1,16 +1,16 @@
 -- Members that are put by rising name stand in that order.
-use Rattle.std.proofs.Common.{◌+◌, ◌≡◌, ◌∙◌, ap, sym, refl, ℕ, zero, suc, ◌<◌, Bool, true, false, ◌&&◌, List, [], ◌∷◌, ◌++◌, take, length, get_or, arith, cond, Some, None}
+use Rattle.std.proofs.Common.{◌+◌, ◌≡◌, ◌∙◌, ap, sym, refl, ℕ, zero, suc, ◌<◌, Bool, true, false, ◌&&◌, List, [], ◌∷◌, ◌++◌, take, map, length, get_or, arith}
 use Rattle.std.specs.declared.cmp.Ordering.{Ordering}
 use Rattle.std.specs.declared.cmp.Ordering.TheVariants.{Less, Equal, Greater}
-use Rattle.std.specs.Ordering.{is_eq, is_lt, is_gt, ordering_reverse, match_ordering}
+use Rattle.std.specs.Ordering.{is_lt, is_gt, ordering_reverse, match_ordering}
 use Rattle.std.specs.List.{list_all}
-use Rattle.std.specs.FinMap.Entries.{below_all, by_order}
+use Rattle.std.specs.FinMap.Entries.{below_all}
 use Rattle.std.proofs.lemmas.Cmp.{nat_list_cmp_total}
-use Rattle.std.proofs.lemmas.List.{take_more}
+use Rattle.std.proofs.lemmas.List.{take_more, map-append}
 use Rattle.serde_json.specs.Data.{member, put}
 use Rattle.fx_terms.specs.Texts.{text_cmp}
 use Rattle.fx_terms.specs.declared.terms.Term.{Term}
-use Rattle.fx_algebra.specs.Solutions.{Bindings, rises, term_of, with_pair}
+use Rattle.fx_algebra.specs.Solutions.{Bindings, rises}
 use Rattle.fx_results.specs.Documents.{term_data, row_members}
 
 -- each name lies below another
@@ -56,32 +56,17 @@ put-row_members e (f ∷ fs) h =
 pub all_below-before : (row : Bindings) (i : ℕ) (e : List ℕ × Term) → rises row ≡ true → i < length row → e ≡ get_or row i e → all_below e.0 (take i row) ≡ true
 all_below-before row i e rising within here = (λ j. all_below (here j).0 (take i row)) ∙ all_below-take row i e rising within
 
--- a name above all is bound nowhere
-pub term_of-above : (name : List ℕ) (row : Bindings) → all_below name row ≡ true → term_of row name ≡ None
-term_of-above name [] h = refl
-term_of-above name (f ∷ fs) h =
-    elim (text_cmp name f.0) as (λ o. (is_gt o && all_below name fs) ≡ true → cond (is_eq o) (Some f.1) (term_of fs name) ≡ None) [
-      | Less ↦ λ g. cc
-      | Equal ↦ λ g. cc
-      | Greater ↦ λ g. term_of-above name fs g
-    ] h
-
-with_pair-above : (e : List ℕ × Term) (row : Bindings) → all_below e.0 row ≡ true → with_pair row e.0 e.1 ≡ row ++ e ∷ []
-with_pair-above e [] h = refl
-with_pair-above e (f ∷ fs) h =
-    elim (text_cmp e.0 f.0) as (λ o. (is_gt o && all_below e.0 fs) ≡ true → by_order o (e ∷ f ∷ fs) ((f.0, e.1) ∷ fs) (f ∷ with_pair fs e.0 e.1) ≡ f ∷ (fs ++ e ∷ [])) [
-      | Less ↦ λ g. cc
-      | Equal ↦ λ g. cc
-      | Greater ↦ λ g. ap (λ rest. f ∷ rest) (with_pair-above e fs g)
-    ] h
-
 one_more : (row : Bindings) (i : ℕ) (e : List ℕ × Term) → i < length row → e ≡ get_or row i e → take i row ++ e ∷ [] ≡ take (i + 1) row
 one_more row i e within here = (λ j. take i row ++ here j ∷ []) ∙ sym (take_more row i e within)
-
--- one more pair of a solution
-pub with_pair-take : (row : Bindings) (i : ℕ) (e : List ℕ × Term) → rises row ≡ true → i < length row → e ≡ get_or row i e → with_pair (take i row) e.0 e.1 ≡ take (i + 1) row
-with_pair-take row i e rising within here = with_pair-above e (take i row) (all_below-before row i e rising within here) ∙ one_more row i e within here
 
 -- one more pair of a row
 pub put-row_members-take : (row : Bindings) (i : ℕ) (e : List ℕ × Term) → rises row ≡ true → i < length row → e ≡ get_or row i e → put e.0 (term_data e.1) (row_members (take i row)) ≡ row_members (take (i + 1) row)
 put-row_members-take row i e rising within here = put-row_members e (take i row) (all_below-before row i e rising within here) ∙ ap row_members (one_more row i e within here)
+
+-- one more item, seen as one more of a list
+pub map-more : {A B C : Type 0} (f : A → C) (g : B → C) (xs ys : List A) (zs : List B) (i : ℕ) (x : A) (z : B) → ys ≡ xs ++ x ∷ [] → map f xs ≡ map g (take i zs) → f x ≡ g z → i < length zs → z ≡ get_or zs i z → map f ys ≡ map g (take (i + 1) zs)
+map-more f g xs ys zs i x z more done same within here =
+    ap (map f) more ∙ map-append f xs (x ∷ [])
+    ∙ (λ j. done j ++ same j ∷ [])
+    ∙ sym (map-append g (take i zs) (z ∷ []))
+    ∙ ap (map g) ((λ j. take i zs ++ here j ∷ []) ∙ sym (take_more zs i z within))

@@ -1,5 +1,6 @@
 pub mod Answers
 pub mod Columns
 pub mod Documents
+pub mod KnownAnswers
 pub mod Meanings
 pub mod Reading

@@ -59,6 +59,17 @@ abbrev pub is_answer : Answer → Bool
 is_answer (Table columns rows) = is_table columns rows
 is_answer (Truth truth) = true
 
+-- ---- which answers the round trip is said of
+
+-- a row binds columns alone
+abbrev pub is_within : List (List ℕ) → Bindings → Bool
+is_within columns row = list_all (λ e. is_among columns e.0) row
+
+-- a truth value, or distinct columns, and rows that bind columns alone
+abbrev pub binds_columns : Answer → Bool
+binds_columns (Table columns rows) = are_distinct columns && list_all (is_within columns) rows
+binds_columns (Truth truth) = true
+
 -- ---- laws
 
 -- the document of an answer reads as the answer

@@ -9,7 +9,7 @@ use crate::columns::Columns;
 use crate::faults::{ResultsError, ShapeFault};
 use crate::values::term_of;
 use fx_algebra::Solution;
-use fx_terms::{Memory, Name, Term};
+use fx_terms::{Name, Term};
 use serde_json::{Map, Value};
 use std::alloc::Global;
 
@@ -41,7 +41,7 @@ fn row_of(alloc: Global, columns: &Columns, value: &Value) -> Result<Solution, R
         });
     }
     let pairs = terms_of(alloc, columns, members)?;
-    Ok(solution_of(alloc, pairs.as_slice())?)
+    Ok(Solution::of_rising(pairs))
 }
 
 fn are_columns(columns: &Columns, members: &Map<String, Value>) -> bool
@@ -74,15 +74,4 @@ fn terms_of(
         pairs.push((column.copy()?, term))?;
     }
     Ok(pairs)
-}
-
-fn solution_of(alloc: Global, pairs: &[(Name, Term)]) -> Result<Solution, Memory>
-    requires { IsTrue (rises pairs.now) }
-    ensures { IfOk result (λ solution. solution ≡ pairs.now) }
-{
-    let mut solution = Solution::empty(alloc);
-    for pair in pairs {
-        solution = solution.with(alloc, &pair.0, &pair.1)?;
-    }
-    Ok(solution)
 }

@@ -10,16 +10,16 @@ ghost use Rattle.fx_results.specs.declared.faults.ShapeFault.TheVariants as faul
 
 use crate::faults::{ResultsError, ShapeFault};
 use fx_terms::{Name, NameError};
+use indexmap::IndexMap;
 use serde_json::Value;
 use std::alloc::Global;
-use std::collections::BTreeMap;
 use std::marker::Model;
 
 /// Distinct names, which are found by their texts. Contracts see the names in their order.
 #[derive(Drop)]
 pub(crate) struct Columns {
     names: Vec<Name>,
-    index: BTreeMap<String, Name>,
+    index: IndexMap<String, Name>,
 }
 
 impl Model for Columns {
@@ -39,7 +39,7 @@ impl Columns {
         ensures { AnswersResults result (ok_or (spec.columns_of (items_view items.now)) (error.Shape fault.Columns)) }
     {
         let mut names = Vec::new(alloc);
-        let mut index = BTreeMap::new(alloc);
+        let mut index = IndexMap::new(alloc);
         for item in items {
             let name = name_of(alloc, item)?;
             let text = String::from_str(alloc, name.text())?;

@@ -1,9 +1,14 @@
 //! The document of an answer.
-ghost use Rattle.std.specs.Prelude.{◌≡◌, IfOk, IsTrue, IsUtf8, map};
+ghost use Rattle.std.specs.Prelude.{◌≡◌, All, IfOk, IsTrue, IsUtf8, Ok, map, true};
 ghost use Rattle.serde_json.specs.Data.{string};
 ghost use Rattle.serde_json.specs.View.{view, members_view};
 ghost use Rattle.fx_algebra.specs.Solutions.{rises};
+ghost use Rattle.fx_terms.specs.Names.{IsName};
+ghost use Rattle.fx_terms.specs.Terms.{IsTerm};
 ghost use Rattle.fx_results.specs.Documents as spec;
+ghost use Rattle.fx_results.specs.KnownAnswers.{IsKnown, IsKnownRow};
+ghost use Rattle.fx_results.specs.Meanings.{Denotes, binds_columns};
+ghost use Rattle.fx_results.specs.Reading.{read_results};
 
 use crate::terms::term_value;
 use fx_algebra::{Answer, Solution};
@@ -20,13 +25,18 @@ use std::alloc::{AllocError, Global};
 pub fn write(alloc: Global, answer: &Answer) -> Result<Vec<u8>, Memory>
     ensures document { IfOk result (λ bytes. bytes.items ≡ spec.document answer.now) }
     ensures utf8 { IfOk result (λ bytes. IsUtf8 bytes.items) }
+
+    // Where the columns are distinct and each row binds columns alone, it reads back as the answer, and means it.
+    ensures back { binds_columns answer.now ≡ true → IfOk result (λ bytes. read_results bytes.items ≡ Ok answer.now) }
+    ensures means { binds_columns answer.now ≡ true → IfOk result (λ bytes. Denotes bytes.items answer.now) }
 {
     let value = answer_value(alloc, answer)?;
     Ok(value.to_vec(alloc)?)
 }
 
 fn answer_value(alloc: Global, answer: &Answer) -> Result<Value, AllocError>
-    ensures { IfOk result (λ value. view value ≡ spec.answer_data answer.now) }
+    ensures value { IfOk result (λ value. view value ≡ spec.answer_data answer.now) }
+    ensures known { IfOk result (λ value. IsKnown answer.now) }
 {
     match answer {
         Answer::Table { columns, rows } => table_value(alloc, columns.as_slice(), rows.as_slice()),
@@ -41,7 +51,9 @@ fn truth_value(alloc: Global, truth: bool) -> Result<Value, AllocError>
 }
 
 fn table_value(alloc: Global, columns: &[Name], rows: &[Solution]) -> Result<Value, AllocError>
-    ensures { IfOk result (λ value. view value ≡ spec.table_data columns.now rows.now) }
+    ensures value { IfOk result (λ value. view value ≡ spec.table_data columns.now rows.now) }
+    ensures names { IfOk result (λ value. All IsName columns.now) }
+    ensures rows { IfOk result (λ value. All IsKnownRow rows.now) }
 {
     let names = names_value(alloc, columns)?;
     let bindings = rows_value(alloc, rows)?;
@@ -49,7 +61,8 @@ fn table_value(alloc: Global, columns: &[Name], rows: &[Solution]) -> Result<Val
 }
 
 fn names_value(alloc: Global, names: &[Name]) -> Result<Value, AllocError>
-    ensures { IfOk result (λ value. view value ≡ spec.array_of (map string names.now)) }
+    ensures value { IfOk result (λ value. view value ≡ spec.array_of (map string names.now)) }
+    ensures known { IfOk result (λ value. All IsName names.now) }
 {
     let mut items = Vec::with_capacity(alloc, names.len())?;
     for name in names {
@@ -59,7 +72,8 @@ fn names_value(alloc: Global, names: &[Name]) -> Result<Value, AllocError>
 }
 
 fn rows_value(alloc: Global, rows: &[Solution]) -> Result<Value, AllocError>
-    ensures { IfOk result (λ value. view value ≡ spec.array_of (map spec.row_data rows.now)) }
+    ensures value { IfOk result (λ value. view value ≡ spec.array_of (map spec.row_data rows.now)) }
+    ensures known { IfOk result (λ value. All IsKnownRow rows.now) }
 {
     let mut items = Vec::with_capacity(alloc, rows.len())?;
     for row in rows {
@@ -70,7 +84,8 @@ fn rows_value(alloc: Global, rows: &[Solution]) -> Result<Value, AllocError>
 
 fn row_members(alloc: Global, row: &[(Name, Term)]) -> Result<Map<String, Value>, AllocError>
     requires { IsTrue (rises row.now) }
-    ensures { IfOk result (λ members. members_view members.entries ≡ spec.row_members row.now) }
+    ensures value { IfOk result (λ members. members_view members.entries ≡ spec.row_members row.now) }
+    ensures known { IfOk result (λ members. All (λ e. IsTerm e.1) row.now) }
 {
     let mut members = Map::new(alloc);
     for pair in row {

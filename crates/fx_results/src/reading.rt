@@ -165,27 +165,34 @@ mod tests {
         }
     }
 
+    // A table of x and y with these rows.
+    fn table(alloc: Global, rows: &str) -> Result<String, Fail> {
+        Ok(format!(in alloc;
+            "{{\"head\":{{\"vars\":[\"x\",\"y\"]}},\"results\":{{\"bindings\":[{rows}]}}}}"
+        )?)
+    }
+
     #[test]
-    fn reads_replies(rt: HostRuntime) -> Result<(), Fail> {
+    fn tells_each_reply(rt: HostRuntime) -> Result<(), Fail> {
         let alloc = rt.alloc();
-        let cases = [
+        // whole replies, each with the document of its answer, or its refusal
+        let replies = [
             // members in any order, and others that are passed over
             (
-                r#"{"head": {"link": ["http://e/"], "vars": ["y", "x"]}, "results": {"distinct": false, "ordered": true, "bindings": [
+                r#"{ "head": { "link": [], "vars": [ "v1_0", "v1_1" ] }, "results": { "distinct": false, "ordered": true, "bindings": [ { "v1_0": { "type": "typed-literal", "datatype": "http://www.w3.org/2001/XMLSchema#decimal", "value": "1.5" } } ] } }"#,
+                r#"{"head":{"vars":["v1_0","v1_1"]},"results":{"bindings":[{"v1_0":{"datatype":"http://www.w3.org/2001/XMLSchema#decimal","type":"literal","value":"1.5"}}]}}"#,
+            ),
+            (
+                r#"{"took": 12, "results": {"bindings": [
                     {"x": {"value": "http://e/a", "type": "uri"}, "y": {"type": "uri", "value": "http://e/b"}},
                     {"y": {"type": "uri", "value": "http://e/b", "note": null}},
                     {}
-                ]}, "took": 12}"#,
+                ]}, "head": {"link": ["http://e/"], "vars": ["y", "x"]}}"#,
                 r#"{"head":{"vars":["y","x"]},"results":{"bindings":[{"x":{"type":"uri","value":"http://e/a"},"y":{"type":"uri","value":"http://e/b"}},{"y":{"type":"uri","value":"http://e/b"}},{}]}}"#,
             ),
             (
                 r#"{"results":{"bindings":[]},"head":{"vars":[]}}"#,
                 r#"{"head":{"vars":[]},"results":{"bindings":[]}}"#,
-            ),
-            // the last value of a name counts
-            (
-                r#"{"head":{"vars":["a"],"vars":["b"]},"results":{"bindings":[]}}"#,
-                r#"{"head":{"vars":["b"]},"results":{"bindings":[]}}"#,
             ),
             (
                 r#" {"head": {"link": []}, "boolean": true} "#,
@@ -195,111 +202,11 @@ mod tests {
                 r#"{"boolean":false,"head":{}}"#,
                 r#"{"boolean":false,"head":{}}"#,
             ),
-        ];
-        for (text, answer) in &cases {
-            assert_eq!(rt; told(alloc, text.as_bytes())?.as_str(), *answer);
-        }
-        Ok(())
-    }
-
-    #[test]
-    fn reads_terms(rt: HostRuntime) -> Result<(), Fail> {
-        let alloc = rt.alloc();
-        let cases = [
+            // the last value of a name counts
             (
-                r#"{"type":"uri","value":"http://e/\u00e9"}"#,
-                r#"{"type":"uri","value":"http://e/é"}"#,
+                r#"{"head":{"vars":["a"],"vars":["b"]},"results":{"bindings":[]}}"#,
+                r#"{"head":{"vars":["b"]},"results":{"bindings":[]}}"#,
             ),
-            (
-                r#"{"type":"literal","value":""}"#,
-                r#"{"type":"literal","value":""}"#,
-            ),
-            (
-                r#"{"type":"literal","value":"a","datatype":"http://www.w3.org/2001/XMLSchema#string"}"#,
-                r#"{"type":"literal","value":"a"}"#,
-            ),
-            (
-                r#"{"type":"typed-literal","value":"1","datatype":"http://e/d"}"#,
-                r#"{"datatype":"http://e/d","type":"literal","value":"1"}"#,
-            ),
-            (
-                r#"{"type":"literal","value":"a","xml:lang":"de-CH"}"#,
-                r#"{"type":"literal","value":"a","xml:lang":"de-ch"}"#,
-            ),
-            (
-                r#"{"type":"typed-literal","value":"a","xml:lang":"en","datatype":"http://www.w3.org/1999/02/22-rdf-syntax-ns#langString"}"#,
-                r#"{"type":"literal","value":"a","xml:lang":"en"}"#,
-            ),
-        ];
-        for (term, written) in &cases {
-            let text = format!(in alloc;
-                "{{\"head\":{{\"vars\":[\"x\"]}},\"results\":{{\"bindings\":[{{\"x\":{term}}}]}}}}"
-            )?;
-            let answer = format!(in alloc;
-                "{{\"head\":{{\"vars\":[\"x\"]}},\"results\":{{\"bindings\":[{{\"x\":{written}}}]}}}}"
-            )?;
-            assert_eq!(rt; told(alloc, text.as_bytes())?.as_str(), answer.as_str());
-        }
-        Ok(())
-    }
-
-    #[test]
-    fn refuses_terms(rt: HostRuntime) -> Result<(), Fail> {
-        let alloc = rt.alloc();
-        let cases = [
-            (r#"{"type":"bnode","value":"b0"}"#, "Blank"),
-            (r#"{"type":"bnode"}"#, "Blank"),
-            (r#""http://e/a""#, "BadTerm"),
-            (r#"{"value":"http://e/a"}"#, "BadTerm"),
-            (r#"{"type":"iri","value":"http://e/a"}"#, "BadTerm"),
-            (r#"{"type":"uri"}"#, "BadTerm"),
-            (r#"{"type":"uri","value":"a"}"#, "BadTerm"),
-            (r#"{"type":"uri","value":"http://e/ a"}"#, "BadTerm"),
-            (r#"{"type":"literal","value":1}"#, "BadTerm"),
-            (
-                r#"{"type":"literal","value":"a","datatype":null}"#,
-                "BadTerm",
-            ),
-            (
-                r#"{"type":"literal","value":"a","datatype":"d"}"#,
-                "BadTerm",
-            ),
-            (r#"{"type":"literal","value":"a","xml:lang":""}"#, "BadTerm"),
-            (
-                r#"{"type":"literal","value":"a","xml:lang":null}"#,
-                "BadTerm",
-            ),
-            (r#"{"type":"typed-literal","value":"a"}"#, "BadTerm"),
-            (
-                r#"{"type":"typed-literal","value":"a","xml:lang":"en"}"#,
-                "BadTerm",
-            ),
-            (
-                r#"{"type":"literal","value":"a","xml:lang":"en","datatype":"http://e/d"}"#,
-                "BadTerm",
-            ),
-            (
-                r#"{"type":"literal","value":"a","datatype":"http://www.w3.org/1999/02/22-rdf-syntax-ns#langString"}"#,
-                "BadTerm",
-            ),
-        ];
-        for (term, refusal) in &cases {
-            let text = format!(in alloc;
-                "{{\"head\":{{\"vars\":[\"x\"]}},\"results\":{{\"bindings\":[{{\"x\":{term}}}]}}}}"
-            )?;
-            assert_eq!(rt;
-                told(alloc, text.as_bytes())?.as_str(),
-                *refusal,
-                "at {term}"
-            );
-        }
-        Ok(())
-    }
-
-    #[test]
-    fn refuses_shapes(rt: HostRuntime) -> Result<(), Fail> {
-        let alloc = rt.alloc();
-        let cases = [
             ("", "BadJson"),
             (r#"{"boolean":true,"head":{}"#, "BadJson"),
             (r#"[]"#, "Shape { what: Root }"),
@@ -332,54 +239,20 @@ mod tests {
                 "Shape { what: Bindings }",
             ),
         ];
-        for (text, refusal) in &cases {
+        for (text, wanted) in &replies {
             assert_eq!(rt;
                 told(alloc, text.as_bytes())?.as_str(),
-                *refusal,
+                *wanted,
                 "at {text}"
             );
         }
-        Ok(())
-    }
-
-    // The first row that has a fault counts, and of its faults one of its shape before those of its terms.
-    #[test]
-    fn refuses_rows_in_order(rt: HostRuntime) -> Result<(), Fail> {
-        let alloc = rt.alloc();
-        let cases = [
-            ("1", "Shape { what: Row }"),
-            (
-                r#"{"z":{"type":"uri","value":"http://e/"}}"#,
-                "Shape { what: Row }",
-            ),
-            (r#"{"x":{"type":"bnode"},"z":1}"#, "Shape { what: Row }"),
-            (r#"{"y":{"type":"bnode"},"x":1}"#, "BadTerm"),
-            (r#"{"y":1,"x":{"type":"bnode"}}"#, "Blank"),
-            (r#"{"x":1},{"z":1}"#, "BadTerm"),
-            (r#"{},{"x":{"type":"bnode"}},1"#, "Blank"),
-        ];
-        for (rows, refusal) in &cases {
-            let text = format!(in alloc;
-                "{{\"head\":{{\"vars\":[\"x\",\"y\"]}},\"results\":{{\"bindings\":[{rows}]}}}}"
-            )?;
-            assert_eq!(rt;
-                told(alloc, text.as_bytes())?.as_str(),
-                *refusal,
-                "at {rows}"
-            );
-        }
-        Ok(())
-    }
-
-    #[test]
-    fn refuses_bytes(rt: HostRuntime) -> Result<(), Fail> {
-        let alloc = rt.alloc();
-        let cases: [&[u8]; 2] = [b"\xFF", b"{\"boolean\":true,\"head\":{},\"note\":\"\xFF\"}"];
-        for bytes in &cases {
+        // bytes that aren't UTF-8, wherever they stand
+        let broken: [&[u8]; 2] = [b"\xFF", b"{\"boolean\":true,\"head\":{},\"note\":\"\xFF\"}"];
+        for bytes in &broken {
             assert_eq!(rt; told(alloc, *bytes)?.as_str(), "BadJson");
         }
         // what is passed over nests at most 127 deep with the rest
-        for (depth, answer) in [
+        for (depth, wanted) in [
             (126, r#"{"boolean":true,"head":{}}"#),
             (127, "BadJson"),
             (1000, "BadJson"),
@@ -389,7 +262,98 @@ mod tests {
                 "[".repeat(alloc, depth)?,
                 "]".repeat(alloc, depth)?
             )?;
-            assert_eq!(rt; told(alloc, text.as_bytes())?.as_str(), answer);
+            assert_eq!(rt; told(alloc, text.as_bytes())?.as_str(), wanted);
+        }
+        // terms, each with what is written of it
+        let terms = [
+            (
+                r#"{"type":"uri","value":"http://e/\u00e9"}"#,
+                r#"{"type":"uri","value":"http://e/é"}"#,
+            ),
+            (
+                r#"{"type":"literal","value":""}"#,
+                r#"{"type":"literal","value":""}"#,
+            ),
+            (
+                r#"{"type":"literal","value":"a","datatype":"http://www.w3.org/2001/XMLSchema#string"}"#,
+                r#"{"type":"literal","value":"a"}"#,
+            ),
+            (
+                r#"{"type":"typed-literal","value":"1","datatype":"http://e/d"}"#,
+                r#"{"datatype":"http://e/d","type":"literal","value":"1"}"#,
+            ),
+            (
+                r#"{"type":"literal","value":"a","xml:lang":"de-CH"}"#,
+                r#"{"type":"literal","value":"a","xml:lang":"de-ch"}"#,
+            ),
+            (
+                r#"{"type":"typed-literal","value":"a","xml:lang":"en","datatype":"http://www.w3.org/1999/02/22-rdf-syntax-ns#langString"}"#,
+                r#"{"type":"literal","value":"a","xml:lang":"en"}"#,
+            ),
+        ];
+        for (term, written) in &terms {
+            let text = table(alloc, format!(in alloc; "{{\"x\":{term}}}")?.as_str())?;
+            let wanted = table(alloc, format!(in alloc; "{{\"x\":{written}}}")?.as_str())?;
+            assert_eq!(rt; told(alloc, text.as_bytes())?.as_str(), wanted.as_str());
+        }
+        // rows that are refused: the first that has a fault counts, and of its faults one of its shape before those of its terms
+        let rows = [
+            ("1", "Shape { what: Row }"),
+            (
+                r#"{"z":{"type":"uri","value":"http://e/"}}"#,
+                "Shape { what: Row }",
+            ),
+            (r#"{"x":{"type":"bnode"},"z":1}"#, "Shape { what: Row }"),
+            (r#"{"x":1,"z":1}"#, "Shape { what: Row }"),
+            (r#"{"y":{"type":"bnode"},"x":1}"#, "BadTerm"),
+            (r#"{"y":1,"x":{"type":"bnode"}}"#, "Blank"),
+            (r#"{"x":1},{"z":1}"#, "BadTerm"),
+            (r#"{},{"x":{"type":"bnode"}},1"#, "Blank"),
+            (r#"{"x":{"type":"bnode","value":"b0"}}"#, "Blank"),
+            (r#"{"x":"http://e/a"}"#, "BadTerm"),
+            (r#"{"x":{"value":"http://e/a"}}"#, "BadTerm"),
+            (r#"{"x":{"type":"iri","value":"http://e/a"}}"#, "BadTerm"),
+            (r#"{"x":{"type":"uri"}}"#, "BadTerm"),
+            (r#"{"x":{"type":"uri","value":"a"}}"#, "BadTerm"),
+            (r#"{"x":{"type":"uri","value":"http://e/ a"}}"#, "BadTerm"),
+            (r#"{"x":{"type":"literal","value":1}}"#, "BadTerm"),
+            (
+                r#"{"x":{"type":"literal","value":"a","datatype":null}}"#,
+                "BadTerm",
+            ),
+            (
+                r#"{"x":{"type":"literal","value":"a","datatype":"d"}}"#,
+                "BadTerm",
+            ),
+            (
+                r#"{"x":{"type":"literal","value":"a","xml:lang":""}}"#,
+                "BadTerm",
+            ),
+            (
+                r#"{"x":{"type":"literal","value":"a","xml:lang":1}}"#,
+                "BadTerm",
+            ),
+            (r#"{"x":{"type":"typed-literal","value":"a"}}"#, "BadTerm"),
+            (
+                r#"{"x":{"type":"typed-literal","value":"a","xml:lang":"en"}}"#,
+                "BadTerm",
+            ),
+            (
+                r#"{"x":{"type":"literal","value":"a","xml:lang":"en","datatype":"http://e/d"}}"#,
+                "BadTerm",
+            ),
+            (
+                r#"{"x":{"type":"literal","value":"a","datatype":"http://www.w3.org/1999/02/22-rdf-syntax-ns#langString"}}"#,
+                "BadTerm",
+            ),
+        ];
+        for (faulty, refusal) in &rows {
+            let text = table(alloc, *faulty)?;
+            assert_eq!(rt;
+                told(alloc, text.as_bytes())?.as_str(),
+                *refusal,
+                "at {faulty}"
+            );
         }
         Ok(())
     }

@@ -1,6 +1,8 @@
 //! The data of a term.
 ghost use Rattle.std.specs.Prelude.{◌≡◌, IfOk};
 ghost use Rattle.serde_json.specs.View.{view};
+ghost use Rattle.fx_terms.specs.Literals.{IsLiteral};
+ghost use Rattle.fx_terms.specs.Terms.{IsTerm};
 ghost use Rattle.fx_results.specs.Documents as spec;
 
 use fx_terms::{Literal, Term};
@@ -11,7 +13,8 @@ use std::alloc::{AllocError, Global};
 const STRING: &str = "http://www.w3.org/2001/XMLSchema#string";
 
 pub(crate) fn term_value(alloc: Global, term: &Term) -> Result<Value, AllocError>
-    ensures { IfOk result (λ value. view value ≡ spec.term_data term.now) }
+    ensures value { IfOk result (λ value. view value ≡ spec.term_data term.now) }
+    ensures known { IfOk result (λ value. IsTerm term.now) }
 {
     match term {
         Term::Iri(iri) => iri_value(alloc, iri.text()),
@@ -20,7 +23,8 @@ pub(crate) fn term_value(alloc: Global, term: &Term) -> Result<Value, AllocError
 }
 
 fn literal_value(alloc: Global, literal: &Literal) -> Result<Value, AllocError>
-    ensures { IfOk result (λ value. view value ≡ spec.literal_data literal.now) }
+    ensures value { IfOk result (λ value. view value ≡ spec.literal_data literal.now) }
+    ensures known { IfOk result (λ value. IsLiteral literal.now) }
 {
     if literal.tag().is_empty() {
         untagged_value(alloc, literal.form(), literal.datatype().text())
