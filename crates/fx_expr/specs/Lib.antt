@@ -1,0 +1,5 @@
+pub mod Conditions
+pub mod Keys
+pub mod Values
+pub mod Words
+pub mod Worths
