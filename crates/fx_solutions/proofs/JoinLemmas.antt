@@ -5,7 +5,6 @@ use Rattle.std.specs.List.Sorted.{IsSortedBy, IsPartitionedBy}
 use Rattle.std.specs.declared.cmp.Ordering.{Ordering}
 use Rattle.std.specs.declared.cmp.Ordering.TheVariants.{Less, Equal, Greater}
 use Rattle.std.specs.Ordering.{is_eq, is_lt, is_le, ordering_reverse}
-use Rattle.std.specs.Cmp.{IsTotalOrder}
 use Rattle.std.specs.Cmp.Lexicographic.{slice_cmp}
 use Rattle.std.proofs.Common.{length-drop, drop}
 use Rattle.std.proofs.lemmas.List.{get_or-drop}
@@ -14,7 +13,7 @@ use Rattle.std.proofs.lemmas.List.Sorted.{Contains-permutation, IsPermutation-re
 use Rattle.fx_terms.specs.declared.terms.Term.{Term}
 use Rattle.fx_terms.proofs.SetLemmas.{Among, among_from, contains_from}
 use Rattle.fx_algebra.specs.Solutions.{Bindings, term_of, agree, merge}
-use Rattle.fx_algebra.specs.Sequences.{cells, cell_cmp, cells_total, row_cmp, rows_total}
+use Rattle.fx_algebra.specs.Sequences.{cells, cell_cmp, row_cmp, rows_total}
 use Rattle.fx_algebra.specs.Operators.{merges, join}
 use Rattle.fx_algebra.proofs.JoinLemmas.{agree_has, same_join}
 use Rattle.fx_solutions.specs.Joins.{is_bound_in, is_shared, with_terms, merged}
@@ -40,7 +39,7 @@ same_some (Some u) None h k f = cc
 same_some (Some u) (Some t) h k f = ap Some (sym (f u t refl refl))
 
 -- rows that agree have the same cells under names that both bind
-same_cells : (left right : List Bindings) (names : List (List ℕ)) (a r : Bindings) → list_all (is_shared left right) names ≡ true → Among a left → Among r right → agree a r ≡ true → cells names r ≡ cells names a
+pub same_cells : (left right : List Bindings) (names : List (List ℕ)) (a r : Bindings) → list_all (is_shared left right) names ≡ true → Among a left → Among r right → agree a r ≡ true → cells names r ≡ cells names a
 same_cells left right [] a r h m n k = refl
 same_cells left right (name ∷ names) a r h m n k =
     let two = both (is_shared left right name) (list_all (is_shared left right) names) h in
@@ -50,12 +49,12 @@ same_cells left right (name ∷ names) a r h m n k =
     let rest : cells names r ≡ cells names a = same_cells left right names a r two.1 m n k in
     λ i. here i ∷ rest i
 
-tied_rows : (names : List (List ℕ)) (a r : Bindings) → cells names r ≡ cells names a → is_eq (row_cmp names r a) ≡ true
+pub tied_rows : (names : List (List ℕ)) (a r : Bindings) → cells names r ≡ cells names a → is_eq (row_cmp names r a) ≡ true
 tied_rows names a r e = ap (λ v. is_eq (slice_cmp cell_cmp v (cells names a))) e ∙ ap is_eq (tied_itself (rows_total names) a)
 
 -- ---- only these need to be looked at
 
-filter_twice : {X : Type 0} (p q : X → Bool) (xs : List X) → ((x : X) → Among x xs → p x ≡ true → q x ≡ true) → filter p (filter q xs) ≡ filter p xs
+pub filter_twice : {X : Type 0} (p q : X → Bool) (xs : List X) → ((x : X) → Among x xs → p x ≡ true → q x ≡ true) → filter p (filter q xs) ≡ filter p xs
 filter_twice p q [] h = refl
 filter_twice p q (x ∷ xs) h = pick (q x) (p x) refl refl (filter_twice p q xs (λ y m. h y (inr m)))
   where
@@ -64,7 +63,7 @@ filter_twice p q (x ∷ xs) h = pick (q x) (p x) refl refl (filter_twice p q xs 
     pick false true e f rest = let yes : q x ≡ true = h x (inl refl) f in absurd (cc)
     pick false false e f rest = rest
 
-flat_map_same : {A B : Type 0} (f g : A → List B) (xs : List A) → ((x : A) → Among x xs → f x ≡ g x) → flat_map f xs ≡ flat_map g xs
+pub flat_map_same : {A B : Type 0} (f g : A → List B) (xs : List A) → ((x : A) → Among x xs → f x ≡ g x) → flat_map f xs ≡ flat_map g xs
 flat_map_same f g [] h = refl
 flat_map_same f g (x ∷ xs) h = let here : f x ≡ g x = h x (inl refl) in let rest : flat_map f xs ≡ flat_map g xs = flat_map_same f g xs (λ y m. h y (inr m)) in λ i. here i ++ rest i
 

@@ -1,2 +1,5 @@
 pub mod RunLemmas
 pub mod JoinLemmas
+pub mod KeyLemmas
+pub mod LeftJoinLemmas
+pub mod SeenLemmas

@@ -5,6 +5,8 @@ use Rattle.std.specs.Ordering.{is_eq}
 use Rattle.fx_algebra.specs.Operators.{merges}
 use Rattle.fx_algebra.specs.Sequences.{row_cmp}
 use Rattle.fx_algebra.specs.Solutions.{Bindings, term_of}
+use Rattle.fx_algebra.specs.declared.expressions.Expr.{Expr}
+use Rattle.fx_solutions.specs.Operators.{stays, matches_or_itself}
 
 -- whether each row binds a name
 abbrev pub is_bound_in : List Bindings → List ℕ → Bool
@@ -21,3 +23,11 @@ with_terms names rows row = filter (λ r. is_eq (row_cmp names r row)) rows
 -- each row of the left with those of the right that have its terms under the names and agree with it
 abbrev pub merged : List (List ℕ) → List Bindings → List Bindings → List Bindings
 merged names right left = flat_map (λ row. merges (with_terms names right row) row) left
+
+-- each row of the left with what it matches among the rows of the right that have its terms under the names, or itself
+abbrev pub matched : List Expr → List (List ℕ) → List Bindings → List Bindings → List Bindings
+matched conditions names right left = flat_map (λ row. matches_or_itself conditions (with_terms names right row) row) left
+
+-- the rows that none of the rows with their terms under the names removes
+abbrev pub kept : List (List ℕ) → List Bindings → List Bindings → List Bindings
+kept names right left = filter (λ row. stays (with_terms names right row) row) left

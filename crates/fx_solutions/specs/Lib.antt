@@ -1,2 +1,5 @@
 pub mod Joins
+pub mod Operators
+pub mod OrderedRows
+pub mod Selected
 pub mod Tables

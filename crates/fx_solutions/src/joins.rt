@@ -73,7 +73,11 @@ fn add_merges(
 }
 
 // Names that each row of both sides binds.
-fn shared_names(alloc: Global, left: &[Solution], right: &[Solution]) -> Result<Vec<Name>, Memory>
+pub(crate) fn shared_names(
+    alloc: Global,
+    left: &[Solution],
+    right: &[Solution],
+) -> Result<Vec<Name>, Memory>
     ensures { IfOk result (λ names. list_all (spec.is_shared left.now right.now) names.items ≡ true) }
 {
     let mut shared = Vec::new(alloc);
@@ -100,7 +104,7 @@ fn is_bound_in(rows: &[Solution], name: &Name) -> bool
 }
 
 // The rows in the order of their terms under names.
-fn by_terms(names: &[Name], rows: Vec<Solution>) -> Result<Vec<Solution>, Memory>
+pub(crate) fn by_terms(names: &[Name], rows: Vec<Solution>) -> Result<Vec<Solution>, Memory>
     ensures same { IfOk result (λ v. IsPermutation rows.items v.items) }
     ensures rises { IfOk result (λ v. IsSortedBy (λ a b. is_lt (row_cmp names.now a b)) v.items) }
 {
@@ -111,7 +115,7 @@ fn by_terms(names: &[Name], rows: Vec<Solution>) -> Result<Vec<Solution>, Memory
 
 // Of rows in the order of their terms under names those that have a row's terms. They stand together, so both ends are
 // searched for by halves.
-fn with_terms<'a>(rows: &'a [Solution], names: &[Name], row: &Solution) -> &'a [Solution]
+pub(crate) fn with_terms<'a>(rows: &'a [Solution], names: &[Name], row: &Solution) -> &'a [Solution]
     requires { IsSortedBy (λ a b. is_lt (row_cmp names.now a b)) rows.now }
     ensures { result.now ≡ filter (λ r. is_eq (row_cmp names.now r row.now)) rows.now }
 {
@@ -133,7 +137,7 @@ fn is_up_to(other: &Solution, names: &[Name], row: &Solution) -> bool
     compare_rows(names, other, row) != Ordering::Greater
 }
 
-fn copy_rows(alloc: Global, rows: &[Solution]) -> Result<Vec<Solution>, Memory>
+pub(crate) fn copy_rows(alloc: Global, rows: &[Solution]) -> Result<Vec<Solution>, Memory>
     ensures { IfOk result (λ copies. copies.items ≡ rows.now) }
 {
     let mut copies = Vec::with_capacity(alloc, rows.len())?;

@@ -42,7 +42,7 @@ pub(crate) fn compare_rows(columns: &[Name], left: &Solution, right: &Solution) 
     Ordering::Equal
 }
 
-fn compare_cells(left: Option<&Term>, right: Option<&Term>) -> Ordering
+pub(crate) fn compare_cells(left: Option<&Term>, right: Option<&Term>) -> Ordering
     ensures { result ≡ cell_cmp (option_copied left.entry) (option_copied right.entry) }
 {
     match left {
