@@ -1,5 +1,14 @@
 pub mod AcceptedLaws
+pub mod ExpressionLaws
 pub mod FormLaws
+pub mod GrammarLaws
+pub mod KindLaws
+pub mod Loops
 pub mod ReadingLemmas
+pub mod RuleKept
+pub mod RuleLaws
+pub mod RuleLocal
+pub mod RuleWhole
 pub mod TextLemmas
+pub mod TextLaws
 pub mod WordLaws

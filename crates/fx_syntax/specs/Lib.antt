@@ -1,5 +1,10 @@
 pub mod Accepted
 pub mod Answers
+pub mod Classified
 pub mod FirstForm
+pub mod Grammar
+pub mod Keywords
+pub mod Kinds
 pub mod Reading
+pub mod Rule
 pub mod Words

@@ -1,5 +1,5 @@
 -- Words of the first form of a query, and what each of them says.
-use Rattle.std.specs.Prelude.{◌≡◌, ℕ, Bool, true, List, [], ◌∷◌, ◌++◌, Ok, ◌&&◌, ◌||◌, ◌==◌, not, codes, filter, length}
+use Rattle.std.specs.Prelude.{◌≡◌, ℕ, Bool, true, List, [], ◌∷◌, ◌++◌, ◌&&◌, ◌||◌, ◌==◌, not, codes, filter, length}
 use Rattle.std.specs.List.{slice_split, list_all}
 use Rattle.fx_terms.specs.Iris.{is_letter, is_digit, IsIri}
 use Rattle.fx_syntax.specs.declared.words.Word.{Word}

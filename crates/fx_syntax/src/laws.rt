@@ -1,7 +1,19 @@
 //! Laws of the definitions, each the contract of a function that does nothing.
 ghost use Rattle.fx_syntax.specs.Accepted.{OneQuery};
+ghost use Rattle.fx_syntax.specs.Grammar as grammar;
+ghost use Rattle.fx_syntax.specs.Rule.{ReadAsSpelled, RefusedForGood};
 
 /// A text is accepted as one query at most.
 pub fn one_query()
     ensures { OneQuery }
+{}
+
+/// The grammar is read from left to right, a token at a time, exactly as it is spelled.
+pub fn grammar_is_read_as_spelled()
+    ensures { ReadAsSpelled grammar.query }
+{}
+
+/// Where the grammar refuses a token, no query begins with the tokens up to and with it.
+pub fn grammar_refuses_for_good()
+    ensures { RefusedForGood grammar.query }
 {}

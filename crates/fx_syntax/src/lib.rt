@@ -2,8 +2,14 @@
 //! IRIs in braces, each word apart.
 #![tactic(auto)]
 
+pub mod classify;
+pub mod expressions;
 mod forms;
+pub mod keywords;
+pub mod kinds;
 pub mod laws;
+pub mod parts;
+pub mod readers;
 pub mod words;
 
 pub use forms::parse;

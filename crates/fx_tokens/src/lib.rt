@@ -17,9 +17,10 @@ ghost use Rattle.fx_tokens.specs.Reads.{Reads, IsSlice, RiseFrom};
 
 use crate::classes::{Class, is_blank};
 use crate::kinds::barren_behind;
-use crate::parts::{skip, split_first, width};
+use crate::parts::{skip, width};
 use crate::reading::{fault, longest};
 use fx_terms::shareable;
+pub use parts::{four, split_first};
 use std::alloc::{AllocError, AllocFailed, Global};
 
 /// What a token is.

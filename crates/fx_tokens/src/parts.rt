@@ -118,9 +118,9 @@ fn fits(number: u32, in_iri: bool) -> bool
     }
 }
 
-/// The number of four hexadecimal digits behind a higher part.
+/// The number of four hexadecimal digits behind a higher part, and the text behind them.
 #[tactic(auto, unfolding(crate::specs::Scan::hexes))]
-fn four(text: &str, high: u32) -> Option<(u32, &str)>
+pub fn four(text: &str, high: u32) -> Option<(u32, &str)>
     requires { high < 65536 }
     ensures value { left_number result ≡ scan.hexes 4 high (chars text.now) }
     ensures bound { high ≡ 0 → IfSome result (λ p. p.0 < 65536) }
