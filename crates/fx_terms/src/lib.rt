@@ -16,7 +16,7 @@ pub mod writing;
 pub use allocation::Memory;
 pub use graphs::Graph;
 pub use iris::{Iri, TermError};
-pub use literals::{Literal, LiteralError};
+pub use literals::{Literal, LiteralError, is_tag};
 pub use names::{Name, NameError};
 pub use patterns::{Pattern, PatternTerm};
 pub use sqlite_items::{Boxed, Items};

@@ -148,8 +148,9 @@ impl Literal {
     }
 }
 
-// Whether a text is letters, and then any number of groups of `-` with letters or digits.
-fn is_tag(tag: &str) -> bool
+/// Whether a text may be a language tag: ASCII letters, and then any number of groups of `-` with ASCII letters or digits (RDF
+/// 1.1 N-Triples, section 7, LANGTAG).
+pub fn is_tag(tag: &str) -> bool
     ensures { result ≡ spec.is_tag tag.now }
 {
     let mut parts = tag.split('-');
