@@ -1,11 +1,10 @@
 -- Joins, and how they stand to basic graph patterns.
-use Rattle.std.proofs.Common.{◌≡◌, ◌∙◌, ap, sym, subst, refl, ℕ, Bool, true, false, ◌&&◌, ◌||◌, T, cond, List, [], ◌∷◌, ◌++◌, map, filter, sum_by, Option, Some, None, is_some, IsTrue, option_and_then, IsPermutation, append-nil, if◌then◌else◌, inl, inr}
-use Rattle.std.specs.List.{AllByRecursion, flat_map, filter_map, cons_option, list_all}
+use Rattle.std.proofs.Common.{◌≡◌, ◌∙◌, ap, sym, subst, refl, ℕ, Bool, true, false, ◌&&◌, ◌||◌, T, cond, List, [], ◌∷◌, ◌++◌, map, filter, sum_by, Option, Some, None, is_some, option_and_then, IsPermutation, append-nil, if◌then◌else◌}
+use Rattle.std.specs.List.{AllByRecursion, flat_map, filter_map, cons_option}
 use Rattle.std.specs.Option.{option_or}
 use Rattle.std.specs.declared.cmp.Ordering.{Ordering}
 use Rattle.std.specs.declared.cmp.Ordering.TheVariants.{Less, Equal, Greater}
 use Rattle.std.specs.Ordering.{is_eq, is_lt, ordering_then}
-use Rattle.std.specs.Cmp.Lexicographic.{slice_cmp}
 use Rattle.std.specs.FinMap.Entries.{below_all}
 use Rattle.std.proofs.lemmas.Cmp.{tied_itself}
 use Rattle.std.proofs.lemmas.Map.Lookups.{exact_bytes}
@@ -16,15 +15,13 @@ use Rattle.fx_terms.specs.declared.triples.Triple.{Triple}
 use Rattle.fx_terms.specs.declared.patterns.Pattern.{Pattern}
 use Rattle.fx_terms.specs.declared.patterns.PatternTerm.{PatternTerm}
 use Rattle.fx_terms.proofs.OrderLemmas.{exact_terms}
-use Rattle.fx_terms.proofs.SetLemmas.{Among}
-use Rattle.fx_algebra.specs.Solutions.{Bindings, term_of, with_pair, with_new, same_term, rises, agree, is_or_none, merge, pair_cmp, solution_cmp, solutions_total}
-use Rattle.fx_algebra.specs.Scopes.{is_among}
-use Rattle.fx_algebra.specs.BasicGraphPatterns.{parts_of, forced, value_of, bgp}
+use Rattle.fx_algebra.specs.Solutions.{Bindings, term_of, with_pair, with_new, rises, agree, is_or_none, merge, pair_cmp, solution_cmp, solutions_total}
+use Rattle.fx_algebra.specs.BasicGraphPatterns.{choices, parts_of, all_parts, forced, bgp}
 use Rattle.fx_algebra.specs.Evaluation.{extended, rows_from}
 use Rattle.fx_algebra.specs.Operators.{merges, join}
 use Rattle.fx_algebra.proofs.PairLemmas.{rises_merge}
-use Rattle.fx_algebra.proofs.ForcedLemmas.{same_from, same_itself, name_from, with_pair_has, value_kept, same_value, Extends, IsForced, AllAre, names_of, of_outcome, forced_is, forces, forces_it}
-use Rattle.fx_algebra.proofs.BgpLemmas.{rows_from-bgp}
+use Rattle.fx_algebra.proofs.ForcedLemmas.{same_from, same_itself, name_from, with_pair_has, value_kept, same_value, Extends, IsForced, AllAre, of_outcome, forced_is, forces, forces_it}
+use Rattle.fx_algebra.proofs.BgpLemmas.{rows_beside, rows_from-flat_map, rows_from-bgp}
 use Rattle.fx_algebra.proofs.WeightLemmas.{SameWeights, weights_from, permutation_from, sum_by_same, sum_by-flat_map, sum_by-map, sum_by-filter}
 
 -- ---- solutions are told apart
@@ -210,7 +207,7 @@ forced_beside a cs up = pick (forced [] cs) refl
 
 -- ---- the join with a pattern's solutions
 
-merges_of : (f : Triple → Option Bindings) (a : Bindings) (ts : List Triple) → merges (filter_map f ts) a ≡ filter_map (λ t. option_and_then (joined a) (f t)) ts
+merges_of : {X : Type 0} (f : X → Option Bindings) (a : Bindings) (ts : List X) → merges (filter_map f ts) a ≡ filter_map (λ t. option_and_then (joined a) (f t)) ts
 merges_of f a [] = refl
 merges_of f a (t ∷ ts) = pick (f t) (merges_of f a ts)
   where
@@ -246,6 +243,22 @@ join_extends graph p rows h =
     let alone = filter_map (λ t. forced [] (parts_of p t)) graph in
     let one : bgp graph (p ∷ []) ≡ alone = sym (rows_from-bgp graph (p ∷ [])) ∙ append-nil alone in
     ap (join rows) one ∙ flat_map_among (merges alone) (λ a. filter_map (λ t. forced a (parts_of p t)) graph) rows (all_rows graph p rows h)
+
+-- the join with a run's solutions is each row with what the choices for its patterns force beside it
+pub join_run : (graph : List Triple) (ps : List Pattern) (rows : List Bindings) → AllByRecursion (λ s. T (rises s)) rows → join rows (bgp graph ps) ≡ rows_from graph rows ps
+join_run graph ps rows h = flat_map_among (merges (bgp graph ps)) (rows_beside graph ps) rows (all rows h) ∙ sym (rows_from-flat_map graph rows ps)
+  where
+    all : (rows : List Bindings) → AllByRecursion (λ s. T (rises s)) rows → AllByRecursion (λ a. merges (bgp graph ps) a ≡ rows_beside graph ps a) rows
+    all [] h = tt
+    all (a ∷ rows) h = (
+      merges_of (λ ts. forced [] (all_parts ps ts)) a (choices graph ps)
+          ∙ filter_map_same (λ ts. option_and_then (joined a) (forced [] (all_parts ps ts))) (λ ts. forced a (all_parts ps ts)) (λ ts. sym (forced_beside a (all_parts ps ts) h.0)) (choices graph ps),
+      all rows h.1,
+    )
+
+-- the join of the one empty solution with a run's solutions is these
+pub join_first : (graph : List Triple) (ps : List Pattern) → join ([] ∷ []) (bgp graph ps) ≡ bgp graph ps
+join_first graph ps = join_run graph ps ([] ∷ []) (tt, tt) ∙ rows_from-bgp graph ps
 
 -- ---- the join of the same rows
 

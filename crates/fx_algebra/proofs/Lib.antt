@@ -8,3 +8,4 @@ pub mod SequenceLemmas
 pub mod JoinLemmas
 pub mod WeightLemmas
 pub mod UnionLemmas
+pub mod PlainLemmas

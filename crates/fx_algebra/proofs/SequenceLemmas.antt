@@ -1,11 +1,9 @@
 -- The order of rows tells projected rows apart, so the same rows give one sequence.
-use Rattle.std.proofs.Common.{◌≡◌, ◌∙◌, ap, sym, refl, ℕ, Bool, true, false, ◌||◌, T, cond, List, [], ◌∷◌, map, filter, drop, Option, Some, None, is_some, All, IsPermutation, IsTrue}
+use Rattle.std.proofs.Common.{◌≡◌, ◌∙◌, ap, sym, refl, ℕ, Bool, true, false, ◌||◌, T, cond, List, [], ◌∷◌, map, drop, Option, Some, None, All, IsPermutation, IsTrue}
 use Rattle.std.specs.List.Sorted.{IsSortedBy}
-use Rattle.std.specs.Option.{option_to_list}
 use Rattle.std.specs.declared.cmp.Ordering.{Ordering}
 use Rattle.std.specs.declared.cmp.Ordering.TheVariants.{Less, Equal, Greater}
 use Rattle.std.specs.Ordering.{is_eq, is_lt, ordering_then}
-use Rattle.std.specs.Cmp.Lexicographic.{slice_cmp}
 use Rattle.std.specs.FinMap.Entries.{find-where_key, same_entries}
 use Rattle.std.proofs.lemmas.List.Elements.{All-map, All-weaker}
 use Rattle.std.proofs.lemmas.List.Sorted.{IsPermutation-map}
@@ -16,7 +14,7 @@ use Rattle.fx_terms.specs.declared.terms.Term.{Term}
 use Rattle.fx_terms.proofs.OrderLemmas.{exact_terms}
 use Rattle.fx_algebra.specs.Scopes.{is_among}
 use Rattle.fx_algebra.specs.Solutions.{Bindings, term_of, rises, SameRows}
-use Rattle.fx_algebra.specs.Sequences.{projected, cells, cell_cmp, row_cmp, rows_total, sorted_by, ordered, distinct_rows, limited, OneSequence}
+use Rattle.fx_algebra.specs.Sequences.{projected, cell_cmp, row_cmp, rows_total, sorted_by, ordered, distinct_rows, limited, OneSequence}
 use Rattle.fx_algebra.proofs.OrderLemmas.{one_order, same_order}
 use Rattle.fx_algebra.proofs.PairLemmas.{rises_kept}
 

@@ -1,7 +1,7 @@
 -- The solutions of one pattern over a union of graphs: those over each graph, each once.
-use Rattle.std.proofs.Common.{◌≡◌, ◌∙◌, ap, sym, subst, refl, List, [], ◌∷◌, ◌++◌, IsPermutation, IsTrue, inl, inr}
+use Rattle.std.proofs.Common.{◌≡◌, sym, subst, refl, List, [], ◌∷◌, IsPermutation, inl, inr}
 use Rattle.std.specs.Prelude.{Contains}
-use Rattle.std.specs.List.{AllByRecursion, flat_map}
+use Rattle.std.specs.List.{flat_map}
 use Rattle.std.specs.List.Sorted.{IsStrictlySortedBy}
 use Rattle.std.specs.declared.cmp.Ordering.{Ordering}
 use Rattle.std.specs.declared.cmp.Ordering.TheVariants.{Less, Equal, Greater}

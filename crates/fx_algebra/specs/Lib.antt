@@ -1,9 +1,16 @@
 pub mod Answers
 pub mod BasicGraphPatterns
+pub mod Conditions
 pub mod Evaluation
+pub mod Groups
+pub mod Keys
 pub mod Occurrences
 pub mod Operators
+pub mod OrderedRows
 pub mod Printed
 pub mod Scopes
 pub mod Sequences
 pub mod Solutions
+pub mod Values
+pub mod Words
+pub mod Worths

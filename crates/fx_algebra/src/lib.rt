@@ -4,20 +4,26 @@
 pub mod answers;
 pub mod expressions;
 pub mod groups;
+pub mod keys;
 pub mod laws;
 pub mod occurrences;
+pub mod plain;
 pub mod queries;
 pub mod scopes;
 pub mod solutions;
+pub mod worths;
 
 pub use answers::Answer;
 pub use expressions::{Compare, Expr, Function, Sign};
 use fx_terms::shareable;
 pub use groups::patterns_of;
+pub use keys::Keyed;
 pub use occurrences::services;
+pub use plain::is_plain;
 pub use queries::{Element, Form, Group, Inline, Order, Query};
 pub use scopes::scope;
 pub use solutions::Solution;
+pub use worths::{Kind, Worth};
 
 /// Every type of this crate may be shared between threads and sent to them.
 pub fn all_shareable() {
@@ -33,6 +39,9 @@ pub fn all_shareable() {
     shareable::<Order>();
     shareable::<Query>();
     shareable::<Solution>();
+    shareable::<Keyed>();
+    shareable::<Kind>();
+    shareable::<Worth>();
 }
 
 #[cfg(test)]

@@ -65,8 +65,9 @@ fn add_pattern(names: &mut Vec<Name>, pattern: &Pattern) -> Result<(), Memory>
     add_part(names, &pattern.object)
 }
 
+/// The names that an element binds, behind those that were there, with repeats.
 #[cycle(scope)]
-fn add_element(names: &mut Vec<Name>, element: &Element) -> Result<(), Memory>
+pub fn add_element(names: &mut Vec<Name>, element: &Element) -> Result<(), Memory>
     ensures { OnOk result (names.new.items ≡ names.old.items ++ spec.mentions element.now) }
 {
     match element {

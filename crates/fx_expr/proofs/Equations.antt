@@ -5,7 +5,7 @@ use Rattle.fx_algebra.specs.declared.expressions.Sign.{Sign}
 use Rattle.fx_algebra.specs.declared.expressions.Expr.{Expr, Expr-F, fold-roll-Expr}
 use Rattle.fx_algebra.specs.declared.expressions.Expr.TheVariants.{Or, And, Among, Sum, Product, rolls-Or, rolls-And, rolls-Among, rolls-Sum, rolls-Product}
 use Rattle.fx_terms.specs.declared.terms.Term.{Term}
-use Rattle.fx_expr.specs.Values.{value, value_step, boolean, integer, truth_of, any_of, all_of, among, negated_by, sum, product}
+use Rattle.fx_algebra.specs.Values.{value, value_step, boolean, integer, truth_of, any_of, all_of, among, negated_by, sum, product}
 
 pub value_or : (parts : List Expr) (s : Bindings) → value (Or parts) s ≡ option_map boolean (any_of (map truth_of (map (λ e. value e s) parts)))
 value_or parts s = ap (λ e. value e s) (sym (rolls-Or parts)) ∙ fold-roll-Expr (Option Term) (value_step s) (Expr-F.Or parts)

@@ -9,7 +9,7 @@ use Rattle.std.specs.Str.Parse.{AllDigits, IsNumeral, ParsesSigned, without_lead
 use Rattle.std.specs.Char.{digit_value}
 use Rattle.std.proofs.lemmas.Bool.{ltb-true, lt-ltb, ne_eqb, and_parts, and_from}
 use Rattle.fx_terms.specs.Iris.{is_digit}
-use Rattle.fx_expr.specs.Worths.{is_in_range, if_in_range, are_digits, is_integer_form, written_integer, read_integer}
+use Rattle.fx_algebra.specs.Worths.{is_in_range, if_in_range, are_digits, is_integer_form, written_integer, read_integer}
 
 -- ---- the range
 

@@ -4,7 +4,7 @@ use Rattle.std.specs.Prelude.{◌↔◌}
 use Rattle.std.specs.Str.Iter.{HasSubslice}
 use Rattle.std.proofs.lemmas.Bool.Decides.{Decides-eqb}
 use Rattle.std.proofs.lemmas.Slice.Eq.{starts_is}
-use Rattle.fx_expr.specs.Words.{begins, has_part}
+use Rattle.fx_algebra.specs.Words.{begins, has_part}
 
 begins_gives : (s p : List ℕ) → begins s p ≡ true → s ≡ p ++ drop (length p) s
 unfolding begins

@@ -1,6 +1,6 @@
 //! Conditions.
 ghost use Rattle.std.specs.Prelude.{◌≡◌, IfOk};
-ghost use Rattle.fx_expr.specs.Conditions as spec;
+ghost use Rattle.fx_algebra.specs.Conditions as spec;
 
 use crate::values::{truth_of, value};
 use fx_algebra::{Expr, Solution};
@@ -9,7 +9,7 @@ use std::alloc::Global;
 
 /// Whether every condition holds on a solution (SPARQL 1.1 section 17.2): the truth of its value is true, so it is neither false
 /// nor the error. No condition behind the first that does not hold is looked at.
-#[tactic(auto, unfolding(crate::specs::Conditions::holds))]
+#[tactic(auto, unfolding(fx_algebra::specs::Conditions::holds))]
 pub fn holds(alloc: Global, conditions: &[Expr], solution: &Solution) -> Result<bool, Memory>
     ensures { IfOk result (λ held. held ≡ spec.holds conditions.now solution.now) }
 {

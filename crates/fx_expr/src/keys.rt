@@ -2,10 +2,11 @@
 ghost use Rattle.std.specs.Prelude.{◌≡◌};
 ghost use Rattle.std.specs.Option.{option_copied};
 ghost use Rattle.fx_terms.specs.Terms.{datatype_of as datatype_of_term, tag_of as tag_of_term};
-ghost use Rattle.fx_expr.specs.Keys as spec;
+ghost use Rattle.fx_algebra.specs.Keys as spec;
 
 use crate::values::form_of;
-use crate::worths::{Worth, worth_of};
+use crate::worths::worth_of;
+use fx_algebra::Worth;
 use fx_terms::Term;
 use std::cmp::Ordering;
 

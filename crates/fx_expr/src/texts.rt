@@ -4,7 +4,7 @@ ghost use Rattle.std.specs.Str.{bytes_eq};
 ghost use Rattle.fx_terms.specs.Iris.{read_iri};
 ghost use Rattle.fx_terms.specs.Literals.{lang_string};
 ghost use Rattle.fx_terms.specs.declared.terms.Term.TheVariants as term;
-ghost use Rattle.fx_expr.specs.Values as spec;
+ghost use Rattle.fx_algebra.specs.Values as spec;
 
 use crate::worths::{XSD_BOOLEAN, XSD_INTEGER};
 use fx_terms::{Iri, Literal, LiteralError, Memory, Term, TermError};
@@ -12,7 +12,7 @@ use itoa::Buffer;
 use std::alloc::Global;
 
 /// The literal of a truth value.
-#[tactic(auto, unfolding(crate::specs::Values::boolean))]
+#[tactic(auto, unfolding(fx_algebra::specs::Values::boolean))]
 pub(crate) fn boolean(alloc: Global, truth: bool) -> Result<Term, Memory>
     ensures { IfOk result (λ t. t ≡ spec.boolean truth) }
 {
@@ -26,7 +26,7 @@ fn truth_form(truth: bool) -> &'static str
 }
 
 /// The literal of an integer, in plain decimal.
-#[tactic(auto, unfolding(crate::specs::Values::integer))]
+#[tactic(auto, unfolding(fx_algebra::specs::Values::integer))]
 pub(crate) fn integer(alloc: Global, number: i64) -> Result<Term, Memory>
     ensures { IfOk result (λ t. t ≡ spec.integer number) }
 {
@@ -35,7 +35,7 @@ pub(crate) fn integer(alloc: Global, number: i64) -> Result<Term, Memory>
 }
 
 /// The literal of a string.
-#[tactic(auto, unfolding(crate::specs::Values::string))]
+#[tactic(auto, unfolding(fx_algebra::specs::Values::string))]
 pub(crate) fn string(alloc: Global, form: &str) -> Result<Term, Memory>
     ensures { IfOk result (λ t. t ≡ spec.string form.now) }
 {

@@ -1,7 +1,7 @@
 //! Values of expressions.
 ghost use Rattle.std.specs.Prelude.{◌≡◌, ◌*ℤ◌, neg_ℤ, map, option_map, option_and_then, IfOk, pos};
-ghost use Rattle.fx_expr.specs.Values as spec;
-ghost use Rattle.fx_expr.specs.Worths.{if_in_range};
+ghost use Rattle.fx_algebra.specs.Values as spec;
+ghost use Rattle.fx_algebra.specs.Worths.{if_in_range};
 ghost use Rattle.fx_algebra.specs.Solutions.{same_term as same_term_of};
 ghost use Rattle.fx_terms.specs.Terms.{form_of as form_of_term};
 
@@ -9,8 +9,8 @@ use crate::texts::{boolean, integer, string};
 use crate::words::{
     begins, count_characters, ends, forms, has_part, in_language, string_form, worded_form,
 };
-use crate::worths::{Worth, truth, worth_of};
-use fx_algebra::{Compare, Expr, Function, Sign, Solution};
+use crate::worths::{truth, worth_of};
+use fx_algebra::{Compare, Expr, Function, Sign, Solution, Worth};
 use fx_terms::{Memory, Term};
 use std::alloc::Global;
 use std::cmp::Ordering;
@@ -26,7 +26,7 @@ pub(crate) fn truth_of(value: &Option<Term>) -> Option<bool>
     }
 }
 
-#[tactic(auto, unfolding(crate::specs::Values::integer_in))]
+#[tactic(auto, unfolding(fx_algebra::specs::Values::integer_in))]
 fn integer_in(value: &Option<Term>) -> Option<i64>
     ensures { result ≡ spec.integer_in value.now }
 {
@@ -95,7 +95,7 @@ fn in_range(count: usize) -> Option<i64>
 }
 
 // The sum with one more value under a sign.
-#[tactic(auto, unfolding(crate::specs::Values::with_part))]
+#[tactic(auto, unfolding(fx_algebra::specs::Values::with_part))]
 fn with_part(sign: Sign, sum: i64, value: &Option<Term>) -> Option<i64>
     ensures { result ≡ spec.with_part sign sum value.now }
 {
@@ -106,7 +106,7 @@ fn with_part(sign: Sign, sum: i64, value: &Option<Term>) -> Option<i64>
 }
 
 // The product with one more value.
-#[tactic(auto, unfolding(crate::specs::Values::with_factor))]
+#[tactic(auto, unfolding(fx_algebra::specs::Values::with_factor))]
 fn with_factor(product: i64, value: &Option<Term>) -> Option<i64>
     ensures { result ≡ spec.with_factor product value.now }
 {
@@ -145,7 +145,7 @@ pub(crate) fn form_of(term: &Term) -> &str
     }
 }
 
-#[tactic(auto, unfolding(crate::specs::Values::equal))]
+#[tactic(auto, unfolding(fx_algebra::specs::Values::equal))]
 fn equal(left: &Term, right: &Term) -> Option<bool>
     ensures { result ≡ spec.equal left.now right.now }
 {
@@ -178,7 +178,7 @@ fn equal_by(v: Worth, w: Worth, left: &Term, right: &Term) -> Option<bool>
     }
 }
 
-#[tactic(auto, unfolding(crate::specs::Values::order))]
+#[tactic(auto, unfolding(fx_algebra::specs::Values::order))]
 fn order(left: &Term, right: &Term) -> Option<Ordering>
     ensures { result ≡ spec.order left.now right.now }
 {
@@ -317,7 +317,7 @@ fn is_iri(term: &Term) -> bool
     }
 }
 
-#[tactic(auto, unfolding(crate::specs::Values::integer_in))]
+#[tactic(auto, unfolding(fx_algebra::specs::Values::integer_in))]
 fn is_numeric(term: &Term) -> bool
     ensures { result ≡ spec.is_numeric term.now }
 {

@@ -1,9 +1,10 @@
 //! Tests on texts.
 ghost use Rattle.std.specs.Prelude.{◌≡◌, length, option_map};
 ghost use Rattle.std.specs.Str.{chars};
-ghost use Rattle.fx_expr.specs.Words as spec;
+ghost use Rattle.fx_algebra.specs.Words as spec;
 
-use crate::worths::{Kind, kind_of};
+use crate::worths::kind_of;
+use fx_algebra::Kind;
 use fx_terms::{Literal, Term};
 
 fn is_string(literal: &Literal) -> bool
@@ -38,7 +39,7 @@ fn fit(left: &Literal, right: &Literal) -> bool
 }
 
 /// The forms of two terms that fit.
-#[tactic(auto, unfolding(crate::specs::Words::forms))]
+#[tactic(auto, unfolding(fx_algebra::specs::Words::forms))]
 pub(crate) fn forms<'a>(left: &'a Term, right: &'a Term) -> Option<(&'a str, &'a str)>
     ensures { option_map (λ f. (f.0.now, f.1.now)) result ≡ spec.forms left.now right.now }
 {
@@ -58,7 +59,7 @@ pub(crate) fn forms<'a>(left: &'a Term, right: &'a Term) -> Option<(&'a str, &'a
 }
 
 /// The form of a string.
-#[tactic(auto, unfolding(crate::specs::Words::string_form))]
+#[tactic(auto, unfolding(fx_algebra::specs::Words::string_form))]
 pub(crate) fn string_form(term: &Term) -> Option<&str>
     ensures { option_map (λ f. f.now) result ≡ spec.string_form term.now }
 {
@@ -75,7 +76,7 @@ pub(crate) fn string_form(term: &Term) -> Option<&str>
 }
 
 /// The form of a string or of a literal with a language tag.
-#[tactic(auto, unfolding(crate::specs::Words::worded_form))]
+#[tactic(auto, unfolding(fx_algebra::specs::Words::worded_form))]
 pub(crate) fn worded_form(term: &Term) -> Option<&str>
     ensures { option_map (λ f. f.now) result ≡ spec.worded_form term.now }
 {
@@ -120,7 +121,7 @@ pub(crate) fn has_part(text: &str, part: &str) -> bool
 }
 
 /// Whether a range matches a language tag (RFC 4647 section 3.3.1); `*` matches every tag.
-#[tactic(auto, unfolding(crate::specs::Words::in_language))]
+#[tactic(auto, unfolding(fx_algebra::specs::Words::in_language))]
 pub(crate) fn in_language(tag: &str, range: &str) -> bool
     ensures { result ≡ spec.in_language tag.now range.now }
 {

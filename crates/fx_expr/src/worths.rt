@@ -3,8 +3,9 @@ ghost use Rattle.std.specs.Prelude.{◌≡◌, option_map};
 ghost use Rattle.std.specs.List.{list_all};
 ghost use Rattle.std.specs.Str.Parse.{without_leading_sign};
 ghost use Rattle.fx_terms.specs.Iris.{is_digit};
-ghost use Rattle.fx_expr.specs.Worths as spec;
+ghost use Rattle.fx_algebra.specs.Worths as spec;
 
+use fx_algebra::{Kind, Worth};
 use fx_terms::{Iri, Literal, Term};
 
 /// The datatype of integers.
@@ -17,35 +18,12 @@ const XSD_STRING: &str = "http://www.w3.org/2001/XMLSchema#string";
 
 const LANG_STRING: &str = "http://www.w3.org/1999/02/22-rdf-syntax-ns#langString";
 
-/// What the datatype of a literal says of it.
-#[derive(Clone, Copy, Debug, PartialEq, Eq)]
-pub(crate) enum Kind {
-    Integer,
-    Boolean,
-    /// xsd:string.
-    Text,
-    /// A literal with a language tag.
-    Tagged,
-    Other,
-}
-
-/// What a term is worth.
-#[derive(Clone, Copy, Debug, PartialEq, Eq)]
-pub(crate) enum Worth {
-    Integer(i64),
-    Boolean(bool),
-    /// A string, whose value is its form.
-    Text,
-    /// An IRI, or a literal without a value.
-    Opaque,
-}
-
 /// The truth of a term (SPARQL 1.1 section 17.2.2, effective boolean value), or `None` exactly at its error.
 ///
 /// A truth value has itself, and false where its form is bad. An integer is true where it is not zero, false where its form is
 /// bad, and the error where it is out of the range of an `i64`. A string is true where it is not empty. Any other term is the
 /// error, also a literal with a language tag. It takes no memory.
-#[tactic(auto, unfolding(crate::specs::Worths::truth))]
+#[tactic(auto, unfolding(fx_algebra::specs::Worths::truth))]
 pub fn truth(term: &Term) -> Option<bool>
     ensures { result ≡ spec.truth term.now }
 {
@@ -81,7 +59,7 @@ fn integer_truth(form: &str) -> Option<bool>
 }
 
 /// What a term is worth.
-#[tactic(auto, unfolding(crate::specs::Worths::worth_of))]
+#[tactic(auto, unfolding(fx_algebra::specs::Worths::worth_of))]
 pub(crate) fn worth_of(term: &Term) -> Worth
     ensures { result ≡ spec.worth_of term.now }
 {
@@ -110,7 +88,7 @@ fn literal_worth(literal: &Literal) -> Worth
 }
 
 /// What a datatype says of its literals.
-#[tactic(auto, unfolding(crate::specs::Worths::kind_of))]
+#[tactic(auto, unfolding(fx_algebra::specs::Worths::kind_of))]
 pub(crate) fn kind_of(datatype: &Iri) -> Kind
     ensures { result ≡ spec.kind_of datatype.now }
 {
@@ -130,7 +108,7 @@ pub(crate) fn kind_of(datatype: &Iri) -> Kind
 }
 
 // Whether a datatype is one of integers.
-#[tactic(auto, unfolding(crate::specs::Worths::is_integer_type))]
+#[tactic(auto, unfolding(fx_algebra::specs::Worths::is_integer_type))]
 fn is_integer_type(datatype: &Iri) -> bool
     ensures { result ≡ spec.is_integer_type datatype.now }
 {
@@ -145,7 +123,7 @@ fn read_integer(form: &str) -> Option<i64>
 }
 
 // Whether a form is a sign or none, and then one digit or more.
-#[tactic(auto, unfolding(crate::specs::Worths::is_integer_form))]
+#[tactic(auto, unfolding(fx_algebra::specs::Worths::is_integer_form))]
 fn is_integer_form(form: &str) -> bool
     ensures { result ≡ spec.is_integer_form form.now }
 {
@@ -175,7 +153,7 @@ fn has_digits(digits: &[u8]) -> bool
 }
 
 // The truth value that a form writes.
-#[tactic(auto, unfolding(crate::specs::Worths::read_boolean))]
+#[tactic(auto, unfolding(fx_algebra::specs::Worths::read_boolean))]
 fn read_boolean(form: &str) -> Option<bool>
     ensures { result ≡ spec.read_boolean form.now }
 {

@@ -14,9 +14,9 @@ use Rattle.fx_algebra.specs.Sequences.{row_cmp, rows_total, sorted_by}
 use Rattle.fx_algebra.specs.declared.queries.Order.{Order}
 use Rattle.fx_algebra.proofs.OrderLemmas.{Le, Ascends, times, times-cons, once_here, least, one_more, none, same_times, ascends_from, all_sorted, sorted_ascends, sorted_times}
 use Rattle.fx_algebra.proofs.SequenceLemmas.{IsRowOf, row_of, exact_rows}
-use Rattle.fx_expr.specs.Keys.{key_order, keys_in_order}
-use Rattle.fx_solutions.specs.OrderedRows.{keyed, first_key, directed, keys_cmp, keyed_cmp, OneOrder}
-use Rattle.fx_solutions.specs.declared.ordered_rows.Keyed.{Keyed}
+use Rattle.fx_algebra.specs.Keys.{key_order, keys_in_order}
+use Rattle.fx_algebra.specs.OrderedRows.{keyed, first_key, directed, keys_cmp, keyed_cmp, OneOrder}
+use Rattle.fx_algebra.specs.declared.keys.Keyed.{Keyed}
 
 -- ---- an order that tells apart what a function gives
 

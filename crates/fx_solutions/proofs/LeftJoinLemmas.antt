@@ -12,9 +12,9 @@ use Rattle.fx_algebra.specs.Operators.{merges, join}
 use Rattle.fx_algebra.specs.declared.expressions.Expr.{Expr}
 use Rattle.fx_algebra.proofs.JoinLemmas.{same_join, same_rows_from}
 use Rattle.fx_algebra.proofs.WeightLemmas.{weights_from, sum_by-filter}
-use Rattle.fx_expr.specs.Conditions.{holds}
+use Rattle.fx_algebra.specs.Conditions.{holds}
 use Rattle.fx_solutions.specs.Joins.{is_shared, with_terms, matched, kept}
-use Rattle.fx_solutions.specs.Operators.{filtered, diff, left_join, is_removed_by, shares, stays, minus, matches, or_itself, matches_or_itself}
+use Rattle.fx_algebra.specs.Operators.{filtered, diff, left_join, is_removed_by, shares, stays, minus, matches, or_itself, matches_or_itself}
 use Rattle.fx_solutions.proofs.JoinLemmas.{same_cells, tied_rows, filter_twice, flat_map_same}
 
 -- ---- which rows need to be looked at

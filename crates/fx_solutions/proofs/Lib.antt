@@ -3,3 +3,4 @@ pub mod JoinLemmas
 pub mod KeyLemmas
 pub mod LeftJoinLemmas
 pub mod SeenLemmas
+pub mod AnswerLemmas

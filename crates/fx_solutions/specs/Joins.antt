@@ -6,7 +6,7 @@ use Rattle.fx_algebra.specs.Operators.{merges}
 use Rattle.fx_algebra.specs.Sequences.{row_cmp}
 use Rattle.fx_algebra.specs.Solutions.{Bindings, term_of}
 use Rattle.fx_algebra.specs.declared.expressions.Expr.{Expr}
-use Rattle.fx_solutions.specs.Operators.{stays, matches_or_itself}
+use Rattle.fx_algebra.specs.Operators.{stays, matches_or_itself}
 
 -- whether each row binds a name
 abbrev pub is_bound_in : List Bindings → List ℕ → Bool

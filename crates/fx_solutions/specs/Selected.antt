@@ -1,14 +1,12 @@
--- The rows of an answer (SPARQL 1.1 section 18.2.5), in this project's profile.
-use Rattle.std.specs.Prelude.{ℕ, Bool, List, drop}
+-- How rows are told apart under columns.
+use Rattle.std.specs.Prelude.{ℕ, List}
 use Rattle.std.specs.declared.cmp.Ordering.{Ordering}
 use Rattle.std.specs.Ordering.{on}
 use Rattle.std.specs.Cmp.{IsTotalOrder}
 use Rattle.std.specs.Cmp.Lexicographic.{slice_cmp}
 use Rattle.std.proofs.lemmas.Cmp.{on_total, lists_total}
 use Rattle.fx_algebra.specs.Solutions.{Bindings}
-use Rattle.fx_algebra.specs.Sequences.{cells, cell_cmp, cells_total, distinct_rows, limited}
-use Rattle.fx_algebra.specs.declared.queries.Query.{Query}
-use Rattle.fx_solutions.specs.OrderedRows.{in_order}
+use Rattle.fx_algebra.specs.Sequences.{cells, cell_cmp, cells_total}
 use Rattle.fx_solutions.specs.declared.distinct_rows.Cells.{Cells}
 
 -- the terms of a row under the columns
@@ -20,8 +18,3 @@ cells_cmp = on (λ c. c.cells) (slice_cmp cell_cmp)
 
 pub all_cells_total : IsTotalOrder cells_cmp
 all_cells_total = on_total (λ c. c.cells) (lists_total cells_total)
-
--- in order, projected, each row once at its first place where DISTINCT is set, without the OFFSET rows in front, and LIMIT rows
--- at most
-abbrev pub selected : Query → Bool → List (List ℕ) → List Bindings → List Bindings
-selected q distinct columns rows = limited q.limit (drop q.offset (distinct_rows distinct columns (in_order q.order columns rows)))

@@ -1,14 +1,9 @@
--- Answers of forms to which nothing else is done.
-use Rattle.std.specs.Prelude.{List}
-use Rattle.fx_algebra.specs.Answers.{has_rows}
-use Rattle.fx_algebra.specs.Sequences.{ordered}
-use Rattle.fx_algebra.specs.Solutions.{Bindings}
-use Rattle.fx_algebra.specs.declared.answers.Answer.{Answer}
-use Rattle.fx_algebra.specs.declared.answers.Answer.TheVariants.{Table, Truth}
-use Rattle.fx_algebra.specs.declared.queries.Form.{Form}
-use Rattle.fx_algebra.specs.declared.queries.Form.TheVariants.{Select, Ask}
+-- Answers that come of the same rows.
+use Rattle.std.specs.Prelude.{◌≡◌, List, All, IsTrue}
+use Rattle.fx_algebra.specs.Answers.{form_answer}
+use Rattle.fx_algebra.specs.Solutions.{Bindings, rises, SameRows}
+use Rattle.fx_algebra.specs.declared.queries.Query.{Query}
 
--- the rows in their order, or whether there is one
-abbrev pub plain_answer : Form → List Bindings → Answer
-plain_answer (Select distinct columns) rows = Table columns (ordered columns rows)
-plain_answer Ask rows = Truth (has_rows rows)
+-- the same rows, however they arrived, give one answer
+abbrev pub OneAnswer : Type 0
+OneAnswer = (q : Query) (a b : List Bindings) → All (λ s. IsTrue (rises s)) a → SameRows a b → form_answer q q.form a ≡ form_answer q q.form b

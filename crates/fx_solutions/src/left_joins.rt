@@ -4,7 +4,7 @@ ghost use Rattle.std.specs.List.Sorted.{IsSortedBy};
 ghost use Rattle.std.specs.Ordering.{is_lt};
 ghost use Rattle.fx_algebra.specs.Sequences.{row_cmp};
 ghost use Rattle.fx_solutions.specs.Joins.{matched};
-ghost use Rattle.fx_solutions.specs.Operators as spec;
+ghost use Rattle.fx_algebra.specs.Operators as spec;
 
 use crate::joins::{by_terms, copy_rows, shared_names, with_terms};
 use fx_algebra::{Expr, Solution};
@@ -67,7 +67,7 @@ fn match_all(
 }
 
 // Adds a row's matches among others, or the row itself where there are none.
-#[tactic(auto, unfolding(crate::specs::Operators::matches_or_itself))]
+#[tactic(auto, unfolding(fx_algebra::specs::Operators::matches_or_itself))]
 fn add_matches(
     alloc: Global,
     rows: &mut Vec<Solution>,

@@ -19,7 +19,7 @@ pub use rows::{extend, filter, inline_rows, union};
 pub use selections::sequence;
 pub use sequences::ordered;
 pub use subtractions::{minus, minus_with};
-pub use tables::{answer_of_rows, table};
+pub use tables::answer_of_rows;
 
 #[cfg(test)]
 mod tests;

@@ -2,21 +2,14 @@
 ghost use Rattle.std.specs.Prelude.{◌≡◌, All, drop, IfOk, IsTrue, map};
 ghost use Rattle.std.specs.Option.{option_copied};
 ghost use Rattle.fx_algebra.specs.Solutions.{rises};
-ghost use Rattle.fx_solutions.specs.OrderedRows as spec;
+ghost use Rattle.fx_algebra.specs.OrderedRows as spec;
 
 use crate::sequences::compare_rows;
-use fx_algebra::{Order, Solution};
+use fx_algebra::{Keyed, Order, Solution};
 use fx_expr::{compare_keys, value};
 use fx_terms::{Items, Memory, Name, Term};
 use std::alloc::Global;
 use std::cmp::Ordering;
-
-/// The keys of a row, and the projected row.
-#[derive(Debug, Drop)]
-pub(crate) struct Keyed {
-    pub keys: Items<Option<Term>>,
-    pub row: Solution,
-}
 
 /// The rows, projected to columns, in the order of keys (SPARQL 1.1 section 15.1): an error and an unbound variable come first,
 /// and `DESC` turns the order of its key round. Keys are those of the whole row. Rows that the keys leave equal come in the order
@@ -75,7 +68,7 @@ fn keys_of(alloc: Global, orders: &[Order], row: &Solution) -> Result<Items<Opti
     Ok(keys)
 }
 
-#[tactic(auto, unfolding(crate::specs::OrderedRows::key_of))]
+#[tactic(auto, unfolding(fx_algebra::specs::OrderedRows::key_of))]
 fn key_of(alloc: Global, order: &Order, row: &Solution) -> Result<Option<Term>, Memory>
     ensures { IfOk result (λ key. key ≡ spec.key_of row.now order.now) }
 {

@@ -3,7 +3,7 @@ ghost use Rattle.std.specs.Prelude.{◌≡◌, fold, IfOk, map};
 ghost use Rattle.std.specs.Option.{option_copied};
 ghost use Rattle.std.specs.List.{zip};
 ghost use Rattle.fx_algebra.specs.Solutions.{with_new as with_new_pair};
-ghost use Rattle.fx_solutions.specs.Operators as spec;
+ghost use Rattle.fx_algebra.specs.Operators as spec;
 
 use crate::joins::copy_rows;
 use fx_algebra::{Expr, Inline, Solution};
@@ -55,7 +55,7 @@ pub fn extend(
     Ok(extended)
 }
 
-#[tactic(auto, unfolding(crate::specs::Operators::extended))]
+#[tactic(auto, unfolding(fx_algebra::specs::Operators::extended))]
 fn extended_row(alloc: Global, row: &Solution, name: &Name, expr: &Expr) -> Result<Solution, Memory>
     ensures { IfOk result (λ s. s ≡ spec.extended name.now expr.now row.now) }
 {

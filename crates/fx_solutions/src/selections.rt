@@ -1,7 +1,7 @@
 //! The rows of an answer.
 ghost use Rattle.std.specs.Prelude.{◌≡◌, drop, IfOk};
 ghost use Rattle.fx_algebra.specs.Sequences.{distinct_rows as distinct_of, limited as limited_to};
-ghost use Rattle.fx_solutions.specs.Selected as spec;
+ghost use Rattle.fx_algebra.specs.Answers.{selected};
 
 use crate::distinct_rows::distinct;
 use crate::ordered_rows::in_order;
@@ -19,7 +19,7 @@ pub fn sequence(
     columns: &[Name],
     rows: &[Solution],
 ) -> Result<Vec<Solution>, Memory>
-    ensures { IfOk result (λ v. v.items ≡ spec.selected query.now is_distinct columns.now rows.now) }
+    ensures { IfOk result (λ v. v.items ≡ selected query.now is_distinct columns.now rows.now) }
 {
     let rows = in_order(alloc, query.order.as_slice(), columns, rows)?;
     let rows = once(alloc, is_distinct, columns, rows)?;

@@ -4,7 +4,7 @@ ghost use Rattle.std.specs.List.Sorted.{IsSortedBy};
 ghost use Rattle.std.specs.Ordering.{is_lt};
 ghost use Rattle.fx_algebra.specs.Sequences.{row_cmp};
 ghost use Rattle.fx_solutions.specs.Joins.{kept};
-ghost use Rattle.fx_solutions.specs.Operators as spec;
+ghost use Rattle.fx_algebra.specs.Operators as spec;
 
 use crate::joins::{by_terms, copy_rows, shared_names, with_terms};
 use fx_algebra::Solution;
@@ -54,7 +54,7 @@ fn keep(
 }
 
 // Whether no row of the others removes a row.
-#[tactic(auto, unfolding(crate::specs::Operators::stays))]
+#[tactic(auto, unfolding(fx_algebra::specs::Operators::stays))]
 fn stays(row: &Solution, others: &[Solution]) -> bool
     ensures { result ≡ spec.stays others.now row.now }
 {

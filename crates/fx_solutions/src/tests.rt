@@ -2,7 +2,7 @@
 //! terms: IRIs, or literals behind a `'`.
 use crate::{
     answer_of_rows, extend, filter, in_order, inline_rows, join, join_with, left_join,
-    left_join_with, minus, minus_with, ordered, sequence, table, union,
+    left_join_with, minus, minus_with, ordered, union,
 };
 use fx_algebra::{Answer, Expr, Form, Function, Group, Inline, Order, Query, Solution};
 use fx_terms::{Iri, Items, Literal, Memory, Name, Term};
@@ -250,14 +250,6 @@ fn a_table_has_its_rows_in_the_order_of_its_columns(rt: HostRuntime) -> Result<(
         let found = ordered(rt.alloc(), names.as_slice(), given.as_slice())?;
         let text = text_of(rt.alloc(), found.as_slice())?;
         assert_eq!(rt; text.as_str(), want, "{rows} in {columns}");
-        let answer = table(rt.alloc(), names.as_slice(), given.as_slice())?;
-        is_table(&rt, &answer, columns, want)?;
-        let form = Form::Select {
-            distinct: false,
-            columns: Items::from_vec(names),
-        };
-        let answer = answer_of_rows(rt.alloc(), &form, given.as_slice())?;
-        is_table(&rt, &answer, columns, want)?;
     }
     Ok(())
 }
@@ -318,7 +310,7 @@ fn rows_come_in_the_order_of_their_keys(rt: HostRuntime) -> Result<(), Fail> {
 }
 
 #[test]
-fn a_sequence_is_ordered_projected_distinct_and_cut(rt: HostRuntime) -> Result<(), Fail> {
+fn an_answer_is_ordered_projected_distinct_and_cut(rt: HostRuntime) -> Result<(), Fail> {
     // Whether DISTINCT is set, OFFSET, LIMIT, and the x of the rows.
     for (is_distinct, offset, limit, want) in [
         (true, 0, None, "x=x:1;x=x:2;"),
@@ -330,29 +322,55 @@ fn a_sequence_is_ordered_projected_distinct_and_cut(rt: HostRuntime) -> Result<(
         (false, u64::MAX, Some(u64::MAX), ""),
         (false, 0, Some(2), "x=x:1;x=x:2;"),
     ] {
-        let query = Query {
-            form: Form::Ask,
-            group: Group {
-                elements: Items::new(rt.alloc()),
-            },
-            order: Items::from_vec(orders(rt.alloc(), "k").ok_or("no keys")?),
-            offset,
-            limit,
-            inline: None,
-        };
-        let given = solutions(rt.alloc(), "x=x:1 k='3;x=x:2 k='2;x=x:1 k='1;").ok_or("no rows")?;
-        let names = names(rt.alloc(), "x").ok_or("no columns")?;
-        let found = sequence(
-            rt.alloc(),
-            &query,
-            is_distinct,
-            names.as_slice(),
-            given.as_slice(),
-        )?;
-        let text = text_of(rt.alloc(), found.as_slice())?;
+        let form = form_of(rt.alloc(), is_distinct).ok_or("no form")?;
+        let text = answered(rt.alloc(), form, offset, limit, "x=x:1 k='3;x=x:2 k='2;x=x:1 k='1;")
+            .ok_or("no answer")?;
         assert_eq!(rt; text.as_str(), want, "{is_distinct} {offset}");
     }
     Ok(())
+}
+
+// A SELECT of the one column x.
+fn form_of(alloc: Global, distinct: bool) -> Option<Form> {
+    let columns = Items::from_vec(names(alloc, "x")?);
+    Some(Form::Select { distinct, columns })
+}
+
+// What a query under the key k answers from rows: the rows of a table with one column x, or a truth value.
+fn answered(
+    alloc: Global,
+    form: Form,
+    offset: u64,
+    limit: Option<u64>,
+    rows: &str,
+) -> Option<String> {
+    let query = Query {
+        form,
+        group: Group {
+            elements: Items::new(alloc),
+        },
+        order: Items::from_vec(orders(alloc, "k")?),
+        offset,
+        limit,
+        inline: None,
+    };
+    let given = solutions(alloc, rows)?;
+    let answer = answer_of_rows(alloc, &query, given.as_slice()).ok()?;
+    answer_text(alloc, &answer)
+}
+
+fn answer_text(alloc: Global, answer: &Answer) -> Option<String> {
+    match answer {
+        Answer::Truth(true) => String::from_str(alloc, "true").ok(),
+        Answer::Truth(false) => String::from_str(alloc, "false").ok(),
+        Answer::Table { columns, rows } => {
+            let mut names = columns.as_slice().iter().map(Name::text);
+            if names.next() != Some("x") || names.next().is_some() {
+                return None;
+            }
+            text_of(alloc, rows.as_slice()).ok()
+        }
+    }
 }
 
 fn orders(alloc: Global, keys: &str) -> Option<Vec<Order>> {
@@ -370,40 +388,11 @@ fn orders(alloc: Global, keys: &str) -> Option<Vec<Order>> {
 
 #[test]
 fn asked_is_whether_there_is_a_row(rt: HostRuntime) -> Result<(), Fail> {
-    for (rows, want) in [("", false), (";", true), ("a=x:1;a=x:2;", true)] {
-        let given = solutions(rt.alloc(), rows).ok_or("no rows")?;
-        let answer = answer_of_rows(rt.alloc(), &Form::Ask, given.as_slice())?;
-        assert_eq!(rt; truth_of(&answer), Some(want), "at {rows}");
+    for (rows, want) in [("", "false"), (";", "true"), ("a=x:1;a=x:2;", "true")] {
+        let text = answered(rt.alloc(), Form::Ask, 0, None, rows).ok_or("no answer")?;
+        assert_eq!(rt; text.as_str(), want, "at {rows}");
     }
     Ok(())
-}
-
-fn is_table<R: Abort + Alloc<A = Global>>(
-    rt: &R,
-    answer: &Answer,
-    columns: &str,
-    rows: &str,
-) -> Result<(), Memory> {
-    match answer {
-        Answer::Truth(_) => panic!(rt; "no table"),
-        Answer::Table {
-            columns: names,
-            rows: found,
-        } => {
-            let names = names.as_slice().iter().map(Name::text);
-            assert!(rt; names.eq(columns.split_whitespace()));
-            let text = text_of(rt.alloc(), found.as_slice())?;
-            assert_eq!(rt; text.as_str(), rows, "in {columns}");
-        }
-    }
-    Ok(())
-}
-
-fn truth_of(answer: &Answer) -> Option<bool> {
-    match answer {
-        Answer::Truth(truth) => Some(*truth),
-        Answer::Table { .. } => None,
-    }
 }
 
 fn names(alloc: Global, texts: &str) -> Option<Vec<Name>> {

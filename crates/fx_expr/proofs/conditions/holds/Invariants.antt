@@ -1,5 +1,5 @@
 use Rattle.std.proofs.Common.{◌≡◌, drop}
-use Rattle.fx_expr.specs.Conditions as spec
+use Rattle.fx_algebra.specs.Conditions as spec
 use Rattle.fx_expr.proofs.conditions.holds.Given as goal
 
 abbrev pub invariant-loop-condition : goal.invariant-loop-condition

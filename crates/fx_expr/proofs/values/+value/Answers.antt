@@ -1,7 +1,7 @@
 use Rattle.std.proofs.Common.{◌≡◌, ◌∙◌, sym, ap, subst, List, map, Option, option_map, refl}
 use Rattle.std.specs.Prelude.{IfOk}
 use Rattle.fx_terms.specs.declared.terms.Term.{Term}
-use Rattle.fx_expr.specs.Values as spec
+use Rattle.fx_algebra.specs.Values as spec
 use Rattle.fx_expr.proofs.Equations.{value_or, value_and, value_among, value_sum, value_product}
 use Rattle.fx_expr.proofs.values.+value.Goals as goal
 

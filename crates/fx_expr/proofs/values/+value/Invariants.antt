@@ -1,7 +1,7 @@
 use Rattle.std.proofs.Common.{◌≡◌, ◌||◌, map, drop}
 use Rattle.std.specs.List.{list_any}
 use Rattle.std.specs.Prelude.{is_none}
-use Rattle.fx_expr.specs.Values as spec
+use Rattle.fx_algebra.specs.Values as spec
 use Rattle.fx_expr.proofs.values.+value.Given as goal
 
 abbrev pub invariant-any_of-loop-part : goal.invariant-any_of-loop-part

@@ -2,7 +2,7 @@ use Rattle.std.proofs.Common.{◌∙◌, ap, ℤ}
 use Rattle.std.specs.Prelude.{◌*ℤ◌}
 use Rattle.std.specs.Int.{w64}
 use Rattle.std.proofs.lemmas.Int.{to_z-of_z}
-use Rattle.fx_expr.specs.Worths.{if_in_range}
+use Rattle.fx_algebra.specs.Worths.{if_in_range}
 use Rattle.fx_expr.proofs.NumberLemmas.{checked, on_numbers}
 use Rattle.fx_expr.proofs.values.multiplied.Goals as goal
 

@@ -1,5 +1,5 @@
 use Rattle.std.proofs.lemmas.Str.Pattern.{starts_text}
-use Rattle.fx_expr.specs.Words.{begins}
+use Rattle.fx_algebra.specs.Words.{begins}
 use Rattle.fx_expr.proofs.words.begins.Goals as goal
 
 pub returns : goal.returns

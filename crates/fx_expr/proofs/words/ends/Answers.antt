@@ -1,5 +1,5 @@
 use Rattle.std.proofs.lemmas.Str.Pattern.{ends_text}
-use Rattle.fx_expr.specs.Words.{ends}
+use Rattle.fx_algebra.specs.Words.{ends}
 use Rattle.fx_expr.proofs.words.ends.Goals as goal
 
 pub returns : goal.returns

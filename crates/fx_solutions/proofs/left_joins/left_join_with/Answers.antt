@@ -3,7 +3,7 @@ use Rattle.std.specs.List.{list_all}
 use Rattle.std.proofs.lemmas.Result.{IfOk-weaker}
 use Rattle.fx_algebra.specs.Solutions.{Bindings}
 use Rattle.fx_solutions.specs.Joins.{is_shared, matched}
-use Rattle.fx_solutions.specs.Operators.{left_join}
+use Rattle.fx_algebra.specs.Operators.{left_join}
 use Rattle.fx_solutions.proofs.LeftJoinLemmas.{matched_left_join}
 use Rattle.fx_solutions.proofs.left_joins.left_join_with.Goals as goal
 

@@ -1,5 +1,5 @@
 use Rattle.std.proofs.Common.{◌≡◌, take}
-use Rattle.fx_solutions.specs.Operators as spec
+use Rattle.fx_algebra.specs.Operators as spec
 use Rattle.fx_solutions.proofs.left_joins.matches.Given as goal
 
 abbrev pub invariant-loop-other : goal.invariant-loop-other

@@ -5,8 +5,8 @@ use Rattle.std.proofs.lemmas.List.Sorted.{ranks_by}
 use Rattle.std.proofs.lemmas.Result.{IfOk-weaker}
 use Rattle.fx_algebra.specs.Sequences.{sorted_by}
 use Rattle.fx_algebra.proofs.SequenceLemmas.{IsRowOf}
-use Rattle.fx_solutions.specs.OrderedRows.{keyed, keyed_cmp}
-use Rattle.fx_solutions.specs.declared.ordered_rows.Keyed.{Keyed}
+use Rattle.fx_algebra.specs.OrderedRows.{keyed, keyed_cmp}
+use Rattle.fx_algebra.specs.declared.keys.Keyed.{Keyed}
 use Rattle.fx_solutions.proofs.KeyLemmas.{images_in_order, keyed_total, one_row, all_keyed}
 use Rattle.fx_solutions.proofs.ordered_rows.in_order.Goals as goal
 

@@ -1,6 +1,6 @@
 use Rattle.std.proofs.Common.{◌≡◌, map, take, All, IsTrue}
 use Rattle.fx_algebra.specs.Solutions.{rises}
-use Rattle.fx_solutions.specs.OrderedRows as spec
+use Rattle.fx_algebra.specs.OrderedRows as spec
 use Rattle.fx_solutions.proofs.ordered_rows.keyed_rows.Given as goal
 
 abbrev pub invariant-loop-row : goal.invariant-loop-row

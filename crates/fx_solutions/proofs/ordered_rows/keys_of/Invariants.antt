@@ -1,5 +1,5 @@
 use Rattle.std.proofs.Common.{◌≡◌, map, take}
-use Rattle.fx_solutions.specs.OrderedRows as spec
+use Rattle.fx_algebra.specs.OrderedRows as spec
 use Rattle.fx_solutions.proofs.ordered_rows.keys_of.Given as goal
 
 abbrev pub invariant-loop-order : goal.invariant-loop-order

@@ -1,5 +1,5 @@
 use Rattle.std.proofs.Common.{◌≡◌, take}
-use Rattle.fx_solutions.specs.Operators as spec
+use Rattle.fx_algebra.specs.Operators as spec
 use Rattle.fx_solutions.proofs.rows.extend.Given as goal
 
 abbrev pub invariant-loop-row : goal.invariant-loop-row

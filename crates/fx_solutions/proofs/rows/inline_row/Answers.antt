@@ -1,6 +1,6 @@
 use Rattle.std.proofs.Common.{◌≡◌, ◌∙◌, ap, sym, refl, ℕ, zero, suc, ◌≤◌, List, [], ◌∷◌, drop, length, min, fold, arith}
 use Rattle.std.specs.List.{zip}
-use Rattle.fx_solutions.specs.Operators as spec
+use Rattle.fx_algebra.specs.Operators as spec
 use Rattle.fx_solutions.proofs.rows.inline_row.Goals as goal
 
 abbrev nil_of : (Y : Type 0) → List Y

@@ -1,6 +1,6 @@
 use Rattle.std.proofs.Common.{◌≡◌, drop, fold}
 use Rattle.std.specs.List.{zip}
-use Rattle.fx_solutions.specs.Operators as spec
+use Rattle.fx_algebra.specs.Operators as spec
 use Rattle.fx_solutions.proofs.rows.inline_row.Given as goal
 
 abbrev pub invariant-loop-i : goal.invariant-loop-i

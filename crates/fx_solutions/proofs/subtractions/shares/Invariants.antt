@@ -1,5 +1,5 @@
 use Rattle.std.proofs.Common.{◌≡◌, drop}
-use Rattle.fx_solutions.specs.Operators as spec
+use Rattle.fx_algebra.specs.Operators as spec
 use Rattle.fx_solutions.proofs.subtractions.shares.Given as goal
 
 abbrev pub invariant-loop-pair : goal.invariant-loop-pair

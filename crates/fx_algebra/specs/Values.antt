@@ -1,15 +1,15 @@
 -- The value of an expression on a solution (SPARQL 1.1 section 17), in this project's profile: integers of 64 bits, truth
 -- values and strings have values, and other literals compare as terms. None is the error.
-use Rattle.std.specs.Prelude.{ℕ, ◌==◌, ◌+ℤ◌, ◌-ℤ◌, ◌*ℤ◌, neg_ℤ, ◌&&◌, not, ℤ, pos, Bool, true, false, List, [], ◌∷◌, map, length, Option, Some, None, option_map, option_and_then, if◌then◌else◌, is_none, is_some}
-use Rattle.std.specs.List.{list_any, list_all}
+use Rattle.std.specs.Prelude.{ℕ, ◌+ℤ◌, ◌-ℤ◌, ◌*ℤ◌, neg_ℤ, not, ℤ, pos, Bool, true, false, List, [], ◌∷◌, map, length, Option, Some, None, option_map, option_and_then, if◌then◌else◌, is_none, is_some}
+use Rattle.std.specs.List.{list_any}
 use Rattle.std.specs.Fmt.{signed_decimal}
 use Rattle.std.specs.Str.{chars, bytes_eq}
 use Rattle.std.specs.Prelude.{codes}
 use Rattle.std.specs.declared.cmp.Ordering.{Ordering}
 use Rattle.std.specs.Ordering.{int_cmp, int_eq, bool_cmp, is_lt, is_le, is_gt, is_ge, is_eq}
 use Rattle.fx_terms.specs.Texts.{text_cmp}
-use Rattle.fx_terms.specs.Terms.{form_of, term_cmp}
-use Rattle.fx_terms.specs.Literals.{LiteralParts, plain}
+use Rattle.fx_terms.specs.Terms.{form_of}
+use Rattle.fx_terms.specs.Literals.{plain}
 use Rattle.fx_terms.specs.declared.terms.Term.{Term}
 use Rattle.fx_terms.specs.declared.terms.Term.TheVariants as term
 use Rattle.fx_algebra.specs.Solutions.{Bindings, term_of, same_term}
@@ -20,10 +20,10 @@ use Rattle.fx_algebra.specs.declared.expressions.Sign.TheVariants.{Plus, Minus}
 use Rattle.fx_algebra.specs.declared.expressions.Function.{Function}
 use Rattle.fx_algebra.specs.declared.expressions.Function.TheVariants as function
 use Rattle.fx_algebra.specs.declared.expressions.Expr.{Expr, Expr-F, fold-Expr}
-use Rattle.fx_expr.specs.declared.worths.Worth.{Worth}
-use Rattle.fx_expr.specs.declared.worths.Worth.TheVariants as worth
-use Rattle.fx_expr.specs.Worths.{xsd_integer, xsd_boolean, if_in_range, worth_of, truth}
-use Rattle.fx_expr.specs.Words.{begins, ends, has_part, forms, string_form, worded_form, in_language}
+use Rattle.fx_algebra.specs.declared.worths.Worth.{Worth}
+use Rattle.fx_algebra.specs.declared.worths.Worth.TheVariants as worth
+use Rattle.fx_algebra.specs.Worths.{xsd_integer, xsd_boolean, if_in_range, worth_of, truth}
+use Rattle.fx_algebra.specs.Words.{begins, ends, has_part, forms, string_form, worded_form, in_language}
 
 -- ---- the terms of values
 

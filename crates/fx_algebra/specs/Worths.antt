@@ -1,17 +1,17 @@
 -- What literals are worth: the integers, truth values and strings of this project's profile of SPARQL 1.1 section 17.
-use Rattle.std.specs.Prelude.{ℕ, ◌^◌, ◌==◌, ◌&&◌, ◌||◌, not, nat_lt, ℤ, pos, negsuc, Bool, true, false, List, [], ◌∷◌, length, codes, Option, Some, None, option_map, option_and_then, if◌then◌else◌}
+use Rattle.std.specs.Prelude.{ℕ, ◌^◌, ◌==◌, ◌&&◌, ◌||◌, not, nat_lt, ℤ, pos, negsuc, Bool, true, false, List, length, codes, Option, Some, None, option_map, option_and_then, if◌then◌else◌}
 use Rattle.std.specs.List.{list_all}
 use Rattle.std.specs.Ordering.{int_eq}
 use Rattle.std.specs.Str.{bytes_eq}
 use Rattle.std.specs.Str.Parse.{without_leading_sign, signed_digits_value}
 use Rattle.fx_terms.specs.Iris.{is_digit}
-use Rattle.fx_terms.specs.Literals.{LiteralParts, xsd_string, lang_string}
+use Rattle.fx_terms.specs.Literals.{xsd_string, lang_string}
 use Rattle.fx_terms.specs.declared.terms.Term.{Term}
 use Rattle.fx_terms.specs.declared.terms.Term.TheVariants as term
-use Rattle.fx_expr.specs.declared.worths.Kind.{Kind}
-use Rattle.fx_expr.specs.declared.worths.Kind.TheVariants as kind
-use Rattle.fx_expr.specs.declared.worths.Worth.{Worth}
-use Rattle.fx_expr.specs.declared.worths.Worth.TheVariants as worth
+use Rattle.fx_algebra.specs.declared.worths.Kind.{Kind}
+use Rattle.fx_algebra.specs.declared.worths.Kind.TheVariants as kind
+use Rattle.fx_algebra.specs.declared.worths.Worth.{Worth}
+use Rattle.fx_algebra.specs.declared.worths.Worth.TheVariants as worth
 
 abbrev pub xsd_integer : List ℕ
 xsd_integer = codes "http://www.w3.org/2001/XMLSchema#integer"

@@ -1,7 +1,7 @@
 -- The order of values under ORDER BY (SPARQL 1.1 section 15.1), in this project's profile: the error and an unbound variable,
 -- then IRIs by code points, then integers in range by value, truth values with false first, strings by code points, and all
 -- other literals by datatype, tag and form. Integers, or truth values, that differ in their form alone tie.
-use Rattle.std.specs.Prelude.{ℕ, ℤ, pos, Bool, true, false, List, [], ◌∷◌, Option}
+use Rattle.std.specs.Prelude.{ℕ, ℤ, pos, Bool, true, false, List, [], Option}
 use Rattle.std.specs.Option.{option_to_list}
 use Rattle.std.specs.declared.cmp.Ordering.{Ordering}
 use Rattle.std.specs.Ordering.{nat_cmp, int_cmp, on, then_cmp}
@@ -12,9 +12,9 @@ use Rattle.fx_terms.specs.Texts.{text_cmp, texts_total}
 use Rattle.fx_terms.specs.Terms.{form_of, datatype_of, tag_of}
 use Rattle.fx_terms.specs.declared.terms.Term.{Term}
 use Rattle.fx_terms.specs.declared.terms.Term.TheVariants as term
-use Rattle.fx_expr.specs.declared.worths.Worth.{Worth}
-use Rattle.fx_expr.specs.declared.worths.Worth.TheVariants as worth
-use Rattle.fx_expr.specs.Worths.{worth_of}
+use Rattle.fx_algebra.specs.declared.worths.Worth.{Worth}
+use Rattle.fx_algebra.specs.declared.worths.Worth.TheVariants as worth
+use Rattle.fx_algebra.specs.Worths.{worth_of}
 
 abbrev pub opaque_place : Term → ℕ
 opaque_place (term.Iri a) = 0

@@ -8,9 +8,9 @@ use Rattle.fx_terms.specs.declared.terms.Term.{Term}
 use Rattle.fx_algebra.specs.Solutions.{Bindings, rises, SameRows}
 use Rattle.fx_algebra.specs.Sequences.{projected, row_cmp, sorted_by}
 use Rattle.fx_algebra.specs.declared.queries.Order.{Order}
-use Rattle.fx_expr.specs.Keys.{key_order}
-use Rattle.fx_expr.specs.Values.{value}
-use Rattle.fx_solutions.specs.declared.ordered_rows.Keyed.{Keyed}
+use Rattle.fx_algebra.specs.Keys.{key_order}
+use Rattle.fx_algebra.specs.Values.{value}
+use Rattle.fx_algebra.specs.declared.keys.Keyed.{Keyed}
 
 -- a key of a whole row
 unfoldable pub key_of : Bindings → Order → Option Term

@@ -3,7 +3,7 @@ use Rattle.std.specs.Prelude.{Bool, List}
 use Rattle.std.specs.List.{list_all}
 use Rattle.fx_algebra.specs.Solutions.{Bindings}
 use Rattle.fx_algebra.specs.declared.expressions.Expr.{Expr}
-use Rattle.fx_expr.specs.Values.{value, truth_of, is_true}
+use Rattle.fx_algebra.specs.Values.{value, truth_of, is_true}
 
 -- the truth of the value is true, so it is neither false nor the error
 abbrev pub is_so : Bindings → Expr → Bool

@@ -1,13 +1,13 @@
 -- The tests and functions on texts (SPARQL 1.1 sections 17.4.2 and 17.4.3).
-use Rattle.std.specs.Prelude.{ℕ, ◌==◌, ◌&&◌, ◌||◌, not, Bool, true, false, List, [], ◌∷◌, take, drop, length, pos, codes, Option, Some, None, option_map, if◌then◌else◌}
+use Rattle.std.specs.Prelude.{ℕ, ◌==◌, ◌&&◌, ◌||◌, not, Bool, true, false, List, [], ◌∷◌, take, drop, length, codes, Option, Some, None, if◌then◌else◌}
 use Rattle.std.specs.List.{starts_with, ends_with}
-use Rattle.std.specs.Str.{bytes_eq, chars, str_eq_ignore_ascii_case}
+use Rattle.std.specs.Str.{bytes_eq, str_eq_ignore_ascii_case}
 use Rattle.fx_terms.specs.Literals.{LiteralParts}
 use Rattle.fx_terms.specs.declared.terms.Term.{Term}
 use Rattle.fx_terms.specs.declared.terms.Term.TheVariants as term
-use Rattle.fx_expr.specs.declared.worths.Kind.{Kind}
-use Rattle.fx_expr.specs.declared.worths.Kind.TheVariants as kind
-use Rattle.fx_expr.specs.Worths.{kind_of}
+use Rattle.fx_algebra.specs.declared.worths.Kind.{Kind}
+use Rattle.fx_algebra.specs.declared.worths.Kind.TheVariants as kind
+use Rattle.fx_algebra.specs.Worths.{kind_of}
 
 -- a text begins with a part
 unfoldable pub begins : List ℕ → List ℕ → Bool

@@ -1,0 +1,24 @@
+//! What literals are worth (SPARQL 1.1 section 17), as far as the definitions speak of it.
+
+/// What the datatype of a literal says of it.
+#[derive(Clone, Copy, Debug, PartialEq, Eq)]
+pub enum Kind {
+    Integer,
+    Boolean,
+    /// xsd:string.
+    Text,
+    /// A literal with a language tag.
+    Tagged,
+    Other,
+}
+
+/// What a term is worth.
+#[derive(Clone, Copy, Debug, PartialEq, Eq)]
+pub enum Worth {
+    Integer(i64),
+    Boolean(bool),
+    /// A string, whose value is its form.
+    Text,
+    /// An IRI, or a literal without a value.
+    Opaque,
+}
