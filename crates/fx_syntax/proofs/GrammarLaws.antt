@@ -2,7 +2,7 @@
 use Rattle.std.proofs.Common.{◌≡◌, ℕ, Bool, true, false, List, [], length, Option, refl}
 use Rattle.fx_syntax.specs.Kinds.{is}
 use Rattle.fx_syntax.specs.Rule.{Rule, shape_of, Shaped, Depth, with_depth, nothing, token, after, opt, depth, Apart, ReadAsSpelled, RefusedForGood}
-use Rattle.fx_syntax.specs.Grammar.{Prefixes, parens, braces, body, block, single_block, wide_block, rows, row, row_end, columns, new_column, value, literal, text_suffix, datatype, iri_name, variable, main, query_head, select_head, distinct, selected, column, where_group, whole_group, group, braced, items, first_triples, item, behind_other, other, union, service, service_name, binding, unbound, constraint, whole_expression, expression, disjunction, conjunction, relation, compared, among, sum, addend, signed_product, signed_literal, product, factor, no_quotient, unary, primary, primary_iri, primary_literal, no_call, call, bound_call, coalesce_call, if_call, one_call, two_call, two_args, list, triples, more_triples, dot_triples, same_subject, properties, more_properties, property, objects, verb, verb_iri, no_path, graph_term, part_literal, modifiers, order, condition, limits, limit, offset, number, query, prologue, prefix, with_elements, tag_of, text_of, is_plain_literal, literal_of, one_of, two_of, signed_of, comparison_of, namespace_of, iri_of, dot}
+use Rattle.fx_syntax.specs.Grammar.{Prefixes, parens, braces, body, block, single_block, wide_block, rows, row, row_end, columns, new_column, value, literal, text_suffix, datatype, iri_name, variable, main, query_head, select_head, distinct, selected, column, where_group, whole_group, group, braced, inside, items, first_triples, item, behind_other, other, union, service, service_name, binding, unbound, constraint, whole_expression, expression, disjunction, conjunction, relation, compared, among, sum, addend, signed_product, signed_literal, product, factor, no_quotient, unary, primary, primary_iri, primary_literal, no_call, call, bound_call, coalesce_call, if_call, one_call, two_call, two_args, list, triples, more_triples, dot_triples, same_subject, properties, more_properties, property, objects, verb, verb_iri, no_path, graph_term, part_literal, modifiers, order, condition, limits, limit, offset, number, query, prologue, prefix, with_elements, tag_of, text_of, is_plain_literal, literal_of, one_of, two_of, signed_of, comparison_of, namespace_of, iri_of, dot}
 use Rattle.fx_syntax.specs.declared.kinds.Kind.TheVariants as k
 use Rattle.fx_algebra.specs.declared.expressions.Expr.{Expr}
 use Rattle.fx_algebra.specs.declared.queries.Group.{Group}
@@ -307,7 +307,7 @@ module _ (ps : Prefixes) (d : Depth Group) (kept : Kept (with_depth (shape_of (b
   within = with_depth (shape_of (braced ps nothing)) d
 
   pub kept_union : Kept (union ps within)
-  unfolding union braced items first_triples item behind_other other service service_name binding unbound block single_block wide_block rows row row_end columns new_column value literal text_suffix datatype iri_name variable constraint whole_expression expression disjunction conjunction relation compared among sum addend signed_product signed_literal product factor no_quotient unary primary primary_iri primary_literal no_call call bound_call coalesce_call if_call one_call two_call two_args list triples more_triples dot_triples same_subject properties more_properties property objects verb verb_iri no_path graph_term part_literal
+  unfolding union braced inside items first_triples item behind_other other service service_name binding unbound block single_block wide_block rows row row_end columns new_column value literal text_suffix datatype iri_name variable constraint whole_expression expression disjunction conjunction relation compared among sum addend signed_product signed_literal product factor no_quotient unary primary primary_iri primary_literal no_call call bound_call coalesce_call if_call one_call two_call two_args list triples more_triples dot_triples same_subject properties more_properties property objects verb verb_iri no_path graph_term part_literal
   kept_union = kept_made _ (kept_chain k.Union kept refl (apart_by _ _ refl))
 
   pub kept_service_name : Kept (service_name ps)
@@ -315,7 +315,7 @@ module _ (ps : Prefixes) (d : Depth Group) (kept : Kept (with_depth (shape_of (b
   kept_service_name = kept_either (kept_iri_name ps) (kept_refusing _ _ _) refl refl (apart_by _ _ refl)
 
   pub kept_service : Kept (service ps within)
-  unfolding service service_name iri_name braced items first_triples item behind_other other union binding unbound block single_block wide_block rows row row_end columns new_column value literal text_suffix datatype variable constraint whole_expression expression disjunction conjunction relation compared among sum addend signed_product signed_literal product factor no_quotient unary primary primary_iri primary_literal no_call call bound_call coalesce_call if_call one_call two_call two_args list triples more_triples dot_triples same_subject properties more_properties property objects verb verb_iri no_path graph_term part_literal
+  unfolding service service_name iri_name braced inside items first_triples item behind_other other union binding unbound block single_block wide_block rows row row_end columns new_column value literal text_suffix datatype variable constraint whole_expression expression disjunction conjunction relation compared among sum addend signed_product signed_literal product factor no_quotient unary primary primary_iri primary_literal no_call call bound_call coalesce_call if_call one_call two_call two_args list triples more_triples dot_triples same_subject properties more_properties property objects verb verb_iri no_path graph_term part_literal
   kept_service = kept_made _ (kept_after (kept_token k.Service) (kept_seq (kept_opt (kept_token k.Silent) refl) (kept_seq kept_service_name kept (apart_by _ _ refl)) (apart_by _ _ refl)) (λ kind e. refl))
 
   pub kept_binding : (names : List (List ℕ)) → Kept (binding ps names)
@@ -323,7 +323,7 @@ module _ (ps : Prefixes) (d : Depth Group) (kept : Kept (with_depth (shape_of (b
   kept_binding names = kept_made _ (kept_after (kept_token k.Bind) (kept_parens (kept_seq (kept_whole_expression ps) (kept_after (kept_token k.As) (kept_unbound names) (λ kind e. refl)) (apart_by _ _ refl)) (apart_by _ _ refl)) (λ kind e. refl))
 
   pub kept_other : (names : List (List ℕ)) → Kept (other ps within names)
-  unfolding braced items first_triples item behind_other other union service service_name binding unbound block single_block wide_block rows row row_end columns new_column value literal text_suffix datatype iri_name variable constraint whole_expression expression disjunction conjunction relation compared among sum addend signed_product signed_literal product factor no_quotient unary primary primary_iri primary_literal no_call call bound_call coalesce_call if_call one_call two_call two_args list triples more_triples dot_triples same_subject properties more_properties property objects verb verb_iri no_path graph_term part_literal
+  unfolding braced inside items first_triples item behind_other other union service service_name binding unbound block single_block wide_block rows row row_end columns new_column value literal text_suffix datatype iri_name variable constraint whole_expression expression disjunction conjunction relation compared among sum addend signed_product signed_literal product factor no_quotient unary primary primary_iri primary_literal no_call call bound_call coalesce_call if_call one_call two_call two_args list triples more_triples dot_triples same_subject properties more_properties property objects verb verb_iri no_path graph_term part_literal
   kept_other names =
       kept_either kept_union
       (kept_either (kept_made _ (kept_after (kept_token k.Optional) kept (λ kind e. refl)))
@@ -339,24 +339,28 @@ module _ (ps : Prefixes) (d : Depth Group) (kept : Kept (with_depth (shape_of (b
   kept_behind_other = kept_made _ (kept_after (kept_opt (kept_token k.Dot) refl) (kept_opt (kept_triples ps) refl) (apart_by _ _ refl))
 
   pub kept_item : (names : List (List ℕ)) → Kept (item ps within names)
-  unfolding braced items first_triples item behind_other other union service service_name binding unbound block single_block wide_block rows row row_end columns new_column value literal text_suffix datatype iri_name variable constraint whole_expression expression disjunction conjunction relation compared among sum addend signed_product signed_literal product factor no_quotient unary primary primary_iri primary_literal no_call call bound_call coalesce_call if_call one_call two_call two_args list triples more_triples dot_triples same_subject properties more_properties property objects verb verb_iri no_path graph_term part_literal
+  unfolding braced inside items first_triples item behind_other other union service service_name binding unbound block single_block wide_block rows row row_end columns new_column value literal text_suffix datatype iri_name variable constraint whole_expression expression disjunction conjunction relation compared among sum addend signed_product signed_literal product factor no_quotient unary primary primary_iri primary_literal no_call call bound_call coalesce_call if_call one_call two_call two_args list triples more_triples dot_triples same_subject properties more_properties property objects verb verb_iri no_path graph_term part_literal
   kept_item names = kept_made _ (kept_seq (kept_other names) kept_behind_other (apart_by _ _ refl))
 
   pub kept_items : (names : List (List ℕ)) → Kept (items ps within names)
-  unfolding braced items first_triples item behind_other other union service service_name binding unbound block single_block wide_block rows row row_end columns new_column value literal text_suffix datatype iri_name variable constraint whole_expression expression disjunction conjunction relation compared among sum addend signed_product signed_literal product factor no_quotient unary primary primary_iri primary_literal no_call call bound_call coalesce_call if_call one_call two_call two_args list triples more_triples dot_triples same_subject properties more_properties property objects verb verb_iri no_path graph_term part_literal
+  unfolding braced inside items first_triples item behind_other other union service service_name binding unbound block single_block wide_block rows row row_end columns new_column value literal text_suffix datatype iri_name variable constraint whole_expression expression disjunction conjunction relation compared among sum addend signed_product signed_literal product factor no_quotient unary primary primary_iri primary_literal no_call call bound_call coalesce_call if_call one_call two_call two_args list triples more_triples dot_triples same_subject properties more_properties property objects verb verb_iri no_path graph_term part_literal
   kept_items names = kept_many_from _ _ _ kept_item (λ s. record { begins = refl; empty = refl; goes_on = refl }) refl (apart_by _ _ refl) names
 
   pub kept_first_triples : Kept (first_triples ps)
   unfolding first_triples triples more_triples dot_triples same_subject properties more_properties property objects verb verb_iri no_path graph_term part_literal literal text_suffix datatype iri_name variable
   kept_first_triples = kept_made _ (kept_opt (kept_either (kept_triples ps) (kept_refusing _ _ _) refl refl (apart_by _ _ refl)) refl)
 
+  pub kept_inside : Kept (inside ps within)
+  unfolding braced inside items first_triples item behind_other other union service service_name binding unbound block single_block wide_block rows row row_end columns new_column value literal text_suffix datatype iri_name variable constraint whole_expression expression disjunction conjunction relation compared among sum addend signed_product signed_literal product factor no_quotient unary primary primary_iri primary_literal no_call call bound_call coalesce_call if_call one_call two_call two_args list triples more_triples dot_triples same_subject properties more_properties property objects verb verb_iri no_path graph_term part_literal
+  kept_inside = kept_made _ (kept_then_by _ _ kept_first_triples (λ first. kept_items (with_elements [] first)) (λ x. record { begins = refl; empty = refl; goes_on = refl }) (apart_by _ _ refl))
+
   pub kept_braced : Kept (braced ps within)
-  unfolding braced items first_triples item behind_other other union service service_name binding unbound block single_block wide_block rows row row_end columns new_column value literal text_suffix datatype iri_name variable constraint whole_expression expression disjunction conjunction relation compared among sum addend signed_product signed_literal product factor no_quotient unary primary primary_iri primary_literal no_call call bound_call coalesce_call if_call one_call two_call two_args list triples more_triples dot_triples same_subject properties more_properties property objects verb verb_iri no_path graph_term part_literal
-  kept_braced = kept_braces (kept_made _ (kept_then_by _ _ kept_first_triples (λ first. kept_items (with_elements [] first)) (λ x. record { begins = refl; empty = refl; goes_on = refl }) (apart_by _ _ refl))) (apart_by _ _ refl)
+  unfolding braced inside items first_triples item behind_other other union service service_name binding unbound block single_block wide_block rows row row_end columns new_column value literal text_suffix datatype iri_name variable constraint whole_expression expression disjunction conjunction relation compared among sum addend signed_product signed_literal product factor no_quotient unary primary primary_iri primary_literal no_call call bound_call coalesce_call if_call one_call two_call two_args list triples more_triples dot_triples same_subject properties more_properties property objects verb verb_iri no_path graph_term part_literal
+  kept_braced = kept_braces kept_inside (apart_by _ _ refl)
 
 module _ (ps : Prefixes) where
   braced_fits : (d : Depth Group) → Shaped (shape_of (braced ps nothing)) (braced ps (with_depth (shape_of (braced ps nothing)) d))
-  unfolding braced items first_triples item behind_other other union service service_name binding unbound block single_block wide_block rows row row_end columns new_column value literal text_suffix datatype iri_name variable constraint whole_expression expression disjunction conjunction relation compared among sum addend signed_product signed_literal product factor no_quotient unary primary primary_iri primary_literal no_call call bound_call coalesce_call if_call one_call two_call two_args list triples more_triples dot_triples same_subject properties more_properties property objects verb verb_iri no_path graph_term part_literal
+  unfolding braced inside items first_triples item behind_other other union service service_name binding unbound block single_block wide_block rows row row_end columns new_column value literal text_suffix datatype iri_name variable constraint whole_expression expression disjunction conjunction relation compared among sum addend signed_product signed_literal product factor no_quotient unary primary primary_iri primary_literal no_call call bound_call coalesce_call if_call one_call two_call two_args list triples more_triples dot_triples same_subject properties more_properties property objects verb verb_iri no_path graph_term part_literal
   braced_fits d = record { begins = refl; empty = refl; goes_on = refl }
 
   pub kept_group : (n : ℕ) → Kept (group ps n)
@@ -432,22 +436,99 @@ module _ (ps : Prefixes) where
   kept_modifiers = kept_made _ (kept_seq kept_order (kept_opt kept_limits refl) (apart_by _ _ refl))
 
   pub kept_where_group : Kept (where_group ps)
-  unfolding where_group whole_group group braced items first_triples item behind_other other union service service_name binding unbound block single_block wide_block rows row row_end columns new_column value literal text_suffix datatype iri_name variable constraint whole_expression expression disjunction conjunction relation compared among sum addend signed_product signed_literal product factor no_quotient unary primary primary_iri primary_literal no_call call bound_call coalesce_call if_call one_call two_call two_args list triples more_triples dot_triples same_subject properties more_properties property objects verb verb_iri no_path graph_term part_literal
+  unfolding where_group whole_group group braced inside items first_triples item behind_other other union service service_name binding unbound block single_block wide_block rows row row_end columns new_column value literal text_suffix datatype iri_name variable constraint whole_expression expression disjunction conjunction relation compared among sum addend signed_product signed_literal product factor no_quotient unary primary primary_iri primary_literal no_call call bound_call coalesce_call if_call one_call two_call two_args list triples more_triples dot_triples same_subject properties more_properties property objects verb verb_iri no_path graph_term part_literal
   kept_where_group = kept_after (kept_opt (kept_either (kept_token k.Where) (kept_refusing _ _ _) refl refl (apart_by _ _ refl)) refl) (kept_whole_group ps) (apart_by _ _ refl)
 
   pub kept_main : Kept (main ps)
-  unfolding main query_head select_head distinct selected column variable where_group whole_group group braced items first_triples item behind_other other union service service_name binding unbound block single_block wide_block rows row row_end columns new_column value literal text_suffix datatype iri_name constraint whole_expression expression disjunction conjunction relation compared among sum addend signed_product signed_literal product factor no_quotient unary primary primary_iri primary_literal no_call call bound_call coalesce_call if_call one_call two_call two_args list triples more_triples dot_triples same_subject properties more_properties property objects verb verb_iri no_path graph_term part_literal modifiers order condition limits limit offset number
+  unfolding main query_head select_head distinct selected column variable where_group whole_group group braced inside items first_triples item behind_other other union service service_name binding unbound block single_block wide_block rows row row_end columns new_column value literal text_suffix datatype iri_name constraint whole_expression expression disjunction conjunction relation compared among sum addend signed_product signed_literal product factor no_quotient unary primary primary_iri primary_literal no_call call bound_call coalesce_call if_call one_call two_call two_args list triples more_triples dot_triples same_subject properties more_properties property objects verb verb_iri no_path graph_term part_literal modifiers order condition limits limit offset number
   kept_main = kept_made _ (kept_seq kept_query_head (kept_seq kept_where_group kept_modifiers (apart_by _ _ refl)) (apart_by _ _ refl))
 
   pub kept_body : Kept (body ps)
-  unfolding body block single_block wide_block rows row row_end columns new_column value literal text_suffix datatype iri_name variable main query_head select_head distinct selected column where_group whole_group group braced items first_triples item behind_other other union service service_name binding unbound constraint whole_expression expression disjunction conjunction relation compared among sum addend signed_product signed_literal product factor no_quotient unary primary primary_iri primary_literal no_call call bound_call coalesce_call if_call one_call two_call two_args list triples more_triples dot_triples same_subject properties more_properties property objects verb verb_iri no_path graph_term part_literal modifiers order condition limits limit offset number
+  unfolding body block single_block wide_block rows row row_end columns new_column value literal text_suffix datatype iri_name variable main query_head select_head distinct selected column where_group whole_group group braced inside items first_triples item behind_other other union service service_name binding unbound constraint whole_expression expression disjunction conjunction relation compared among sum addend signed_product signed_literal product factor no_quotient unary primary primary_iri primary_literal no_call call bound_call coalesce_call if_call one_call two_call two_args list triples more_triples dot_triples same_subject properties more_properties property objects verb verb_iri no_path graph_term part_literal modifiers order condition limits limit offset number
   kept_body = kept_made _ (kept_seq kept_main (kept_opt (kept_after (kept_token k.Values) (kept_block ps) (λ kind e. refl)) refl) (apart_by _ _ refl))
 
 pub kept_query : Kept query
-unfolding query prologue prefix body block single_block wide_block rows row row_end columns new_column value literal text_suffix datatype iri_name variable main query_head select_head distinct selected column where_group whole_group group braced items first_triples item behind_other other union service service_name binding unbound constraint whole_expression expression disjunction conjunction relation compared among sum addend signed_product signed_literal product factor no_quotient unary primary primary_iri primary_literal no_call call bound_call coalesce_call if_call one_call two_call two_args list triples more_triples dot_triples same_subject properties more_properties property objects verb verb_iri no_path graph_term part_literal modifiers order condition limits limit offset number
+unfolding query prologue prefix body block single_block wide_block rows row row_end columns new_column value literal text_suffix datatype iri_name variable main query_head select_head distinct selected column where_group whole_group group braced inside items first_triples item behind_other other union service service_name binding unbound constraint whole_expression expression disjunction conjunction relation compared among sum addend signed_product signed_literal product factor no_quotient unary primary primary_iri primary_literal no_call call bound_call coalesce_call if_call one_call two_call two_args list triples more_triples dot_triples same_subject properties more_properties property objects verb verb_iri no_path graph_term part_literal modifiers order condition limits limit offset number
 kept_query = kept_made _ (kept_then_by _ _ kept_prologue kept_body (λ x. record { begins = refl; empty = refl; goes_on = refl }) (apart_by _ _ refl))
 
 -- ---- the laws of what loops read
+
+module _ (ps : Prefixes) where
+  pub opt_property_law : Lawful (opt (property ps))
+  unfolding properties more_properties property objects verb verb_iri no_path graph_term part_literal literal text_suffix datatype iri_name variable
+  opt_property_law = (kept_opt (kept_property ps) refl).law
+
+  pub graph_term_law : Lawful (graph_term ps)
+  graph_term_law = (kept_graph_term ps).law
+
+  pub dot_law : (behind : Bool) → Lawful (dot_triples ps behind)
+  dot_law behind = (kept_dot_triples ps behind).law
+
+  pub dot_takes : (shape_of (dot_triples ps true)).empty ≡ false
+  unfolding dot_triples
+  dot_takes = refl
+
+  pub value_law : Lawful (value ps)
+  value_law = (kept_value ps).law
+
+  pub value_takes : (value ps).empty ≡ false
+  unfolding value literal text_suffix datatype iri_name variable
+  value_takes = refl
+
+  pub row_law : (width : ℕ) → Lawful (row ps width)
+  row_law width = (kept_row ps width).law
+
+  pub row_takes : (width : ℕ) → (row ps width).empty ≡ false
+  unfolding row row_end value literal text_suffix datatype iri_name variable
+  row_takes width = refl
+
+  pub condition_law : Lawful (condition ps)
+  condition_law = (kept_condition ps).law
+
+  pub condition_takes : (condition ps).empty ≡ false
+  unfolding condition constraint whole_expression expression disjunction conjunction relation compared among sum addend signed_product signed_literal product factor no_quotient unary primary primary_iri primary_literal no_call call bound_call coalesce_call if_call one_call two_call two_args list literal text_suffix datatype iri_name variable
+  condition_takes = refl
+
+  module _ (n : ℕ) where
+    pub group_law : Lawful (group ps n)
+    group_law = (kept_group ps n).law
+
+    pub item_law : (names : List (List ℕ)) → Lawful (item ps (group ps n) names)
+    unfolding group
+    item_law names = (kept_item ps (depth (braced ps) n) (kept_group ps n) names).law
+
+    pub item_fits : (names : List (List ℕ)) → Shaped (shape_of (item ps (group ps n) [])) (item ps (group ps n) names)
+    unfolding group braced inside items first_triples item behind_other other union service service_name binding unbound block single_block wide_block rows row row_end columns new_column value literal text_suffix datatype iri_name variable constraint whole_expression expression disjunction conjunction relation compared among sum addend signed_product signed_literal product factor no_quotient unary primary primary_iri primary_literal no_call call bound_call coalesce_call if_call one_call two_call two_args list triples more_triples dot_triples same_subject properties more_properties property objects verb verb_iri no_path graph_term part_literal
+    item_fits names = record { begins = refl; empty = refl; goes_on = refl }
+
+    pub item_takes : (shape_of (item ps (group ps n) [])).empty ≡ false
+    unfolding group braced inside items first_triples item behind_other other union service service_name binding unbound block single_block wide_block rows row row_end columns new_column value literal text_suffix datatype iri_name variable constraint whole_expression expression disjunction conjunction relation compared among sum addend signed_product signed_literal product factor no_quotient unary primary primary_iri primary_literal no_call call bound_call coalesce_call if_call one_call two_call two_args list triples more_triples dot_triples same_subject properties more_properties property objects verb verb_iri no_path graph_term part_literal
+    item_takes = refl
+
+pub new_column_law : (names : List (List ℕ)) → Lawful (new_column names)
+new_column_law names = (kept_new_column names).law
+
+pub new_column_fits : (names : List (List ℕ)) → Shaped (shape_of (new_column [])) (new_column names)
+unfolding new_column
+new_column_fits names = record { begins = refl; empty = refl; goes_on = refl }
+
+pub new_column_takes : (shape_of (new_column [])).empty ≡ false
+unfolding new_column
+new_column_takes = refl
+
+pub column_law : Lawful column
+column_law = kept_column.law
+
+pub column_takes : column.empty ≡ false
+unfolding column variable
+column_takes = refl
+
+pub prefix_law : Lawful prefix
+prefix_law = kept_prefix.law
+
+pub prefix_takes : prefix.empty ≡ false
+unfolding prefix
+prefix_takes = refl
 
 module _ (ps : Prefixes) (n : ℕ) where
   pub law_expression : Lawful (expression ps n)

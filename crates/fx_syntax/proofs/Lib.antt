@@ -2,13 +2,17 @@ pub mod AcceptedLaws
 pub mod ExpressionLaws
 pub mod FormLaws
 pub mod GrammarLaws
+pub mod GroupLaws
 pub mod KindLaws
 pub mod Loops
+pub mod NumberLaws
 pub mod ReadingLemmas
 pub mod RuleKept
 pub mod RuleLaws
 pub mod RuleLocal
 pub mod RuleWhole
 pub mod TextLemmas
+pub mod ScopeLaws
 pub mod TextLaws
+pub mod WholeLaws
 pub mod WordLaws

@@ -1,12 +1,13 @@
 -- Loops that read any number of parts, and a rule that may hold itself.
-use Rattle.std.proofs.Common.{◌≡◌, ℕ, zero, suc, ◌-◌, ◌<◌, Bool, true, false, cond, List, [], ◌∷◌, ◌++◌, length, Ok, Err, refl, sym, ap, ◌∙◌, arith, append_assoc, append-nil, ◌||◌, subst, sub-one}
+use Rattle.std.proofs.Common.{◌≡◌, ℕ, Option, Some, None, zero, suc, ◌-◌, ◌<◌, Bool, true, false, cond, List, [], ◌∷◌, ◌++◌, length, Ok, Err, refl, sym, ap, ◌∙◌, arith, append_assoc, append-nil, ◌||◌, subst, sub-one}
 use Rattle.fx_syntax.specs.Kinds.{is, kind_of}
 use Rattle.fx_syntax.specs.declared.kinds.Kind.{Kind}
 use Rattle.fx_syntax.specs.declared.kinds.Token.{Token}
 use Rattle.fx_syntax.specs.declared.kinds.SyntaxKind.TheVariants.{Unexpected}
 use Rattle.fx_syntax.specs.declared.kinds.Fault.{Fault}
 use Rattle.fx_syntax.specs.declared.kinds.Fault.TheVariants.{Refused, Memory}
-use Rattle.fx_syntax.specs.Rule.{any_number, number_from, IsRefusal, refuse, made, with_front, more, Refusal, Outcome, and_then, Rule, Shape, shape_of, Shaped, chain, many, after, token, sees, depth, nested, seq, either}
+use Rattle.std.specs.List.{flat_map}
+use Rattle.fx_syntax.specs.Rule.{any_number, number_from, IsRefusal, refuse, made, with_front, more, Refusal, Outcome, and_then, Rule, Shape, shape_of, Shaped, chain, many, after, token, sees, depth, nested, seq, either, with_each, some, opt}
 use Rattle.fx_syntax.proofs.RuleLaws.{Lawful, lawful_item, same_shape, turn_of, turn_is, shortens, shortens_from, Shortens}
 
 -- a refusal that is handed on, from what refuses to what then refuses too
@@ -55,6 +56,37 @@ module _ {A : Type 0} (a : Rule A) (l : Lawful a) (na : a.empty ≡ false) where
 
   pub any_smaller : (ts next : List Token) (x : A) → a.read ts ≡ Ok (x, next) → length next < length ts
   any_smaller ts next x e = subst (Shortens ts) e (shortens a l na ts)
+
+-- ---- the same, where each that is read gives some parts
+
+in_each : {A B : Type 0} (parts : A → List B) (front : List B) (x : A) (o : Outcome (List A))
+    → and_then (and_then o (λ xs rest. Ok (x ∷ xs, rest))) (λ xs rest. Ok (front ++ flat_map parts xs, rest)) ≡ and_then o (λ xs rest. Ok ((front ++ parts x) ++ flat_map parts xs, rest))
+in_each parts front x (Ok p) = rw append_assoc refl
+in_each parts front x (Err r) = refl
+
+module _ {S A B : Type 0} (shape : Shape) (rule : S → Rule A) (step : S → A → S) (l : (s : S) → Lawful (rule s)) (fits : (s : S) → Shaped shape (rule s)) (na : shape.empty ≡ false) (parts : A → List B) where
+  pub from_each_turn : (s : S) (front : List B) (ts next : List Token) (x : A) → sees shape.begins ts ≡ true → (rule s).read ts ≡ Ok (x, next)
+      → with_each parts (front ++ parts x) (number_from shape rule step (step s x) next) ≡ with_each parts front (number_from shape rule step s ts)
+  unfolding with_each
+  from_each_turn s front ts next x b e = sym (rw (turn shape rule step l fits na s ts, b, e) (in_each parts front x (number_from shape rule step (step s x) next)))
+
+  pub from_each_fails : (s : S) (front : List B) (ts : List Token) (r : Refusal) → sees shape.begins ts ≡ true → (rule s).read ts ≡ Err r → with_each parts front (number_from shape rule step s ts) ≡ Err r
+  unfolding with_each
+  from_each_fails s front ts r b e = rw (turn shape rule step l fits na s ts, b, e) refl
+
+  pub from_each_ends : (s : S) (front : List B) (ts : List Token) → sees shape.begins ts ≡ false → with_each parts front (number_from shape rule step s ts) ≡ Ok (front, ts)
+  unfolding with_each
+  from_each_ends s front ts b = rw (turn shape rule step l fits na s ts, b) (ap (λ (v : List B). Ok (v, ts)) (append-nil front))
+
+-- a first part, and what each of the others gives
+pub each_is : {T A B : Type 0} (a : Rule T) (b : Rule (List A)) (first : T → List B) (parts : A → List B) (ts mid : List Token) (x : T) (front : List B) → a.read ts ≡ Ok (x, mid) → front ≡ first x
+    → (made (λ p. first p.0 ++ flat_map parts p.1) (seq a b)).read ts ≡ with_each parts front (b.read mid)
+unfolding with_each
+each_is {T} {A} {B} a b first parts ts mid x front e f = rw (e, f) (go (b.read mid))
+  where
+    go : (o : Outcome (List A)) → and_then (and_then {B = T × List A} o (λ y rest. Ok ((x, y), rest))) (λ p rest. Ok (first p.0 ++ flat_map parts p.1, rest)) ≡ and_then o (λ xs rest. Ok (first x ++ flat_map parts xs, rest))
+    go (Ok p) = refl
+    go (Err r) = refl
 
 -- nothing in front
 pub no_front : {A : Type 0} (o : Outcome (List A)) → with_front [] o ≡ o
@@ -143,6 +175,25 @@ module _ {A : Type 0} (mark : Kind) (a : Rule A) where
     unfolding more any_number
     chain_ends front ts s = any_ends (after (token mark) a) (lawful_item mark a l) refl front ts (begins_so ts false s)
 
+    pub chain_each_turn : {B : Type 0} (parts : A → List B) (front : List B) (ts mid next : List Token) (x : A) → sees (is mark) ts ≡ true → (token mark).read ts ≡ Ok (tt, mid) → a.read mid ≡ Ok (x, next)
+        → with_each parts (front ++ parts x) (more mark a next) ≡ with_each parts front (more mark a ts)
+    unfolding more number_from
+    chain_each_turn parts front ts mid next x s e f =
+        let item = after (token mark) a in
+        from_each_turn {S = Unit {0}} (shape_of item) (λ s. item) (λ s x. s) (λ s. lawful_item mark a l) (λ s. same_shape item) refl parts tt front ts next x (begins_so ts true s) (item_read ts mid next x e f)
+
+    pub chain_each_fails : {B : Type 0} (parts : A → List B) (front : List B) (ts mid : List Token) (r : Refusal) → sees (is mark) ts ≡ true → (token mark).read ts ≡ Ok (tt, mid) → a.read mid ≡ Err r → with_each parts front (more mark a ts) ≡ Err r
+    unfolding more number_from
+    chain_each_fails parts front ts mid r s e f =
+        let item = after (token mark) a in
+        from_each_fails {S = Unit {0}} (shape_of item) (λ s. item) (λ s x. s) (λ s. lawful_item mark a l) (λ s. same_shape item) refl parts tt front ts r (begins_so ts true s) (item_refused ts mid r e f)
+
+    pub chain_each_ends : {B : Type 0} (parts : A → List B) (front : List B) (ts : List Token) → sees (is mark) ts ≡ false → with_each parts front (more mark a ts) ≡ Ok (front, ts)
+    unfolding more number_from
+    chain_each_ends parts front ts s =
+        let item = after (token mark) a in
+        from_each_ends {S = Unit {0}} (shape_of item) (λ s. item) (λ s x. s) (λ s. lawful_item mark a l) (λ s. same_shape item) refl parts tt front ts (begins_so ts false s)
+
     pub chain_smaller : (ts mid next : List Token) (x : A) → (token mark).read ts ≡ Ok (tt, mid) → a.read mid ≡ Ok (x, next) → length next < length ts
     chain_smaller ts mid next x e f = any_smaller (after (token mark) a) (lawful_item mark a l) refl ts next x (item_read ts mid next x e f)
 
@@ -158,6 +209,15 @@ module _ {A : Type 0} (rule : Rule A → Rule A) where
   unfolding depth
   nested_more zero ts h = absurd (omega arith)
   nested_more (suc n) ts h = rw sub-one refl
+
+-- one or more
+pub some_is : {A : Type 0} (a : Rule A) (ts mid : List Token) (x : A) (front : List A) → a.read ts ≡ Ok (x, mid) → front ≡ x ∷ [] → (some a).read ts ≡ with_front front (any_number a mid)
+unfolding with_front any_number
+some_is {A} a ts mid x front e f = rw (e, f) (go ((many a).read mid))
+  where
+    go : (o : Outcome (List A)) → and_then (and_then {B = A × List A} o (λ y rest. Ok ((x, y), rest))) (λ p rest. Ok (p.0 ∷ p.1, rest)) ≡ and_then o (λ xs rest. Ok ((x ∷ []) ++ xs, rest))
+    go (Ok p) = refl
+    go (Err r) = refl
 
 -- ---- choices
 
@@ -175,3 +235,24 @@ sees-alone p (t ∷ ts) b e = go (p (kind_of t)) ∙ e
     go : (c : Bool) → (c || false) ≡ c
     go true = refl
     go false = refl
+
+-- ---- perhaps
+
+pub opt_here : {A : Type 0} (a : Rule A) (ts rest : List Token) (x : A) → sees a.begins ts ≡ true → a.read ts ≡ Ok (x, rest) → (opt a).read ts ≡ Ok (Some x, rest)
+opt_here a ts rest x e f = rw (e, f) refl
+
+pub opt_fails : {A : Type 0} (a : Rule A) (ts : List Token) (r : Refusal) → sees a.begins ts ≡ true → a.read ts ≡ Err r → (opt a).read ts ≡ Err r
+opt_fails a ts r e f = rw (e, f) refl
+
+pub opt_none : {A : Type 0} (a : Rule A) (ts : List Token) → sees a.begins ts ≡ false → (opt a).read ts ≡ Ok (None, ts)
+opt_none a ts e = rw e refl
+
+module _ {A B : Type 0} (f : Option A → B) (a : Rule A) (ts : List Token) where
+  pub opt_made_here : (rest : List Token) (x : A) (y : B) → sees a.begins ts ≡ true → a.read ts ≡ Ok (x, rest) → y ≡ f (Some x) → (made f (opt a)).read ts ≡ Ok (y, rest)
+  opt_made_here rest x y e g h = rw (e, g, h) refl
+
+  pub opt_made_fails : (r : Refusal) → sees a.begins ts ≡ true → a.read ts ≡ Err r → (made f (opt a)).read ts ≡ Err r
+  opt_made_fails r e g = rw (e, g) refl
+
+  pub opt_made_none : (y : B) → sees a.begins ts ≡ false → y ≡ f None → (made f (opt a)).read ts ≡ Ok (y, ts)
+  opt_made_none y e h = rw (e, h) refl

@@ -50,11 +50,11 @@ or_right : (a b : Bool) → b ≡ true → (a || b) ≡ true
 or_right true b e = refl
 or_right false b e = e
 
-sees-left : (p q : Kind → Bool) (ts : List Token) → sees p ts ≡ true → sees (λ kind. p kind || q kind) ts ≡ true
+pub sees-left : (p q : Kind → Bool) (ts : List Token) → sees p ts ≡ true → sees (λ kind. p kind || q kind) ts ≡ true
 sees-left p q [] e = e
 sees-left p q (t ∷ ts) e = or_left (p (kind_of t)) (q (kind_of t)) e
 
-sees-right : (p q : Kind → Bool) (ts : List Token) → sees q ts ≡ true → sees (λ kind. p kind || q kind) ts ≡ true
+pub sees-right : (p q : Kind → Bool) (ts : List Token) → sees q ts ≡ true → sees (λ kind. p kind || q kind) ts ≡ true
 sees-right p q [] e = e
 sees-right p q (t ∷ ts) e = or_right (p (kind_of t)) (q (kind_of t)) e
 

@@ -113,7 +113,7 @@ local_token kind = local_one (is kind) (λ t. Ok tt)
 
 -- ---- one after the other
 
-leaves_then : {A C : Type 0} (ts : List Token) (o : Outcome A) (k : A → List Token → Outcome C) → Leaves ts o → ((x : A) (mid : List Token) → Leaves mid (k x mid)) → Leaves ts (and_then o k)
+pub leaves_then : {A C : Type 0} (ts : List Token) (o : Outcome A) (k : A → List Token → Outcome C) → Leaves ts o → ((x : A) (mid : List Token) → Leaves mid (k x mid)) → Leaves ts (and_then o k)
 leaves_then {A} {C} ts (Ok p) k h l = go (k p.0 p.1) (l p.0 p.1)
   where
     go : (o : Outcome C) → Leaves p.1 o → Leaves ts o

@@ -1,16 +1,16 @@
 -- All the tokens are read exactly where they are spelled, and a refusal stays one.
-use Rattle.std.proofs.Common.{◌≡◌, List, [], ◌∷◌, ◌++◌, length, Ok, Err, refl, sym, ap, ◌∙◌, subst, append-nil}
+use Rattle.std.proofs.Common.{◌≡◌, List, [], ◌∷◌, ◌++◌, length, Ok, Err, refl, sym, ap, ◌∙◌, subst, append-nil, ◌≤◌, arith, length-append}
 use Rattle.fx_syntax.specs.declared.kinds.Token.{Token}
 use Rattle.fx_syntax.specs.declared.kinds.SyntaxKind.TheVariants.{Unexpected}
 use Rattle.fx_syntax.specs.Rule.{Outcome, Refusal, and_then, Rule, to_end, read_whole, ReadAsSpelled, RefusedForGood}
 use Rattle.fx_syntax.proofs.RuleLaws.{Sound, Lawful}
-use Rattle.fx_syntax.proofs.RuleLocal.{Local, Alike, Leaves, then_alike, leaves_refused, refused_alike}
+use Rattle.fx_syntax.proofs.RuleLocal.{Local, Alike, Leaves, then_alike, leaves_then, leaves_refused, refused_alike}
 
 value_of : {A : Type 0} → A → Outcome A → A
 value_of d (Ok p) = p.0
 value_of d (Err r) = d
 
-same_value : {A : Type 0} (o : Outcome A) (x y : A) (ts us : List Token) → o ≡ Ok (x, ts) → o ≡ Ok (y, us) → x ≡ y
+pub same_value : {A : Type 0} (o : Outcome A) (x y : A) (ts us : List Token) → o ≡ Ok (x, ts) → o ≡ Ok (y, us) → x ≡ y
 unfolding value_of
 same_value o x y ts us e f = ap (value_of x) (sym e ∙ f)
 
@@ -53,6 +53,19 @@ module _ {A : Type 0} (r : Rule A) (law : Lawful r) (l : Local r) where
   unfolding read_whole
   whole_alike t u v front =
       then_alike t u v front to_end (r.read (front ++ t ∷ u)) (r.read (front ++ t ∷ v)) (l.alike t u v front) (l.leaves (front ++ t ∷ u)) end_leaves (λ x m e. end_alike t u v x m)
+
+  within_by : (ts : List Token) (o : Outcome A) (f : Refusal) → Leaves ts o → o ≡ Err f → f.left ≤ length ts
+  within_by ts (Ok p) f h e = absurd (cc)
+  within_by ts (Err g) f h e =
+      let same : g ≡ f = cc e in
+      let long : length ts ≡ length (h.0 ++ h.1) = ap length h.2 in
+      let left : g.left ≡ f.left = ap (λ (x : Refusal). x.left) same in
+      omega (arith, length-append h.0 h.1, h.3, long, left)
+
+  -- a refusal stands within the tokens, or behind the last
+  pub left_within : (ts : List Token) (f : Refusal) → read_whole r ts ≡ Err f → f.left ≤ length ts
+  unfolding read_whole
+  left_within ts f e = within_by ts (and_then (r.read ts) to_end) f (leaves_then ts (r.read ts) to_end (l.leaves ts) end_leaves) e
 
   refused_again : (t : Token) (u v front : List Token) (f : Refusal) (x : A) → read_whole r (front ++ t ∷ u) ≡ Err f → f.left ≡ length (t ∷ u) → read_whole r (front ++ t ∷ v) ≡ Ok (x, []) → ⊥
   refused_again t u v front f x e h g =

@@ -29,7 +29,7 @@ use Rattle.fx_algebra.specs.declared.queries.Form.TheVariants as form
 use Rattle.fx_algebra.specs.declared.queries.Order.{Order}
 use Rattle.fx_algebra.specs.declared.queries.Query.{Query}
 use Rattle.fx_syntax.specs.Kinds.{is}
-use Rattle.fx_syntax.specs.Rule.{Rule, shape_of, one, token, refusing, made, then_by, seq, after, before, either, opt, many_from, many, chain, some, nested}
+use Rattle.fx_syntax.specs.Rule.{Rule, Outcome, number_from as items_of, shape_of, one, token, refusing, made, then_by, seq, after, before, either, opt, many_from, many, chain, some, nested}
 use Rattle.fx_syntax.specs.declared.kinds.Kind.{Kind}
 use Rattle.fx_syntax.specs.declared.kinds.Kind.TheVariants as k
 use Rattle.fx_syntax.specs.declared.kinds.Token.{Token}
@@ -113,9 +113,17 @@ abbrev pub number_from : ℕ → List ℕ → ℕ
 number_from v [] = v
 number_from v (d ∷ digits) = number_from (v * 10 + (d - 48)) digits
 
+-- a number of at most 64 bits
+abbrev pub number_in : List ℕ → Option ℕ
+number_in digits = if nat_le (number_from 0 digits) 18446744073709551615 then Some (number_from 0 digits) else None
+
+abbrev pub within : Option ℕ → Result ℕ SyntaxKind
+within (Some number) = Ok number
+within None = Err NumberTooWide
+
 -- a number of LIMIT or OFFSET
 abbrev pub number_of : Token → Result ℕ SyntaxKind
-number_of (token_of.Integer digits) = if nat_le (number_from 0 digits) 18446744073709551615 then Ok (number_from 0 digits) else Err NumberTooWide
+number_of (token_of.Integer digits) = within (number_in digits)
 number_of _ = Err Unexpected
 
 -- the name that PREFIX declares: nothing stands behind its colon
@@ -167,6 +175,9 @@ is_iri_name kind = is k.Iri kind || is k.PrefixName kind
 
 abbrev pub is_plain_literal : Kind → Bool
 is_plain_literal kind = is k.Integer kind || is k.Signed kind || is k.True kind || is k.False kind || is k.Decimal kind
+
+abbrev pub begins_literal : Kind → Bool
+begins_literal kind = is k.Text kind || is_plain_literal kind
 
 abbrev pub is_blank : Kind → Bool
 is_blank kind = is k.Blank kind || is k.LeftBracket kind
@@ -372,19 +383,20 @@ iri_part iri = part.Constant (term.Iri iri)
 abbrev pub Property : Type 0
 Property = PatternTerm × List PatternTerm
 
-abbrev pub somes : {A : Type 0} → List (Option A) → List A
-somes [] = []
-somes (Some x ∷ xs) = x ∷ somes xs
-somes (None ∷ xs) = somes xs
+abbrev pub option_list : {A : Type 0} → Option A → List A
+option_list (Some x) = x ∷ []
+option_list None = []
+
+abbrev pub option_items : {A : Type 0} → Option (List A) → List A
+option_items (Some xs) = xs
+option_items None = []
 
 -- the triples of a subject, in text order
-abbrev pub triples_of : PatternTerm → List Property → List Pattern
-triples_of subject properties = flat_map (λ p. map (λ object. record { subject = subject; predicate = p.0; object = object }) p.1) properties
+abbrev pub property_triples : PatternTerm → Property → List Pattern
+property_triples subject p = map (λ object. record { subject = subject; predicate = p.0; object = object }) p.1
 
-abbrev pub all_triples : List (Option (List Pattern)) → List Pattern
-all_triples [] = []
-all_triples (Some ts ∷ more) = ts ++ all_triples more
-all_triples (None ∷ more) = all_triples more
+abbrev pub triples_of : PatternTerm → List Property → List Pattern
+triples_of subject properties = flat_map (property_triples subject) properties
 
 -- a dot, where triples stand before it and no other dot
 abbrev pub dot : Bool → Rule (Unit {0})
@@ -423,7 +435,7 @@ module _ (ps : Prefixes) where
   more_properties = many (after (token k.Semicolon) (opt property))
 
   unfoldable pub properties : Rule (List Property)
-  properties = made (λ p. p.0 ∷ somes p.1) (seq property more_properties)
+  properties = made (λ p. p.0 ∷ flat_map option_list p.1) (seq property more_properties)
 
   unfoldable pub same_subject : Rule (List Pattern)
   same_subject = made (λ p. triples_of p.0 p.1) (seq graph_term properties)
@@ -435,8 +447,11 @@ module _ (ps : Prefixes) where
   unfoldable pub more_triples : Bool → Rule (List (Option (List Pattern)))
   more_triples = many_from (shape_of (dot_triples true)) dot_triples (λ behind ts. is_some ts)
 
+  unfoldable pub more_triples_from : Bool → List Token → Outcome (List (Option (List Pattern)))
+  more_triples_from behind ts = items_of (shape_of (dot_triples true)) dot_triples (λ behind ts. is_some ts) behind ts
+
   unfoldable pub triples : Rule (List Pattern)
-  triples = made (λ p. p.0 ++ all_triples p.1) (seq same_subject (more_triples true))
+  triples = made (λ p. p.0 ++ flat_map option_items p.1) (seq same_subject (more_triples true))
 
 -- ---- VALUES
 
@@ -539,12 +554,19 @@ module _ (ps : Prefixes) where
   unfoldable pub items : Rule Group → List (List ℕ) → Rule (List (List Element))
   items inner = many_from (shape_of (item inner [])) (item inner) with_elements
 
+  unfoldable pub items_from : Rule Group → List (List ℕ) → List Token → Outcome (List (List Element))
+  items_from inner names ts = items_of (shape_of (item inner [])) (item inner) with_elements names ts
+
   unfoldable pub first_triples : Rule (List Element)
   first_triples = made triple_elements (opt (either (triples ps) (refusing Unsupported (is k.Select))))
 
+  -- Triples? ( Other '.'? Triples? )*
+  unfoldable pub inside : Rule Group → Rule Group
+  inside inner = made (λ p. group_of p.0 p.1) (then_by first_triples (shape_of (items inner [])) (λ first. items inner (with_elements [] first)))
+
   -- Group = '{' Triples? ( Other '.'? Triples? )* '}'
   unfoldable pub braced : Rule Group → Rule Group
-  braced inner = braces (made (λ p. group_of p.0 p.1) (then_by first_triples (shape_of (items inner [])) (λ first. items inner (with_elements [] first))))
+  braced inner = braces (inside inner)
 
   -- No text opens more than 64 brackets at once.
   unfoldable pub group : ℕ → Rule Group
@@ -576,7 +598,7 @@ inline_columns None = []
 
 abbrev pub columns_of : Option (List (List ℕ)) → Group → Option Inline → List (List ℕ)
 columns_of (Some names) g inline = once names
-columns_of None g inline = fold with_name (scope g) (inline_columns inline)
+columns_of None g inline = once (scope g ++ inline_columns inline)
 
 abbrev pub form_of : Head → Group → Option Inline → Form
 form_of (head.Select once_each names) g inline = form.Select once_each (columns_of names g inline)

@@ -7,4 +7,5 @@ pub mod Keywords
 pub mod Kinds
 pub mod Reading
 pub mod Rule
+pub mod Whole
 pub mod Words

@@ -1,6 +1,7 @@
 -- What a rule of a grammar is, and the ways to make one. What a rule spells is a relation between tokens and values; how it
 -- is read from left to right, and where that stops, is a function beside it. Both are made together, one way at a time.
 use Rattle.std.specs.Prelude.{◌≡◌, ℕ, zero, suc, Bool, true, false, ◌||◌, ◌&&◌, ◌⊎◌, if◌then◌else◌, List, [], ◌∷◌, ◌++◌, length, Option, Some, None, Result, Ok, Err}
+use Rattle.std.specs.List.{flat_map}
 use Rattle.fx_syntax.specs.Kinds.{is, kind_of}
 use Rattle.fx_syntax.specs.declared.kinds.Kind.{Kind}
 use Rattle.fx_syntax.specs.declared.kinds.Kind.TheVariants as k
@@ -236,6 +237,10 @@ Gives view (Err fault) outcome = IsRefusal fault outcome
 -- a loop that reads any number: what was read before, in front
 unfoldable pub with_front : {A : Type 0} → List A → Outcome (List A) → Outcome (List A)
 with_front front o = and_then o (λ xs rest. Ok (front ++ xs, rest))
+
+-- the same, where each that is read gives some parts
+unfoldable pub with_each : {A B : Type 0} → (A → List B) → List B → Outcome (List A) → Outcome (List B)
+with_each parts front o = and_then o (λ xs rest. Ok (front ++ flat_map parts xs, rest))
 
 -- what stands behind the first of a chain
 unfoldable pub more : {A : Type 0} → Kind → Rule A → List Token → Outcome (List A)

@@ -1,5 +1,5 @@
 //! What tokens say.
-ghost use Rattle.std.specs.Prelude.{◌≡◌, ◌≤◌, ◌++◌, All, IfOk, MatchOption, length, string_bytes, drop, [], ◌∷◌};
+ghost use Rattle.std.specs.Prelude.{◌≡◌, All, IfOk, string_bytes, drop};
 ghost use Rattle.std.specs.Str.{chars, encode_utf8_all};
 ghost use Rattle.fx_tokens.specs.Reads.{IsSlice};
 ghost use Rattle.fx_tokens.specs.Answers.{left_number};

@@ -1,6 +1,5 @@
 //! Expressions. `depth` says how many more expressions may stand within one another.
-ghost use Rattle.std.specs.Prelude.{◌≡◌, ℕ, IfOk, None, Some, length, [], ◌∷◌, if◌then◌else◌};
-ghost use Rattle.fx_syntax.specs.Kinds as kinds;
+ghost use Rattle.std.specs.Prelude.{◌≡◌, ℕ, IfOk, None, Some, [], ◌∷◌};
 ghost use Rattle.fx_syntax.specs.Rule as rule;
 ghost use Rattle.fx_syntax.specs.Rule.{Gives};
 ghost use Rattle.fx_syntax.specs.Grammar as grammar;

@@ -1,5 +1,5 @@
 //! Keywords and marks.
-ghost use Rattle.std.specs.Prelude.{◌≡◌, IfOk, codes, if◌then◌else◌};
+ghost use Rattle.std.specs.Prelude.{◌≡◌, IfOk};
 ghost use Rattle.std.specs.Str.{bytes_eq};
 ghost use Rattle.fx_syntax.specs.Keywords as spec;
 

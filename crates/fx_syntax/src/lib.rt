@@ -5,11 +5,16 @@
 pub mod classify;
 pub mod expressions;
 mod forms;
+pub mod groups;
 pub mod keywords;
 pub mod kinds;
 pub mod laws;
 pub mod parts;
+pub mod queries;
 pub mod readers;
+pub mod triples;
+pub mod values;
+pub mod whole;
 pub mod words;
 
 pub use forms::parse;
@@ -17,3 +22,5 @@ pub use words::FirstError;
 
 #[cfg(test)]
 mod tests;
+#[cfg(test)]
+mod whole_tests;

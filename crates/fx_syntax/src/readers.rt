@@ -392,6 +392,16 @@ fn plain_literal(alloc: Global, tokens: &[Token]) -> Result<(Term, &[Token]), Fa
     }
 }
 
+/// The next token is one with which a literal begins, or a decimal, which is refused by name there.
+pub fn sees_literal(tokens: &[Token]) -> bool
+    ensures { result ≡ rule.sees grammar.begins_literal tokens.now }
+{
+    match tokens {
+        [first, ..] => is(Kind::Text, first.kind()) || is_plain_literal(first.kind()),
+        [] => false,
+    }
+}
+
 /// A literal, in an expression or elsewhere.
 #[tactic(auto, unfolding(crate::specs::Grammar::literal))]
 pub fn literal<'a>(

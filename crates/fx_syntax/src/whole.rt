@@ -1,0 +1,151 @@
+//! The query that a text is.
+
+ghost use Rattle.std.specs.Prelude.{◌≡◌, ◌⊎◌, ℕ, ◌<◌, ◌≤◌, All, length, drop, IfOk, IfErr, MatchResult};
+ghost use Rattle.std.specs.Str.{IsErrorLen, valid_up_to, error_len};
+ghost use Rattle.std.specs.Str.Lossy.{utf8_valid_len, utf8_error_len};
+ghost use Rattle.fx_algebra.specs.declared.queries.Query.{Query as QueryTree};
+ghost use Rattle.fx_tokens.specs.Reads.{IsSlice};
+ghost use Rattle.fx_syntax.specs.declared.kinds.SyntaxKind.{SyntaxKind as Kind};
+ghost use Rattle.fx_syntax.specs.Whole as spec;
+
+use crate::classify::classify;
+use crate::kinds::{Fault, SyntaxKind};
+use crate::queries::whole_query;
+use fx_algebra::Query;
+use fx_terms::Memory;
+use fx_tokens::{Token, TokenError, tokens};
+use std::alloc::Global;
+use std::str;
+use std::str::Utf8Error;
+
+/// Why a text is refused.
+#[derive(Clone, Copy, Debug, PartialEq, Eq)]
+pub enum SyntaxError {
+    /// For this reason, at this byte place.
+    Refused { kind: SyntaxKind, place: u64 },
+    /// Memory ran out.
+    Memory,
+}
+
+impl From<Memory> for SyntaxError {
+    ghost use Rattle.std.specs.Prelude.{◌≡◌};
+    ghost use Rattle.fx_syntax.specs.declared.whole.SyntaxError.TheVariants.{Memory as NoMemory};
+
+    ghost from_gives = { λ _ e. e ≡ NoMemory };
+
+    fn from(_error: Memory) -> SyntaxError {
+        SyntaxError::Memory
+    }
+}
+
+/// The query that a text is (SPARQL 1.1 section 19.8, in this project's profile).
+///
+/// `BadUtf8` is looked for first, then `BadToken` over the whole text. Each other refusal comes at the first token from the left
+/// at which the grammar stops, or at the text's end; where several reasons hold of a token, `TooDeep` comes before
+/// `UnknownPrefix`, `RelativeIri`, `BlankNode`, `Decimal`, `BadLiteral`, `BindInScope`, `ValuesWidth`, `RepeatedName`,
+/// `NumberTooWide`, `Unsupported` and `Unexpected`, in this order.
+pub fn parse_query(alloc: Global, bytes: &[u8]) -> Result<Query, SyntaxError>
+    // What is read is what the text spells.
+    ensures found { IfOk result (spec.IsQueryText bytes.now) }
+
+    // A text that spells a query is read, as this query and no other, unless memory runs out.
+    ensures only { (q : QueryTree) → spec.IsQueryText bytes.now q → MatchResult result (λ r. r ≡ q) (λ e. e ≡ SyntaxError.Memory) }
+
+    // A refusal has its reason and its place.
+    ensures refused { IfErr result (spec.IsCause bytes.now) }
+
+    // Where there is a reason to refuse, this one is answered, unless memory runs out.
+    ensures first { (kind : Kind) (place : ℕ) → spec.IsRefused bytes.now kind place → MatchResult result (λ q. ⊥) (λ e. (e ≡ SyntaxError.Memory) ⊎ (e ≡ SyntaxError.Refused kind place)) }
+{
+    parse_bytes(alloc, bytes)
+}
+
+fn parse_bytes(alloc: Global, bytes: &[u8]) -> Result<Query, SyntaxError>
+    ensures { spec.IsAnswer bytes.now result }
+{
+    match str::from_utf8(bytes) {
+        Ok(text) => parse_text(alloc, text),
+        Err(error) => {
+            Err(SyntaxError::Refused {
+                kind: SyntaxKind::BadUtf8,
+                place: utf8_place(bytes, &error) as u64,
+            })
+        }
+    }
+}
+
+// Where bytes stop being UTF-8.
+fn utf8_place(bytes: &[u8], error: &Utf8Error) -> usize
+    requires valid { valid_up_to error.now ≡ utf8_valid_len bytes.now }
+    requires within { valid_up_to error.now < length bytes.now }
+    requires size { IsErrorLen bytes.now (valid_up_to error.now) (error_len error.now) }
+    requires fault { error_len error.now ≡ utf8_error_len (drop (valid_up_to error.now) bytes.now) }
+    ensures { result ≡ spec.utf8_fault bytes.now }
+{
+    let start = error.valid_up_to();
+    let Some(size) = error.error_len() else {
+        return bytes.len();
+    };
+    let first = bytes[start];
+    if first >= 0xC2 && first <= 0xF4 {
+        start + size
+    } else {
+        start
+    }
+}
+
+fn parse_text(alloc: Global, text: &str) -> Result<Query, SyntaxError>
+    ensures { spec.IsAnswer text.now result }
+{
+    match tokens(alloc, text) {
+        Ok(read) => parse_tokens(alloc, text, read.as_slice()),
+        Err(error) => Err(bad_token(error)),
+    }
+}
+
+fn bad_token(error: TokenError) -> SyntaxError
+    ensures { result ≡ spec.bad_token error }
+{
+    match error {
+        TokenError::Bad { place, fault: _ } => SyntaxError::Refused {
+            kind: SyntaxKind::BadToken,
+            place,
+        },
+        TokenError::Memory => SyntaxError::Memory,
+    }
+}
+
+fn parse_tokens(alloc: Global, text: &str, read: &[Token]) -> Result<Query, SyntaxError>
+    requires { All (IsSlice text.now) read.now }
+    ensures { spec.AnswersTokens text.now read.now result }
+{
+    let said = classify(alloc, text, read)?;
+    match whole_query(alloc, said.as_slice()) {
+        Ok(query) => Ok(query),
+        Err(fault) => Err(fault_at(text, read, fault)),
+    }
+}
+
+fn fault_at(text: &str, read: &[Token], fault: Fault) -> SyntaxError
+    requires { spec.StandsWithin (length read.now) fault }
+    ensures { result ≡ spec.fault_at text.now read.now fault }
+{
+    match fault {
+        Fault::Refused { why, left } => SyntaxError::Refused {
+            kind: why,
+            place: place_of(text, read, left),
+        },
+        Fault::Memory => SyntaxError::Memory,
+    }
+}
+
+// Where the tokens begin of which so many are left.
+fn place_of(text: &str, read: &[Token], left: usize) -> u64
+    requires { left ≤ length read.now }
+    ensures { result ≡ spec.place_of text.now read.now left }
+{
+    if left == 0 {
+        return text.len() as u64;
+    }
+    read[read.len() - left].start
+}
