@@ -16,3 +16,4 @@ pub mod ScopeLaws
 pub mod TextLaws
 pub mod WholeLaws
 pub mod WordLaws
+pub mod printing

@@ -5,6 +5,7 @@ pub mod FirstForm
 pub mod Grammar
 pub mod Keywords
 pub mod Kinds
+pub mod Printable
 pub mod Reading
 pub mod Rule
 pub mod Whole

@@ -1,0 +1,6 @@
+pub mod Pieces
+pub mod Fixed
+pub mod Words
+pub mod Texts
+pub mod Numbers
+pub mod Saying
