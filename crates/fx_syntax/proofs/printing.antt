@@ -4,3 +4,5 @@ pub mod Words
 pub mod Texts
 pub mod Numbers
 pub mod Saying
+pub mod Spelling
+pub mod Terms

@@ -8,6 +8,10 @@ use Rattle.fx_terms.specs.Terms.{IsTerm}
 use Rattle.fx_terms.specs.Literals.{LiteralParts, xsd_string}
 use Rattle.fx_terms.specs.declared.terms.Term.{Term}
 use Rattle.fx_terms.specs.declared.terms.Term.TheVariants.{Iri, Literal}
+use Rattle.fx_terms.specs.Iris.{IsIri}
+use Rattle.fx_terms.specs.declared.patterns.Pattern.{Pattern}
+use Rattle.fx_terms.specs.declared.patterns.PatternTerm.{PatternTerm}
+use Rattle.fx_terms.specs.declared.patterns.PatternTerm.TheVariants as part
 use Rattle.fx_tokens.specs.Classes.{is_letter}
 use Rattle.fx_algebra.specs.Printed.{Word, fixed, variable, term, number}
 use Rattle.fx_syntax.specs.Keywords as keywords
@@ -65,3 +69,24 @@ IsFine (number n) = n < 2 ^ 64
 abbrev pub AreFine : List Word → Type 0
 AreFine [] = Unit {0}
 AreFine (word ∷ words) = IsFine word × AreFine words
+
+-- ---- triples
+
+abbrev pub IsPart : PatternTerm → Type 0
+IsPart (part.Variable name) = IsName name
+IsPart (part.Constant t) = IsTerm t
+
+-- a literal is no verb
+abbrev pub IsVerb : PatternTerm → Type 0
+IsVerb (part.Variable name) = IsName name
+IsVerb (part.Constant (Iri a)) = IsIri a
+IsVerb (part.Constant (Literal l)) = ⊥
+
+pub record IsTriple (p : Pattern) : Type 0 where
+  pub subject : IsPart p.subject
+  pub predicate : IsVerb p.predicate
+  pub object : IsPart p.object
+
+abbrev pub AreTriples : List Pattern → Type 0
+AreTriples [] = Unit {0}
+AreTriples (p ∷ ps) = IsTriple p × AreTriples ps
