@@ -6,3 +6,7 @@ pub mod Numbers
 pub mod Saying
 pub mod Spelling
 pub mod Terms
+pub mod Placing
+pub mod Accepting
+pub mod Columns
+pub mod PatternQuery

@@ -1,5 +1,5 @@
 -- What the words of a printed query say, as tokens.
-use Rattle.std.specs.Prelude.{◌≡◌, ◌<◌, ◌^◌, ◌==◌, ◌⊎◌, ℕ, true, if◌then◌else◌, List, [], ◌∷◌, codes, length}
+use Rattle.std.specs.Prelude.{◌≡◌, ◌<◌, ◌^◌, ◌==◌, ◌⊎◌, ℕ, true, if◌then◌else◌, List, [], ◌∷◌, codes, length, None, false}
 use Rattle.std.specs.List.{flat_map, list_any}
 use Rattle.std.specs.Str.{bytes_eq}
 use Rattle.std.specs.Fmt.{decimal}
@@ -13,8 +13,14 @@ use Rattle.fx_terms.specs.declared.patterns.Pattern.{Pattern}
 use Rattle.fx_terms.specs.declared.patterns.PatternTerm.{PatternTerm}
 use Rattle.fx_terms.specs.declared.patterns.PatternTerm.TheVariants as part
 use Rattle.fx_tokens.specs.Classes.{is_letter}
-use Rattle.fx_algebra.specs.Printed.{Word, fixed, variable, term, number}
+use Rattle.fx_algebra.specs.Printed.{Word, fixed, variable, term, number, printed_query}
+use Rattle.fx_algebra.specs.Scopes.{once, pattern_names}
+use Rattle.fx_algebra.specs.declared.queries.Element.TheVariants as element
+use Rattle.fx_algebra.specs.declared.queries.Group.{roll-Group}
+use Rattle.fx_algebra.specs.declared.queries.Form.TheVariants as form
+use Rattle.fx_algebra.specs.declared.queries.Query.{Query}
 use Rattle.fx_syntax.specs.Keywords as keywords
+use Rattle.fx_syntax.specs.Whole.{IsQueryText}
 use Rattle.fx_syntax.specs.declared.kinds.Kind.TheVariants as k
 use Rattle.fx_syntax.specs.declared.kinds.Token.{Token}
 use Rattle.fx_syntax.specs.declared.kinds.Token.TheVariants as token
@@ -70,6 +76,10 @@ abbrev pub AreFine : List Word → Type 0
 AreFine [] = Unit {0}
 AreFine (word ∷ words) = IsFine word × AreFine words
 
+abbrev pub AreNames : List (List ℕ) → Type 0
+AreNames [] = Unit {0}
+AreNames (name ∷ names) = IsName name × AreNames names
+
 -- ---- triples
 
 abbrev pub IsPart : PatternTerm → Type 0
@@ -90,3 +100,18 @@ pub record IsTriple (p : Pattern) : Type 0 where
 abbrev pub AreTriples : List Pattern → Type 0
 AreTriples [] = Unit {0}
 AreTriples (p ∷ ps) = IsTriple p × AreTriples ps
+
+-- the query of one pattern: its variables are the columns, each once, and the pattern is the group
+abbrev pub pattern_query : Pattern → Query
+pattern_query p = record {
+  form = form.Select false (once (pattern_names p));
+  group = roll-Group (record { elements = element.Triple p ∷ [] });
+  order = [];
+  offset = 0;
+  limit = None;
+  inline = None;
+}
+
+-- the law: the printed query of a pattern is accepted as that query
+abbrev pub PatternQueryIsAccepted : Type 0
+PatternQueryIsAccepted = (p : Pattern) → IsTriple p → IsQueryText (printed_query (pattern_query p)) (pattern_query p)

@@ -1,6 +1,7 @@
 //! Laws of the definitions, each the contract of a function that does nothing.
 ghost use Rattle.fx_syntax.specs.Accepted.{OneQuery};
 ghost use Rattle.fx_syntax.specs.Grammar as grammar;
+ghost use Rattle.fx_syntax.specs.Printable.{PatternQueryIsAccepted};
 ghost use Rattle.fx_syntax.specs.Rule.{ReadAsSpelled, RefusedForGood};
 
 /// A text is accepted as one query at most.
@@ -16,4 +17,9 @@ pub fn grammar_is_read_as_spelled()
 /// Where the grammar refuses a token, no query begins with the tokens up to and with it.
 pub fn grammar_refuses_for_good()
     ensures { RefusedForGood grammar.query }
+{}
+
+/// The printed query of a triple pattern, whose names, IRIs and literals are those of their types, is accepted as that query.
+pub fn pattern_query_is_accepted()
+    ensures { PatternQueryIsAccepted }
 {}

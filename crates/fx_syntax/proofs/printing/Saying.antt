@@ -74,6 +74,13 @@ pub joined_says : (words : List Word) → AreFine words → SaysAll (joined word
 joined_says [] h = nothing refl refl
 joined_says (w ∷ words) h = word_says w (spaced words) (said words) h.0 (spaced_end words) (spaced_says words h.1)
 
+pub fine_both : (xs ys : List Word) → AreFine xs → AreFine ys → AreFine (xs ++ ys)
+fine_both [] ys h g = g
+fine_both (x ∷ xs) ys h g = (h.0, fine_both xs ys h.1 g)
+
+pub said_both : (xs ys : List Word) → said (xs ++ ys) ≡ said xs ++ said ys
+said_both xs ys = flat_map-append word_tokens xs ys
+
 -- printed words, in UTF-8, read as tokens that say what the words say
 pub words_lexed : (words : List Word) → AreFine words → Lexed [] (joined words) (said words)
 words_lexed words h = lexes (joined words) (said words) (joined_says words h) []

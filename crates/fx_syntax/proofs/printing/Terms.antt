@@ -1,7 +1,7 @@
 -- Printed terms and triples are spelled by their tokens.
 use Rattle.std.proofs.Common.{◌≡◌, ℕ, ◌<◌, Bool, true, false, not, cond, List, [], ◌∷◌, ◌++◌, length, map, Option, Some, None, is_some, Ok, Err, refl, sym, ap, ◌∙◌, subst, arith, append_assoc, append-nil, inl, inr}
 use Rattle.std.specs.Prelude.{◌==◌}
-use Rattle.std.specs.List.{flat_map}
+use Rattle.std.specs.List.{flat_map, list_all}
 use Rattle.std.specs.Str.{bytes_eq}
 use Rattle.std.specs.Char.{to_ascii_lowercase}
 use Rattle.std.specs.Cmp.Lexicographic.{same_text}
@@ -17,11 +17,12 @@ use Rattle.fx_terms.specs.declared.patterns.PatternTerm.TheVariants.{Variable, C
 use Rattle.fx_algebra.specs.Printed.{Word, fixed, part_word, pattern_words}
 use Rattle.fx_syntax.specs.Rule.{Rule, token}
 use Rattle.fx_syntax.specs.Grammar.{Prefixes, iri_name, datatype, datatype_in, no_call, no_path, literal, text_suffix, annotated, tagged, typed, variable, graph_term, part_literal, verb, verb_iri, objects, property, more_properties, properties, same_subject, dot, dot_triples, more_triples, triples, option_items, triples_of}
-use Rattle.fx_syntax.specs.Printable.{word_tokens, term_tokens, suffix_tokens, said, IsPart, IsVerb, IsTriple, AreTriples}
+use Rattle.fx_syntax.specs.Printable.{IsFine, AreFine, word_tokens, term_tokens, suffix_tokens, said, IsPart, IsVerb, IsTriple, AreTriples}
 use Rattle.fx_syntax.specs.declared.kinds.Kind.TheVariants as k
 use Rattle.fx_syntax.specs.declared.kinds.Token.{Token}
 use Rattle.fx_syntax.specs.declared.kinds.Token.TheVariants as token_of
 use Rattle.fx_syntax.specs.declared.parts.Annotation.TheVariants as annotation
+use Rattle.fx_syntax.proofs.printing.Placing.{is_calm, calm_both}
 use Rattle.fx_syntax.proofs.printing.Spelling.{mark_said, seq_said, after_said, before_said, alone_said}
 
 -- ---- literals
@@ -57,6 +58,42 @@ literal_said kinds d l h = go (length l.tag == 0) refl (bytes_eq l.datatype xsd_
         let other : bytes_eq l.datatype lang_string ≡ true = not_back_too _ (sym e ∙ h.fits) in
         inl ((l.form, Some (annotation.Tag l.tag)), (token_of.Text l.form ∷ [], token_of.Tag l.tag ∷ [], refl, (token_of.Text l.form, refl, refl, refl),
           inl (l.tag, (token_of.Tag l.tag, refl, refl, rw t.tag refl), refl)), same_parts l lang_string (map to_ascii_lowercase l.tag) (same_text l.datatype lang_string (sym other)) (sym t.lower))
+
+-- ---- as words
+
+pub verb_part : (p : PatternTerm) → IsVerb p → IsPart p
+verb_part (Variable name) h = h
+verb_part (Constant (Iri a)) h = h
+verb_part (Constant (Literal l)) h = absurd h
+
+pub fine_part : (p : PatternTerm) → IsPart p → IsFine (part_word p)
+fine_part (Variable name) h = h
+fine_part (Constant t) h = h
+
+pub fine_triple : (p : Pattern) → IsTriple p → AreFine (pattern_words p)
+fine_triple p h = (fine_part p.subject h.subject, (fine_part p.predicate (verb_part p.predicate h.predicate), (fine_part p.object h.object, (inl refl, tt))))
+
+calm_suffix : (l : LiteralParts) → list_all is_calm (suffix_tokens l) ≡ true
+calm_suffix l = go (length l.tag == 0) (bytes_eq l.datatype xsd_string)
+  where
+    go : (a b : Bool) → list_all is_calm (cond a (cond b [] (token_of.Plain k.CaretCaret ∷ token_of.Iri l.datatype ∷ [])) (token_of.Tag l.tag ∷ [])) ≡ true
+    go true true = refl
+    go true false = refl
+    go false b = refl
+
+pub calm_term : (t : Term) → list_all is_calm (term_tokens t) ≡ true
+calm_term (Iri a) = refl
+calm_term (Literal l) = calm_suffix l
+
+pub calm_part : (p : PatternTerm) → list_all is_calm (word_tokens (part_word p)) ≡ true
+calm_part (Variable name) = refl
+calm_part (Constant t) = calm_term t
+
+pub calm_triple : (p : Pattern) → list_all is_calm (said (pattern_words p)) ≡ true
+calm_triple p =
+    calm_both (word_tokens (part_word p.subject)) (word_tokens (part_word p.predicate) ++ (word_tokens (part_word p.object) ++ token_of.Plain k.Dot ∷ [])) (calm_part p.subject)
+    (calm_both (word_tokens (part_word p.predicate)) (word_tokens (part_word p.object) ++ token_of.Plain k.Dot ∷ []) (calm_part p.predicate)
+    (calm_both (word_tokens (part_word p.object)) (token_of.Plain k.Dot ∷ []) (calm_part p.object) refl))
 
 module _ (ps : Prefixes) where
   pub iri_said : (iri : List ℕ) → (iri_name ps).spells (token_of.Iri iri ∷ []) iri
@@ -128,3 +165,8 @@ module _ (ps : Prefixes) where
   pub triples_said : (p : Pattern) (more : List Pattern) → IsTriple p → AreTriples more → (triples ps).spells (triple_tokens p ++ behind_triple more) (p ∷ more)
   unfolding triples
   triples_said p more h g = ((p ∷ [], rest_of more), (triple_tokens p, behind_triple more, refl, triple_said p h, rest_said more g), ap (λ (v : List Pattern). p ∷ v) (sym (rest_items more)))
+
+-- the tokens of a run are what its words say
+pub run_is : (ps : Prefixes) (p : Pattern) (more : List Pattern) → flat_map (λ (q : Pattern). said (pattern_words q)) (p ∷ more) ≡ triple_tokens ps p ++ behind_triple ps more
+run_is ps p [] = simp append_assoc
+run_is ps p (q ∷ more) = ap (λ (v : List Token). said (pattern_words p) ++ v) (run_is ps q more) ∙ simp append_assoc
