@@ -323,8 +323,14 @@ fn an_answer_is_ordered_projected_distinct_and_cut(rt: HostRuntime) -> Result<()
         (false, 0, Some(2), "x=x:1;x=x:2;"),
     ] {
         let form = form_of(rt.alloc(), is_distinct).ok_or("no form")?;
-        let text = answered(rt.alloc(), form, offset, limit, "x=x:1 k='3;x=x:2 k='2;x=x:1 k='1;")
-            .ok_or("no answer")?;
+        let text = answered(
+            rt.alloc(),
+            form,
+            offset,
+            limit,
+            "x=x:1 k='3;x=x:2 k='2;x=x:1 k='1;",
+        )
+        .ok_or("no answer")?;
         assert_eq!(rt; text.as_str(), want, "{is_distinct} {offset}");
     }
     Ok(())
