@@ -1,17 +1,18 @@
 -- Which texts are which query.
-use Rattle.std.specs.Prelude.{◌≡◌, ℕ, List}
-use Rattle.std.specs.Str.{IsUtf8}
+use Rattle.std.specs.Prelude.{◌≡◌, ℕ, List, Ok}
+use Rattle.std.specs.Str.{chars, IsUtf8}
+use Rattle.fx_tokens.specs.Reads.{Reads}
+use Rattle.fx_tokens.specs.declared.Token as read
 use Rattle.fx_algebra.specs.declared.queries.Query.{Query}
-use Rattle.fx_syntax.specs.declared.words.Word.{Word}
-use Rattle.fx_syntax.specs.Words.{texts_of, AreWords}
-use Rattle.fx_syntax.specs.FirstForm.{SpellsQuery}
+use Rattle.fx_syntax.specs.Classified.{classified}
+use Rattle.fx_syntax.specs.Grammar.{query}
 
--- the bytes are UTF-8, and their words are the query
+-- the bytes are UTF-8 that reads as tokens, and what these say spells the query
 pub record Accepted (bytes : List ℕ) (q : Query) : Type 0 where
   pub utf8 : IsUtf8 bytes
-  pub words : List Word
-  pub read : AreWords (texts_of bytes) words
-  pub spelled : SpellsQuery words q
+  pub tokens : List read.Token
+  pub lexed : Reads 0 (chars bytes) (Ok tokens)
+  pub spelled : query.spells (classified bytes tokens) q
 
 -- the law: no bytes are accepted as two queries
 abbrev pub OneQuery : Type 0

@@ -1,27 +1,45 @@
--- What an answer says where want of memory, and nothing else, is free.
-use Rattle.std.specs.Prelude.{◌≡◌, Result, Ok, Err, List, Option, Some, None}
-use Rattle.std.specs.declared.vec.Vec.{Vec}
-use Rattle.std.specs.declared.alloc.Global.{Global}
-use Rattle.std.specs.Borrow.{Bor}
-use Rattle.fx_terms.specs.declared.patterns.Pattern.{Pattern}
-use Rattle.fx_syntax.specs.declared.words.Word.{Word}
-use Rattle.fx_syntax.specs.declared.words.FirstError.{FirstError}
-use Rattle.fx_syntax.specs.declared.words.FirstError.TheVariants.{NotFirst, Memory}
+-- What private functions answer on the way from a text to its query.
+use Rattle.std.specs.Prelude.{◌≡◌, ◌⊎◌, ℕ, ◌≤◌, List, [], Result, Ok, Err, IfOk, IfErr, MatchResult}
+use Rattle.fx_tokens.specs.declared.Token as read
+use Rattle.fx_tokens.specs.declared.TokenError.{TokenError}
+use Rattle.fx_tokens.specs.declared.TokenError.TheVariants.{Bad, Memory as NoMemory}
+use Rattle.fx_algebra.specs.declared.queries.Query.{Query}
+use Rattle.fx_syntax.specs.Accepted.{Accepted}
+use Rattle.fx_syntax.specs.Classified.{classified}
+use Rattle.fx_syntax.specs.Grammar.{query}
+use Rattle.fx_syntax.specs.Refused.{IsRefused, IsCause, place_of}
+use Rattle.fx_syntax.specs.Rule.{Refusal, read_whole}
+use Rattle.fx_syntax.specs.declared.kinds.SyntaxKind.{SyntaxKind}
+use Rattle.fx_syntax.specs.declared.kinds.SyntaxKind.TheVariants.{BadToken}
+use Rattle.fx_syntax.specs.declared.kinds.Fault.{Fault}
+use Rattle.fx_syntax.specs.declared.kinds.Fault.TheVariants as fault
+use Rattle.fx_syntax.specs.declared.parsing.SyntaxError.{SyntaxError}
+use Rattle.fx_syntax.specs.declared.parsing.SyntaxError.TheVariants.{Refused, Memory}
 
--- unless memory ran out, an answer is the value that there is
-abbrev pub Gives : {X : Type 0} → Result X FirstError → Option X → Type 0
-Gives (Ok x) wanted = wanted ≡ Some x
-Gives (Err NotFirst) wanted = wanted ≡ None
-Gives (Err Memory) wanted = Unit {0}
+-- unless memory ran out, the answer is a query, or a refusal, exactly where the text is or is refused so
+pub record IsAnswer (bytes : List ℕ) (result : Result Query SyntaxError) : Type 0 where
+  pub found : IfOk result (Accepted bytes)
+  pub only : (q : Query) → Accepted bytes q → MatchResult result (λ r. r ≡ q) (λ e. e ≡ Memory)
+  pub refused : IfErr result (IsCause bytes)
+  pub first : (kind : SyntaxKind) (place : ℕ) → IsRefused bytes kind place → MatchResult result (λ q. ⊥) (λ e. (e ≡ Memory) ⊎ (e ≡ Refused kind place))
 
--- unless memory ran out, an answer is the list that there is
-abbrev pub GivesItems : {X : Type 0} → Result (Vec X Global) FirstError → Option (List X) → Type 0
-GivesItems (Ok v) wanted = wanted ≡ Some v.items
-GivesItems (Err NotFirst) wanted = wanted ≡ None
-GivesItems (Err Memory) wanted = Unit {0}
+-- where no token stands
+abbrev pub bad_token : TokenError → SyntaxError
+bad_token (Bad place fault) = Refused BadToken place
+bad_token NoMemory = Memory
 
--- unless memory ran out, an answer is the value that there is, and the words behind it
-abbrev pub GivesNext : Result (Pattern × Bor (List Word)) FirstError → Option (Pattern × List Word) → Type 0
-GivesNext (Ok x) wanted = wanted ≡ Some (x.0, x.1.now)
-GivesNext (Err NotFirst) wanted = wanted ≡ None
-GivesNext (Err Memory) wanted = Unit {0}
+-- where the grammar refuses the tokens of a text
+abbrev pub fault_at : List ℕ → List read.Token → Fault → SyntaxError
+fault_at bytes tokens (fault.Refused why left) = Refused why (place_of bytes tokens left)
+fault_at bytes tokens fault.Memory = Memory
+
+-- it stands at one of so many tokens, or behind them
+abbrev pub StandsWithin : ℕ → Fault → Type 0
+StandsWithin n (fault.Refused why left) = left ≤ n
+StandsWithin n fault.Memory = Unit {0}
+
+-- the answer is what the grammar reads
+abbrev pub AnswersTokens : List ℕ → List read.Token → Result Query SyntaxError → Type 0
+AnswersTokens bytes tokens (Ok q) = read_whole query (classified bytes tokens) ≡ Ok (q, [])
+AnswersTokens bytes tokens (Err (Refused kind place)) = (refusal : Refusal) × (read_whole query (classified bytes tokens) ≡ Err refusal) × (kind ≡ refusal.why) × (place ≡ place_of bytes tokens refusal.left)
+AnswersTokens bytes tokens (Err Memory) = Unit {0}

@@ -1,12 +1,9 @@
 pub mod Accepted
 pub mod Answers
 pub mod Classified
-pub mod FirstForm
 pub mod Grammar
 pub mod Keywords
 pub mod Kinds
 pub mod Printable
-pub mod Reading
+pub mod Refused
 pub mod Rule
-pub mod Whole
-pub mod Words

@@ -20,7 +20,7 @@ use Rattle.fx_algebra.specs.declared.queries.Group.{roll-Group}
 use Rattle.fx_algebra.specs.declared.queries.Form.TheVariants as form
 use Rattle.fx_algebra.specs.declared.queries.Query.{Query}
 use Rattle.fx_syntax.specs.Keywords as keywords
-use Rattle.fx_syntax.specs.Whole.{IsQueryText}
+use Rattle.fx_syntax.specs.Accepted.{Accepted}
 use Rattle.fx_syntax.specs.declared.kinds.Kind.TheVariants as k
 use Rattle.fx_syntax.specs.declared.kinds.Token.{Token}
 use Rattle.fx_syntax.specs.declared.kinds.Token.TheVariants as token
@@ -114,4 +114,4 @@ pattern_query p = record {
 
 -- the law: the printed query of a pattern is accepted as that query
 abbrev pub PatternQueryIsAccepted : Type 0
-PatternQueryIsAccepted = (p : Pattern) → IsTriple p → IsQueryText (printed_query (pattern_query p)) (pattern_query p)
+PatternQueryIsAccepted = (p : Pattern) → IsTriple p → Accepted (printed_query (pattern_query p)) (pattern_query p)

@@ -1,6 +1,7 @@
 //! Tokens, as the grammar sees them.
 ghost use Rattle.std.specs.Prelude.{◌≡◌, IfOk};
 ghost use Rattle.fx_syntax.specs.Kinds as spec;
+ghost use Rattle.fx_syntax.specs.Refused as refused;
 
 use fx_algebra::{Compare, Function};
 use fx_terms::{Iri, Memory, Name};
@@ -246,6 +247,30 @@ pub enum SyntaxKind {
     Unsupported,
     /// At any other token that may not stand where it stands, or at the end of a text that ends too early.
     Unexpected,
+}
+
+impl SyntaxKind {
+    /// The kind's name, as `Unexpected`.
+    pub fn name(&self) -> &'static str
+        ensures { result.now ≡ refused.kind_name self.now }
+    {
+        match self {
+            SyntaxKind::BadUtf8 => "BadUtf8",
+            SyntaxKind::BadToken => "BadToken",
+            SyntaxKind::TooDeep => "TooDeep",
+            SyntaxKind::UnknownPrefix => "UnknownPrefix",
+            SyntaxKind::RelativeIri => "RelativeIri",
+            SyntaxKind::BlankNode => "BlankNode",
+            SyntaxKind::Decimal => "Decimal",
+            SyntaxKind::BadLiteral => "BadLiteral",
+            SyntaxKind::BindInScope => "BindInScope",
+            SyntaxKind::ValuesWidth => "ValuesWidth",
+            SyntaxKind::RepeatedName => "RepeatedName",
+            SyntaxKind::NumberTooWide => "NumberTooWide",
+            SyntaxKind::Unsupported => "Unsupported",
+            SyntaxKind::Unexpected => "Unexpected",
+        }
+    }
 }
 
 /// A refusal, with the number of tokens from its place on; or want of memory.

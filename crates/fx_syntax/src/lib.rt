@@ -1,26 +1,24 @@
-//! The texts of queries. For now it reads the first form: `SELECT`, `*` or variables, `WHERE`, and triples of variables and
-//! IRIs in braces, each word apart.
+//! The texts of queries (SPARQL 1.1 section 19.8, in this project's profile).
+//!
+//! The grammar stands in `specs/Grammar.antt`, a rule for each production, which says what tokens spell and how they are read.
+//! `parse` reads a text exactly where it is accepted, and else refuses it with its reason at its place.
 #![tactic(auto)]
 
 pub mod classify;
 pub mod expressions;
-mod forms;
 pub mod groups;
 pub mod keywords;
 pub mod kinds;
 pub mod laws;
+pub mod parsing;
 pub mod parts;
 pub mod queries;
 pub mod readers;
 pub mod triples;
 pub mod values;
-pub mod whole;
-pub mod words;
 
-pub use forms::parse;
-pub use words::FirstError;
+pub use kinds::SyntaxKind;
+pub use parsing::{SyntaxError, parse};
 
 #[cfg(test)]
 mod tests;
-#[cfg(test)]
-mod whole_tests;

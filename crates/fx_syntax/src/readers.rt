@@ -12,7 +12,7 @@ ghost use Rattle.fx_syntax.specs.Grammar as grammar;
 use crate::kinds::{Fault, Kind, SyntaxKind, Text, Token, is};
 use crate::parts::Annotation;
 use fx_algebra::{Compare, Function};
-use fx_terms::{Iri, Literal, LiteralError, Memory, Name, Term, TermError};
+use fx_terms::{Iri, Literal, LiteralError, Memory, Name, Term, TermError, is_tag};
 use std::alloc::{AllocError, Global};
 
 /// The next token is of this kind.
@@ -245,24 +245,13 @@ fn text(tokens: &[Token]) -> Result<(&Text, &[Token]), Fault>
     }
 }
 
-/// Whether a literal may have a text as its language tag.
-fn is_tag(alloc: Global, text: &Text) -> Result<bool, Memory>
-    ensures { IfOk result (λ b. b ≡ is_tag text.now) }
-{
-    match Literal::tagged(alloc, "", text.as_str()) {
-        Ok(_) => Ok(true),
-        Err(LiteralError::Memory) => Err(Memory),
-        Err(_) => Ok(false),
-    }
-}
-
-fn tag(alloc: Global, tokens: &[Token]) -> Result<(Text, &[Token]), Fault>
+fn tag(tokens: &[Token]) -> Result<(Text, &[Token]), Fault>
     ensures reads { Gives (λ x. (x.0, x.1.now)) result ((rule.one (kinds.is Kind.Tag) grammar.tag_of).read tokens.now) }
     ensures tag { IfOk result (λ x. is_tag x.0 ≡ true) }
 {
     match tokens {
         [Token::Tag(tag), rest @ ..] => {
-            if is_tag(alloc, tag)? {
+            if is_tag(tag.as_str()) {
                 Ok((tag.copy()?, rest))
             } else {
                 Err(refuse(SyntaxKind::Unexpected, tokens))
@@ -284,7 +273,7 @@ fn text_suffix<'a>(
     ensures is { IfOk result (λ x. grammar.IsAnnotation x.0) }
 {
     if sees(tokens, Kind::Tag) {
-        let (tag, rest) = tag(alloc, tokens)?;
+        let (tag, rest) = tag(tokens)?;
         return Ok((Some(Annotation::Tag(tag)), rest));
     }
     if sees(tokens, Kind::CaretCaret) {

@@ -5,7 +5,7 @@ use Rattle.fx_algebra.specs.Printed.{Word, joined}
 use Rattle.fx_algebra.specs.declared.queries.Query.{Query}
 use Rattle.fx_syntax.specs.Classified.{all_placed, outermost}
 use Rattle.fx_syntax.specs.Grammar.{query}
-use Rattle.fx_syntax.specs.Whole.{IsQueryText}
+use Rattle.fx_syntax.specs.Accepted.{Accepted}
 use Rattle.fx_syntax.specs.Printable.{AreFine, said}
 use Rattle.fx_syntax.specs.declared.kinds.Token.{Token}
 use Rattle.fx_syntax.proofs.printing.Saying.{words_lexed}
@@ -19,7 +19,7 @@ placed_all : (tokens : List Token) → Passes true 64 tokens → all_placed oute
 placed_all tokens p =
     ap (all_placed outermost) (sym (append-nil tokens)) ∙ p outermost [] tt refl (omega arith) ∙ ap (λ v. tokens ++ v) none_placed ∙ append-nil tokens
 
-pub accepted_so : (words : List Word) (q : Query) → AreFine words → Passes true 64 (said words) → query.spells (said words) q → IsQueryText (joined words) q
+pub accepted_so : (words : List Word) (q : Query) → AreFine words → Passes true 64 (said words) → query.spells (said words) q → Accepted (joined words) q
 accepted_so words q f p s =
     let l = words_lexed words f in
     record {

@@ -16,7 +16,7 @@ use Rattle.fx_syntax.specs.Grammar as grammar
 use Rattle.fx_syntax.specs.Rule.{Rule, nested}
 use Rattle.fx_algebra.specs.declared.queries.Form.TheVariants as form
 use Rattle.fx_syntax.specs.declared.parts.Main.{Main}
-use Rattle.fx_syntax.specs.Whole.{IsQueryText}
+use Rattle.fx_syntax.specs.Accepted.{Accepted}
 use Rattle.fx_syntax.specs.Printable.{AreFine, IsFine, IsPart, IsVerb, IsTriple, AreNames, said, word_tokens, pattern_query, PatternQueryIsAccepted}
 use Rattle.fx_syntax.specs.declared.kinds.Kind.TheVariants as k
 use Rattle.fx_syntax.specs.declared.kinds.Token.{Token}
@@ -142,5 +142,5 @@ module _ (p : Pattern) where
 
 pub pattern_query_is_accepted : PatternQueryIsAccepted
 pattern_query_is_accepted p h =
-    subst (λ (v : List Word). IsQueryText (joined v) (pattern_query p)) (sym (words_are p))
+    subst (λ (v : List Word). Accepted (joined v) (pattern_query p)) (sym (words_are p))
     (accepted_so (words p) (pattern_query p) (fine p h) (subst (Passes true 64) (sym (tokens_are p)) (passes p)) (subst (λ (v : List Token). grammar.query.spells v (pattern_query p)) (sym (tokens_are p)) (spelled p h)))

@@ -1,5 +1,5 @@
-use Rattle.fx_syntax.proofs.WholeLaws.{same_text, utf8_answered}
-use Rattle.fx_syntax.proofs.whole.parse_bytes.Goals as goal
+use Rattle.fx_syntax.proofs.ParsingLaws.{same_text, utf8_answered}
+use Rattle.fx_syntax.proofs.parsing.parse_bytes.Goals as goal
 
 pub returns-in-Ok : goal.returns-in-Ok
 returns-in-Ok c = same_text _ c.args.bytes.now _ c.in-Ok.ensures.cases.0 c.parse_text.ensures

@@ -6,7 +6,9 @@ ghost use Rattle.std.specs.Str.Lossy.{utf8_valid_len, utf8_error_len};
 ghost use Rattle.fx_algebra.specs.declared.queries.Query.{Query as QueryTree};
 ghost use Rattle.fx_tokens.specs.Reads.{IsSlice};
 ghost use Rattle.fx_syntax.specs.declared.kinds.SyntaxKind.{SyntaxKind as Kind};
-ghost use Rattle.fx_syntax.specs.Whole as spec;
+ghost use Rattle.fx_syntax.specs.Accepted.{Accepted};
+ghost use Rattle.fx_syntax.specs.Answers as answers;
+ghost use Rattle.fx_syntax.specs.Refused as spec;
 
 use crate::classify::classify;
 use crate::kinds::{Fault, SyntaxKind};
@@ -29,7 +31,7 @@ pub enum SyntaxError {
 
 impl From<Memory> for SyntaxError {
     ghost use Rattle.std.specs.Prelude.{◌≡◌};
-    ghost use Rattle.fx_syntax.specs.declared.whole.SyntaxError.TheVariants.{Memory as NoMemory};
+    ghost use Rattle.fx_syntax.specs.declared.parsing.SyntaxError.TheVariants.{Memory as NoMemory};
 
     ghost from_gives = { λ _ e. e ≡ NoMemory };
 
@@ -44,12 +46,12 @@ impl From<Memory> for SyntaxError {
 /// at which the grammar stops, or at the text's end; where several reasons hold of a token, `TooDeep` comes before
 /// `UnknownPrefix`, `RelativeIri`, `BlankNode`, `Decimal`, `BadLiteral`, `BindInScope`, `ValuesWidth`, `RepeatedName`,
 /// `NumberTooWide`, `Unsupported` and `Unexpected`, in this order.
-pub fn parse_query(alloc: Global, bytes: &[u8]) -> Result<Query, SyntaxError>
+pub fn parse(alloc: Global, bytes: &[u8]) -> Result<Query, SyntaxError>
     // What is read is what the text spells.
-    ensures found { IfOk result (spec.IsQueryText bytes.now) }
+    ensures found { IfOk result (Accepted bytes.now) }
 
     // A text that spells a query is read, as this query and no other, unless memory runs out.
-    ensures only { (q : QueryTree) → spec.IsQueryText bytes.now q → MatchResult result (λ r. r ≡ q) (λ e. e ≡ SyntaxError.Memory) }
+    ensures only { (q : QueryTree) → Accepted bytes.now q → MatchResult result (λ r. r ≡ q) (λ e. e ≡ SyntaxError.Memory) }
 
     // A refusal has its reason and its place.
     ensures refused { IfErr result (spec.IsCause bytes.now) }
@@ -61,7 +63,7 @@ pub fn parse_query(alloc: Global, bytes: &[u8]) -> Result<Query, SyntaxError>
 }
 
 fn parse_bytes(alloc: Global, bytes: &[u8]) -> Result<Query, SyntaxError>
-    ensures { spec.IsAnswer bytes.now result }
+    ensures { answers.IsAnswer bytes.now result }
 {
     match str::from_utf8(bytes) {
         Ok(text) => parse_text(alloc, text),
@@ -95,7 +97,7 @@ fn utf8_place(bytes: &[u8], error: &Utf8Error) -> usize
 }
 
 fn parse_text(alloc: Global, text: &str) -> Result<Query, SyntaxError>
-    ensures { spec.IsAnswer text.now result }
+    ensures { answers.IsAnswer text.now result }
 {
     match tokens(alloc, text) {
         Ok(read) => parse_tokens(alloc, text, read.as_slice()),
@@ -104,7 +106,7 @@ fn parse_text(alloc: Global, text: &str) -> Result<Query, SyntaxError>
 }
 
 fn bad_token(error: TokenError) -> SyntaxError
-    ensures { result ≡ spec.bad_token error }
+    ensures { result ≡ answers.bad_token error }
 {
     match error {
         TokenError::Bad { place, fault: _ } => SyntaxError::Refused {
@@ -117,7 +119,7 @@ fn bad_token(error: TokenError) -> SyntaxError
 
 fn parse_tokens(alloc: Global, text: &str, read: &[Token]) -> Result<Query, SyntaxError>
     requires { All (IsSlice text.now) read.now }
-    ensures { spec.AnswersTokens text.now read.now result }
+    ensures { answers.AnswersTokens text.now read.now result }
 {
     let said = classify(alloc, text, read)?;
     match whole_query(alloc, said.as_slice()) {
@@ -127,8 +129,8 @@ fn parse_tokens(alloc: Global, text: &str, read: &[Token]) -> Result<Query, Synt
 }
 
 fn fault_at(text: &str, read: &[Token], fault: Fault) -> SyntaxError
-    requires { spec.StandsWithin (length read.now) fault }
-    ensures { result ≡ spec.fault_at text.now read.now fault }
+    requires { answers.StandsWithin (length read.now) fault }
+    ensures { result ≡ answers.fault_at text.now read.now fault }
 {
     match fault {
         Fault::Refused { why, left } => SyntaxError::Refused {

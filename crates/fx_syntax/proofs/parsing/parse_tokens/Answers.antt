@@ -2,8 +2,8 @@ use Rattle.std.proofs.Common.{List, ◌∙◌, subst}
 use Rattle.fx_syntax.specs.declared.kinds.Token.{Token}
 use Rattle.fx_syntax.specs.Grammar.{query}
 use Rattle.fx_syntax.specs.Rule.{IsRefusal, read_whole}
-use Rattle.fx_syntax.proofs.WholeLaws.{stands_within, fault_answers}
-use Rattle.fx_syntax.proofs.whole.parse_tokens.Goals as goal
+use Rattle.fx_syntax.proofs.ParsingLaws.{stands_within, fault_answers}
+use Rattle.fx_syntax.proofs.parsing.parse_tokens.Goals as goal
 
 pub fault_at-requires : goal.fault_at-requires
 fault_at-requires c =

@@ -1,8 +1,8 @@
 use Rattle.std.proofs.Common.{List, subst}
 use Rattle.fx_tokens.specs.declared.Token as read
-use Rattle.fx_syntax.specs.Whole.{AnswersTokens}
-use Rattle.fx_syntax.proofs.WholeLaws.{tokens_answered, error_answered}
-use Rattle.fx_syntax.proofs.whole.parse_text.Goals as goal
+use Rattle.fx_syntax.specs.Answers.{AnswersTokens}
+use Rattle.fx_syntax.proofs.ParsingLaws.{tokens_answered, error_answered}
+use Rattle.fx_syntax.proofs.parsing.parse_text.Goals as goal
 
 pub returns-in-Ok : goal.returns-in-Ok
 returns-in-Ok c =
