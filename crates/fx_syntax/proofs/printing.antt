@@ -10,3 +10,7 @@ pub mod Placing
 pub mod Accepting
 pub mod Columns
 pub mod PatternQuery
+pub mod Expressions
+pub mod Blocks
+pub mod Groups
+pub mod Queries

@@ -1,5 +1,5 @@
 -- What the words of a printed query say, as tokens.
-use Rattle.std.specs.Prelude.{◌≡◌, ◌<◌, ◌^◌, ◌==◌, ◌⊎◌, ℕ, true, if◌then◌else◌, List, [], ◌∷◌, codes, length, None, false}
+use Rattle.std.specs.Prelude.{◌≡◌, ◌<◌, ◌^◌, ◌==◌, ◌⊎◌, ℕ, true, if◌then◌else◌, List, [], ◌∷◌, codes, length, None, false, Bool, not, ◌&&◌, ◌||◌, ◌++◌, ◌≤◌, max, suc, nat_le, map, fold, Option, Some}
 use Rattle.std.specs.List.{flat_map, list_any}
 use Rattle.std.specs.Str.{bytes_eq}
 use Rattle.std.specs.Fmt.{decimal}
@@ -13,10 +13,19 @@ use Rattle.fx_terms.specs.declared.patterns.Pattern.{Pattern}
 use Rattle.fx_terms.specs.declared.patterns.PatternTerm.{PatternTerm}
 use Rattle.fx_terms.specs.declared.patterns.PatternTerm.TheVariants as part
 use Rattle.fx_tokens.specs.Classes.{is_letter}
-use Rattle.fx_algebra.specs.Printed.{Word, fixed, variable, term, number, printed_query}
-use Rattle.fx_algebra.specs.Scopes.{once, pattern_names}
+use Rattle.fx_algebra.specs.Printed.{Word, fixed, variable, term, number, printed_query, query_words as query_words_of, is_call, Level, disjunction, conjunction, relation, sum, product, unary, named, constant, called, rank, is_variable}
+use Rattle.fx_algebra.specs.declared.expressions.Expr.{Expr, Expr-F, fold-Expr}
+use Rattle.fx_algebra.specs.declared.expressions.Sign.{Sign}
+use Rattle.fx_algebra.specs.declared.expressions.Function.{Function}
+use Rattle.fx_algebra.specs.declared.expressions.Function.TheVariants as function
+use Rattle.fx_algebra.specs.Scopes.{once, pattern_names, is_among, with_name, all_of, scope}
+use Rattle.fx_algebra.specs.declared.queries.Element.{Element, Element-F, fold-Element}
 use Rattle.fx_algebra.specs.declared.queries.Element.TheVariants as element
-use Rattle.fx_algebra.specs.declared.queries.Group.{roll-Group}
+use Rattle.fx_algebra.specs.declared.queries.Inline.{Inline}
+use Rattle.fx_algebra.specs.declared.queries.Order.{Order}
+use Rattle.fx_algebra.specs.declared.queries.Form.{Form}
+use Rattle.fx_syntax.specs.Grammar.{inline_columns}
+use Rattle.fx_algebra.specs.declared.queries.Group.{Group, Group-F, fold-Group, roll-Group}
 use Rattle.fx_algebra.specs.declared.queries.Form.TheVariants as form
 use Rattle.fx_algebra.specs.declared.queries.Query.{Query}
 use Rattle.fx_syntax.specs.Keywords as keywords
@@ -115,3 +124,217 @@ pattern_query p = record {
 -- the law: the printed query of a pattern is accepted as that query
 abbrev pub PatternQueryIsAccepted : Type 0
 PatternQueryIsAccepted = (p : Pattern) → IsTriple p → Accepted (printed_query (pattern_query p)) (pattern_query p)
+
+-- ---- expressions
+
+-- The production of a printed expression, how many brackets are open in it at once, and whether the grammar has it at all.
+pub record Measured : Type 0 where
+  pub level : Level
+  pub nest : ℕ
+  pub good : Bool
+
+-- how many are open in a place that reaches productions of a rank and above
+unfoldable pub placed : ℕ → Measured → ℕ
+placed place m = if nat_le place (rank m.level) then m.nest else suc m.nest
+
+-- the most in parts that stand in such a place
+abbrev pub most : ℕ → List Measured → ℕ
+most place [] = 0
+most place (m ∷ ms) = max (placed place m) (most place ms)
+
+abbrev pub most_signed : List (Sign × Measured) → ℕ
+most_signed [] = 0
+most_signed (m ∷ ms) = max (placed 4 m.1) (most_signed ms)
+
+abbrev pub all_good : List Measured → Bool
+all_good [] = true
+all_good (m ∷ ms) = m.good && all_good ms
+
+abbrev pub all_signed_good : List (Sign × Measured) → Bool
+all_signed_good [] = true
+all_signed_good (m ∷ ms) = m.1.good && all_signed_good ms
+
+abbrev pub is_some : {X : Type 0} → List X → Bool
+is_some [] = false
+is_some (x ∷ xs) = true
+
+-- two or more
+abbrev pub is_chain : {X : Type 0} → List X → Bool
+is_chain [] = false
+is_chain (x ∷ xs) = is_some xs
+
+abbrev pub is_one : {X : Type 0} → List X → Bool
+is_one [] = false
+is_one (x ∷ xs) = not (is_some xs)
+
+abbrev pub is_two : {X : Type 0} → List X → Bool
+is_two [] = false
+is_two (x ∷ xs) = is_one xs
+
+abbrev pub is_three : {X : Type 0} → List X → Bool
+is_three [] = false
+is_three (x ∷ xs) = is_two xs
+
+abbrev pub are_variables : List Measured → Bool
+are_variables [] = true
+are_variables (m ∷ ms) = is_variable m.level && are_variables ms
+
+-- a function has as many arguments as it takes; BOUND takes a variable
+abbrev pub takes : Function → List Measured → Bool
+takes function.Bound args = is_one args && are_variables args
+takes function.Coalesce args = true
+takes function.If args = is_three args
+takes function.LangMatches args = is_two args
+takes function.SameTerm args = is_two args
+takes function.Contains args = is_two args
+takes function.StrStarts args = is_two args
+takes function.StrEnds args = is_two args
+takes _ args = is_one args
+
+-- one level of an expression, with each part measured
+abbrev pub measure_step : Expr-F Measured → Measured
+measure_step (Expr-F.Variable name) = record { level = named; nest = 0; good = true }
+measure_step (Expr-F.Constant t) = record { level = constant; nest = 0; good = true }
+measure_step (Expr-F.Or parts) = record { level = disjunction; nest = most 1 parts; good = is_chain parts && all_good parts }
+measure_step (Expr-F.And parts) = record { level = conjunction; nest = most 2 parts; good = is_chain parts && all_good parts }
+measure_step (Expr-F.Not part) = record { level = unary; nest = placed 6 part; good = part.good }
+measure_step (Expr-F.Positive part) = record { level = unary; nest = placed 6 part; good = part.good }
+measure_step (Expr-F.Negative part) = record { level = unary; nest = placed 6 part; good = part.good }
+measure_step (Expr-F.Compare op left right) = record { level = relation; nest = max (placed 3 left) (placed 3 right); good = left.good && right.good }
+measure_step (Expr-F.Among negated item list) = record { level = relation; nest = max (placed 3 item) (suc (most 0 list)); good = item.good && all_good list }
+measure_step (Expr-F.Sum first rest) = record { level = sum; nest = max (placed 4 first) (most_signed rest); good = first.good && (is_some rest && all_signed_good rest) }
+measure_step (Expr-F.Product parts) = record { level = product; nest = most 5 parts; good = is_chain parts && all_good parts }
+measure_step (Expr-F.Call f args) = record { level = called; nest = suc (most 0 args); good = takes f args && all_good args }
+
+abbrev pub measured : Expr → Measured
+measured = fold-Expr Measured measure_step
+
+-- ---- VALUES
+
+-- names of which none stands before, nor among the names
+abbrev pub are_new : List (List ℕ) → List (List ℕ) → Bool
+are_new names [] = true
+are_new names (column ∷ columns) = not (is_among names column) && are_new (names ++ column ∷ []) columns
+
+abbrev pub are_wide : ℕ → List (List (Option Term)) → Bool
+are_wide width [] = true
+are_wide width (row ∷ rows) = length row == width && are_wide width rows
+
+-- each column stands once, and each row has a value or UNDEF for each
+abbrev pub is_block : Inline → Bool
+is_block inline = are_new [] inline.columns && are_wide (length inline.columns) inline.rows
+
+abbrev pub block_nest : Inline → ℕ
+block_nest inline = if is_some inline.rows then 2 else 1
+
+-- ---- groups
+
+-- How many brackets are open in a printed element or group at once, whether the grammar has it, whether a SERVICE is in it, the
+-- names that it binds, and that of a BIND.
+pub record Held : Type 0 where
+  pub nest : ℕ
+  pub good : Bool
+  pub serves : Bool
+  pub names : List (List ℕ)
+  pub binds : Option (List ℕ)
+
+abbrev pub most_held : List Held → ℕ
+most_held [] = 0
+most_held (h ∷ hs) = max h.nest (most_held hs)
+
+abbrev pub all_held : List Held → Bool
+all_held [] = true
+all_held (h ∷ hs) = h.good && all_held hs
+
+abbrev pub any_serves : List Held → Bool
+any_serves [] = false
+any_serves (h ∷ hs) = h.serves || any_serves hs
+
+abbrev pub held_names : List Held → List (List ℕ)
+held_names hs = all_of (map (λ h. h.names) hs)
+
+-- a condition stands in brackets, unless it is a call
+abbrev pub condition_nest : Measured → ℕ
+condition_nest m = if is_call m.level then m.nest else suc m.nest
+
+abbrev pub is_verb : PatternTerm → Bool
+is_verb (part.Variable name) = true
+is_verb (part.Constant (Iri a)) = true
+is_verb (part.Constant (Literal l)) = false
+
+-- the name of a BIND isn't in scope before it
+abbrev pub not_bound : List (List ℕ) → Option (List ℕ) → Bool
+not_bound names None = true
+not_bound names (Some name) = not (is_among names name)
+
+abbrev pub are_fresh : List (List ℕ) → List Held → Bool
+are_fresh names [] = true
+are_fresh names (h ∷ hs) = not_bound names h.binds && are_fresh (fold with_name names h.names) hs
+
+-- one element, with each group inside
+abbrev pub hold_element : Element-F Held Held → Held
+hold_element (Element-F.Triple p) = record { nest = 0; good = is_verb p.predicate; serves = false; names = pattern_names p; binds = None }
+hold_element (Element-F.Filter e) = record { nest = condition_nest (measured e); good = (measured e).good; serves = false; names = []; binds = None }
+hold_element (Element-F.Optional g) = record { nest = g.nest; good = g.good; serves = g.serves; names = g.names; binds = None }
+hold_element (Element-F.Union gs) = record { nest = most_held gs; good = is_some gs && all_held gs; serves = any_serves gs; names = held_names gs; binds = None }
+hold_element (Element-F.Minus g) = record { nest = g.nest; good = g.good; serves = g.serves; names = []; binds = None }
+hold_element (Element-F.Bind e name) = record { nest = suc (measured e).nest; good = (measured e).good; serves = false; names = name ∷ []; binds = Some name }
+hold_element (Element-F.Values inline) = record { nest = block_nest inline; good = is_block inline; serves = false; names = inline.columns; binds = None }
+hold_element (Element-F.Service silent iri g) = record { nest = g.nest; good = g.good && not g.serves; serves = true; names = g.names; binds = None }
+
+abbrev pub hold_group : Group-F Held Held → Held
+hold_group g = record { nest = suc (most_held g.elements); good = all_held g.elements && are_fresh [] g.elements; serves = any_serves g.elements; names = held_names g.elements; binds = None }
+
+abbrev pub held : Group → Held
+held = fold-Group Held Held hold_element hold_group
+
+abbrev pub held_element : Element → Held
+held_element = fold-Element Held Held hold_element hold_group
+
+-- ---- queries
+
+-- a condition of ORDER BY stands in brackets, unless it is ascending and a call or a variable
+abbrev pub key_nest : Order → ℕ
+key_nest key =
+    let m = measured key.expr in
+    if key.descending then suc m.nest else (if is_call m.level then m.nest else (if is_variable m.level then m.nest else suc m.nest))
+
+abbrev pub most_keys : List Order → ℕ
+most_keys [] = 0
+most_keys (key ∷ keys) = max (key_nest key) (most_keys keys)
+
+abbrev pub all_keys : List Order → Bool
+all_keys [] = true
+all_keys (key ∷ keys) = (measured key.expr).good && all_keys keys
+
+abbrev pub inline_nest : Option Inline → ℕ
+inline_nest None = 0
+inline_nest (Some inline) = block_nest inline
+
+abbrev pub is_inline : Option Inline → Bool
+is_inline None = true
+is_inline (Some inline) = is_block inline
+
+-- how many brackets a printed query has open at once
+abbrev pub brackets : Query → ℕ
+brackets q = max (held q.group).nest (max (most_keys q.order) (inline_nest q.inline))
+
+-- each column stands once; where there is none, the query has no names
+abbrev pub AreColumns : List (List ℕ) → Group → Option Inline → Type 0
+AreColumns columns g inline = (once columns ≡ columns) × (columns ≡ [] → once (scope g ++ inline_columns inline) ≡ [])
+
+abbrev pub IsForm : Form → Group → Option Inline → Type 0
+IsForm (form.Select distinct columns) g inline = AreColumns columns g inline
+IsForm form.Ask g inline = Unit {0}
+
+-- a query that the grammar has
+pub record IsPrintable (q : Query) : Type 0 where
+  pub words : AreFine (query_words_of q)
+  pub form : IsForm q.form q.group q.inline
+  pub group : (held q.group).good ≡ true
+  pub order : all_keys q.order ≡ true
+  pub inline : is_inline q.inline ≡ true
+
+-- the law: what is printed of it is accepted as it, where at most 64 brackets are open at once
+abbrev pub PrintedIsAccepted : Type 0
+PrintedIsAccepted = (q : Query) → IsPrintable q → brackets q ≤ 64 → Accepted (printed_query q) q

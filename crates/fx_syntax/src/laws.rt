@@ -1,7 +1,7 @@
 //! Laws of the definitions, each the contract of a function that does nothing.
 ghost use Rattle.fx_syntax.specs.Accepted.{OneQuery};
 ghost use Rattle.fx_syntax.specs.Grammar as grammar;
-ghost use Rattle.fx_syntax.specs.Printable.{PatternQueryIsAccepted};
+ghost use Rattle.fx_syntax.specs.Printable.{PatternQueryIsAccepted, PrintedIsAccepted};
 ghost use Rattle.fx_syntax.specs.Rule.{ReadAsSpelled, RefusedForGood};
 
 /// A text is accepted as one query at most.
@@ -22,4 +22,9 @@ pub fn grammar_refuses_for_good()
 /// The printed query of a triple pattern, whose names, IRIs and literals are those of their types, is accepted as that query.
 pub fn pattern_query_is_accepted()
     ensures { PatternQueryIsAccepted }
+{}
+
+/// The printed text of a query that the grammar has, in which at most 64 brackets are open at once, is accepted as that query.
+pub fn printed_is_accepted()
+    ensures { PrintedIsAccepted }
 {}

@@ -2,7 +2,7 @@
 use Rattle.std.proofs.Common.{◌≡◌, ℕ, zero, suc, ◌+◌, ◌-◌, ◌<◌, ◌≤◌, Bool, true, false, cond, not, List, [], ◌∷◌, ◌++◌, refl, sym, ap, ◌∙◌, subst, arith, append_assoc, ◌&&◌, ◌||◌, nat_lt}
 use Rattle.std.specs.Prelude.{◌==◌}
 use Rattle.std.specs.List.{list_all}
-use Rattle.std.proofs.lemmas.Bool.{and_from, lt-ltb, ne_eqb, and_parts, or_parts, not-true}
+use Rattle.std.proofs.lemmas.Bool.{eq-eqb, and_from, lt-ltb, ne_eqb, and_parts, or_parts, not-true}
 use Rattle.fx_syntax.specs.Kinds.{is, kind_of}
 use Rattle.fx_syntax.specs.Classified.{kind_in, placed, behind, all_placed, one_more, opened, closed, is_inside}
 use Rattle.fx_syntax.specs.declared.classify.Context.{Context}
@@ -182,3 +182,71 @@ passes_braces serves n tokens p context rest s a h =
     ∙ ap (λ (v : List Token). token.Plain k.LeftBrace ∷ v) (p (inner context) (token.Plain k.RightBrace ∷ rest) (inside_steady context s) (inside_allows serves context a) (inside_room context n h))
     ∙ ap (λ (v : List Token). token.Plain k.LeftBrace ∷ (tokens ++ v)) (closes_brace context rest s)
     ∙ ap (λ (v : List Token). token.Plain k.LeftBrace ∷ v) (sym (append_assoc tokens (token.Plain k.RightBrace ∷ []) (all_placed context rest)))
+
+-- ---- SERVICE
+
+calm_any : (tokens : List Token) → list_all is_calm tokens ≡ true → (context : Context) (rest : List Token) → all_placed context (tokens ++ rest) ≡ tokens ++ all_placed context rest
+unfolding all_placed
+calm_any [] h context rest = refl
+calm_any (t ∷ tokens) h context rest =
+    let both = and_parts (is_calm t) (list_all is_calm tokens) h in
+    let c = calm_of t both.0 in
+    ap (λ v. v ∷ all_placed (behind context (kind_of t)) (tokens ++ rest)) (calm_placed context t c) ∙ ap (λ (v : Context). t ∷ all_placed v (tokens ++ rest)) (calm_behind context (kind_of t) c)
+    ∙ ap (λ (v : List Token). t ∷ v) (calm_any tokens both.1 context rest)
+
+module _ (depth : ℕ) where
+  outside : Context
+  outside = record { depth = depth; service = Outside }
+
+  serving : Context
+  serving = record { depth = depth; service = Named }
+
+  served : Context
+  served = record { depth = depth + 1; service = Inside depth }
+
+  begins_service : (rest : List Token) → all_placed outside (token.Plain k.Service ∷ rest) ≡ token.Plain k.Service ∷ all_placed serving rest
+  unfolding all_placed outside serving
+  begins_service rest = refl
+
+  opens_service : (n : ℕ) (rest : List Token) → depth + suc n ≤ 64 → all_placed serving (token.Plain k.LeftBrace ∷ rest) ≡ token.Plain k.LeftBrace ∷ all_placed served rest
+  unfolding all_placed serving served
+  opens_service n rest h =
+      ap (λ (b : Bool). token.Plain (cond b k.LeftBrace k.TooDeep) ∷ all_placed (record { depth = one_more depth; service = Inside depth }) rest) (below depth n h)
+      ∙ ap (λ (d : ℕ). token.Plain k.LeftBrace ∷ all_placed (record { depth = d; service = Inside depth }) rest) (one_more_is depth n h)
+
+  closes_service : (rest : List Token) → all_placed served (token.Plain k.RightBrace ∷ rest) ≡ token.Plain k.RightBrace ∷ all_placed outside rest
+  unfolding all_placed served outside
+  closes_service rest =
+      let d : depth + 1 - 1 ≡ depth = omega arith in
+      ap (λ (n : ℕ). token.Plain k.RightBrace ∷ all_placed (record { depth = n; service = closed n (Inside depth) }) rest) d
+      ∙ ap (λ (b : Bool). token.Plain k.RightBrace ∷ all_placed (record { depth = depth; service = cond b Outside (Inside depth) }) rest) (eq-eqb depth depth refl)
+
+  inside_service : (n : ℕ) (tokens rest : List Token) → Passes false n tokens → depth + suc n ≤ 64 → all_placed served (tokens ++ token.Plain k.RightBrace ∷ rest) ≡ tokens ++ all_placed served (token.Plain k.RightBrace ∷ rest)
+  unfolding served
+  inside_service n tokens rest p h = p (record { depth = depth + 1; service = Inside depth }) (token.Plain k.RightBrace ∷ rest) (omega arith) tt (omega (arith, h))
+
+  service_within : (name : List Token) (n : ℕ) (tokens rest : List Token) → list_all is_calm name ≡ true → Passes false n tokens → depth + suc n ≤ 64
+      → all_placed outside (token.Plain k.Service ∷ (name ++ (token.Plain k.LeftBrace ∷ (tokens ++ token.Plain k.RightBrace ∷ rest)))) ≡ token.Plain k.Service ∷ (name ++ (token.Plain k.LeftBrace ∷ (tokens ++ token.Plain k.RightBrace ∷ all_placed outside rest)))
+  service_within name n tokens rest c p h =
+      begins_service (name ++ (token.Plain k.LeftBrace ∷ (tokens ++ token.Plain k.RightBrace ∷ rest)))
+      ∙ ap (λ (v : List Token). token.Plain k.Service ∷ v) (calm_any name c serving (token.Plain k.LeftBrace ∷ (tokens ++ token.Plain k.RightBrace ∷ rest)))
+      ∙ ap (λ (v : List Token). token.Plain k.Service ∷ (name ++ v)) (opens_service n (tokens ++ token.Plain k.RightBrace ∷ rest) h)
+      ∙ ap (λ (v : List Token). token.Plain k.Service ∷ (name ++ (token.Plain k.LeftBrace ∷ v))) (inside_service n tokens rest p h ∙ ap (λ (v : List Token). tokens ++ v) (closes_service rest))
+
+  -- with the tokens behind it apart
+  service_is : (name tokens rest : List Token) → (token.Plain k.Service ∷ (name ++ (token.Plain k.LeftBrace ∷ (tokens ++ token.Plain k.RightBrace ∷ [])))) ++ rest ≡ token.Plain k.Service ∷ (name ++ (token.Plain k.LeftBrace ∷ (tokens ++ token.Plain k.RightBrace ∷ rest)))
+  service_is name tokens rest =
+      ap (λ (v : List Token). token.Plain k.Service ∷ v)
+      (append_assoc name (token.Plain k.LeftBrace ∷ (tokens ++ token.Plain k.RightBrace ∷ [])) rest ∙ ap (λ (v : List Token). name ++ (token.Plain k.LeftBrace ∷ v)) (append_assoc tokens (token.Plain k.RightBrace ∷ []) rest))
+
+  service_outside : (name : List Token) (n : ℕ) (tokens rest : List Token) → list_all is_calm name ≡ true → Passes false n tokens → depth + suc n ≤ 64
+      → all_placed (record { depth = depth; service = Outside }) ((token.Plain k.Service ∷ (name ++ (token.Plain k.LeftBrace ∷ (tokens ++ token.Plain k.RightBrace ∷ [])))) ++ rest)
+      ≡ (token.Plain k.Service ∷ (name ++ (token.Plain k.LeftBrace ∷ (tokens ++ token.Plain k.RightBrace ∷ [])))) ++ all_placed (record { depth = depth; service = Outside }) rest
+  unfolding outside
+  service_outside name n tokens rest c p h =
+      ap (all_placed (record { depth = depth; service = Outside })) (service_is name tokens rest) ∙ service_within name n tokens rest c p h ∙ sym (service_is name tokens (all_placed (record { depth = depth; service = Outside }) rest))
+
+pub passes_service : (name : List Token) (n : ℕ) (tokens : List Token) → list_all is_calm name ≡ true → Passes false n tokens → Passes true (suc n) (token.Plain k.Service ∷ (name ++ (token.Plain k.LeftBrace ∷ (tokens ++ token.Plain k.RightBrace ∷ []))))
+passes_service name n tokens c p context rest s a h =
+    let whole = token.Plain k.Service ∷ (name ++ (token.Plain k.LeftBrace ∷ (tokens ++ token.Plain k.RightBrace ∷ []))) in
+    subst (λ (v : Service). all_placed (record { depth = context.depth; service = v }) (whole ++ rest) ≡ whole ++ all_placed (record { depth = context.depth; service = v }) rest) (sym a) (service_outside context.depth name n tokens rest c p h)
