@@ -1,39 +1,34 @@
--- The answer of a query that some text spells has a document that is read, where its parts are what their readers accept.
-use Rattle.std.proofs.Common.{◌≡◌, ◌∙◌, ap, sym, subst, refl, ℕ, ◌<◌, Bool, true, false, cond, ◌&&◌, ◌||◌, List, [], ◌∷◌, ◌++◌, ◌⊎◌, inl, inr, map, filter, length, None, Ok, arith, tests, append_assoc, append-nil}
-use Rattle.std.specs.Prelude.{fold, not, ◌==◌, bytes_eq, All}
-use Rattle.std.specs.Char.{to_ascii_lowercase}
-use Rattle.std.specs.List.{AllByRecursion, list_all, list_any}
-use Rattle.std.specs.Result.{is_ok}
+-- The answer of an accepted query binds its columns alone, and these are distinct.
+use Rattle.std.proofs.Common.{◌≡◌, ◌∙◌, ap, sym, subst, refl, ℕ, zero, suc, Bool, true, false, cond, ◌&&◌, ◌||◌, List, [], ◌∷◌, ◌++◌, map, filter, take, drop, Option, None, Some, append_assoc, append-nil, length}
+use Rattle.std.specs.Prelude.{fold, not}
+use Rattle.std.specs.List.{list_all, list_any}
 use Rattle.std.specs.Ordering.{is_eq, is_le}
-use Rattle.std.specs.Str.{chars}
 use Rattle.std.specs.declared.cmp.Ordering.{Ordering}
 use Rattle.std.proofs.lemmas.Cmp.{tied_itself}
-use Rattle.std.proofs.lemmas.List.Elements.{recursion_from_All}
 use Rattle.std.proofs.lemmas.List.Folds.{list_any-append}
-use Rattle.std.proofs.lemmas.Slice.Eq.{bytes_eq-Decides}
-use Rattle.fx_terms.specs.Iris.{IsIri}
-use Rattle.fx_terms.specs.Literals.{LiteralParts, IsLiteral, lang_string, is_tag}
-use Rattle.fx_terms.specs.Names.{IsName, is_name, named}
-use Rattle.fx_terms.specs.Terms.{IsTerm}
 use Rattle.fx_terms.specs.Texts.{text_cmp, texts_total}
-use Rattle.fx_terms.specs.declared.patterns.Pattern.{Pattern}
-use Rattle.fx_terms.specs.declared.terms.Term.{Term}
-use Rattle.fx_terms.specs.declared.terms.Term.TheVariants.{Iri, Literal}
 use Rattle.fx_terms.specs.declared.triples.Triple.{Triple}
-use Rattle.fx_algebra.specs.Answers.{answer, patterns_of}
-use Rattle.fx_algebra.specs.BasicGraphPatterns.{bgp}
-use Rattle.fx_algebra.specs.Scopes.{is_among, with_name, once, group_mentions}
-use Rattle.fx_algebra.specs.Sequences.{projected, ordered, sorted_by, insert_by, row_cmp}
-use Rattle.fx_algebra.specs.Solutions.{Bindings, rises}
+use Rattle.fx_algebra.specs.Answers.{answer, form_answer, selected, query_rows}
+use Rattle.fx_algebra.specs.OrderedRows.{keyed, keyed_cmp, in_order}
+use Rattle.fx_algebra.specs.Scopes.{is_among, with_name, once, scope}
+use Rattle.fx_algebra.specs.Sequences.{projected, sorted_by, insert_by, row_cmp, with_row, distinct_rows, limited}
+use Rattle.fx_algebra.specs.Solutions.{Bindings}
+use Rattle.fx_algebra.specs.declared.keys.Keyed.{Keyed}
+use Rattle.fx_algebra.specs.declared.queries.Form.{Form}
+use Rattle.fx_algebra.specs.declared.queries.Form.TheVariants.{Select, Ask}
 use Rattle.fx_algebra.specs.declared.queries.Group.{Group}
+use Rattle.fx_algebra.specs.declared.queries.Inline.{Inline}
+use Rattle.fx_algebra.specs.declared.queries.Order.{Order}
 use Rattle.fx_algebra.specs.declared.queries.Query.{Query}
 use Rattle.fx_algebra.proofs.ForcedLemmas.{name_from}
-use Rattle.fx_results.specs.Meanings.{is_iri, is_typed, is_tagged, is_term, is_row, is_table, is_answer}
+use Rattle.fx_results.specs.Meanings.{is_within, binds_columns}
 use Rattle.fx_results.specs.Reading.{are_distinct}
 use Rattle.fx_syntax.specs.Accepted.{IsSpellable}
-use Rattle.fx_syntax.specs.declared.words.Word.{Word}
-use Rattle.fx_syntax.specs.FirstForm.{group_of, plain_query, SpellsHead}
-use Rattle.fx_member.specs.KnownAnswers.{IsKnown, IsKnownRow}
+use Rattle.fx_syntax.specs.Grammar.{query, body, query_of, form_of, columns_of, inline_columns}
+use Rattle.fx_syntax.specs.declared.kinds.Token.{Token}
+use Rattle.fx_syntax.specs.declared.parts.Head.{Head}
+use Rattle.fx_syntax.specs.declared.parts.Head.TheVariants as head
+use Rattle.fx_syntax.specs.declared.parts.Main.{Main}
 
 both : (a b : Bool) → (a && b) ≡ true → (a ≡ true) × (b ≡ true)
 both true b h = (refl, h)
@@ -95,44 +90,7 @@ distinct before (n ∷ ns) h =
 once_distinct : (names : List (List ℕ)) → are_distinct (once names) ≡ true
 once_distinct names = distinct [] (once names) (fresh_folded [] names tt)
 
-names_are : (names : List (List ℕ)) → AllByRecursion IsName names → list_all (λ name. is_name (chars name)) names ≡ true
-names_are [] h = refl
-names_are (n ∷ ns) h = and_true (is_name (chars n)) _ (pick (is_name (chars n)) h.0.name) (names_are ns h.1)
-  where
-    pick : (b : Bool) → named n b ≡ Ok n → b ≡ true
-    pick true e = refl
-    pick false e = cc
-
--- ---- terms
-
-iri_is : (a : List ℕ) → IsIri a → is_iri a ≡ true
-iri_is a h = ap is_ok h.iri
-
-literal_is : (l : LiteralParts) → IsLiteral l → (b : Bool) → (length l.tag == 0) ≡ b → cond b (is_typed l) (is_tagged l) ≡ true
-literal_is l h true e = and_true (is_iri l.datatype) (not (bytes_eq l.datatype lang_string)) (iri_is l.datatype h.datatype) (sym h.fits ∙ e)
-literal_is l h false e =
-    let some : 0 < length l.tag = above (length l.tag) e in
-    let t = h.tag some in
-    and_true (bytes_eq l.datatype lang_string && is_tag l.tag) (bytes_eq (map to_ascii_lowercase l.tag) l.tag)
-    (and_true (bytes_eq l.datatype lang_string) (is_tag l.tag) (turned (bytes_eq l.datatype lang_string) (sym h.fits ∙ e)) t.tag)
-    (ap (λ (v : List ℕ). bytes_eq v l.tag) t.lower ∙ (bytes_eq-Decides l.tag l.tag).1 refl)
-  where
-    above : (n : ℕ) → (n == 0) ≡ false → 0 < n
-    above n f = grind (arith, tests)
-
-    turned : (b : Bool) → not b ≡ false → b ≡ true
-    turned true f = refl
-    turned false f = cc
-
-term_is : (t : Term) → IsTerm t → is_term t ≡ true
-term_is (Iri a) h = iri_is a h
-term_is (Literal l) h = literal_is l h (length l.tag == 0) refl
-
 -- ---- rows
-
--- a row binds columns alone
-abbrev is_within : List (List ℕ) → Bindings → Bool
-is_within columns row = list_all (λ e. is_among columns e.0) row
 
 projected_within : (columns : List (List ℕ)) (s : Bindings) → is_within columns (projected columns s) ≡ true
 projected_within columns [] = refl
@@ -141,10 +99,6 @@ projected_within columns (e ∷ es) = pick (is_among columns e.0) refl (projecte
     pick : (b : Bool) → is_among columns e.0 ≡ b → is_within columns (projected columns es) ≡ true → is_within columns (cond b (e ∷ projected columns es) (projected columns es)) ≡ true
     pick true k later = and_true (is_among columns e.0) (is_within columns (projected columns es)) k later
     pick false k later = later
-
-all_projected : (columns : List (List ℕ)) (rows : List Bindings) → list_all (is_within columns) (map (projected columns) rows) ≡ true
-all_projected columns [] = refl
-all_projected columns (s ∷ ss) = and_true (is_within columns (projected columns s)) _ (projected_within columns s) (all_projected columns ss)
 
 all_insert : {X : Type 0} (R : X → X → Ordering) (p : X → Bool) (x : X) (ys : List X) → p x ≡ true → list_all p ys ≡ true → list_all p (insert_by R x ys) ≡ true
 unfolding insert_by
@@ -160,40 +114,82 @@ unfolding sorted_by
 all_sorted R p [] h = refl
 all_sorted R p (x ∷ xs) h = let t = both (p x) (list_all p xs) h in all_insert R p x (sorted_by R xs) t.0 (all_sorted R p xs t.1)
 
-pairs_are : (columns : List (List ℕ)) (es : Bindings) → AllByRecursion (λ e. IsTerm e.1) es → is_within columns es ≡ true → list_all (λ e. is_among columns e.0 && is_term e.1) es ≡ true
-pairs_are columns [] h k = refl
-pairs_are columns (e ∷ es) h k =
-    let t = both (is_among columns e.0) (is_within columns es) k in
-    and_true (is_among columns e.0 && is_term e.1) _ (and_true (is_among columns e.0) (is_term e.1) t.0 (term_is e.1 h.0)) (pairs_are columns es h.1 t.1)
+all_kept : (columns : List (List ℕ)) (rows : List Bindings) (row : Bindings) → list_all (is_within columns) rows ≡ true → is_within columns row ≡ true → list_all (is_within columns) (rows ++ row ∷ []) ≡ true
+all_kept columns [] row h k = and_true (is_within columns row) true k refl
+all_kept columns (r ∷ rs) row h k = let t = both (is_within columns r) (list_all (is_within columns) rs) h in and_true (is_within columns r) _ t.0 (all_kept columns rs row t.1 k)
 
-row_is : (columns : List (List ℕ)) (row : Bindings) → IsKnownRow row → is_within columns row ≡ true → is_row columns row ≡ true
-row_is columns row h k = and_true (rises row) _ h.rises (pairs_are columns row (recursion_from_All (λ e. IsTerm e.1) row h.terms) k)
+all_once : (columns : List (List ℕ)) (kept rows : List Bindings) → list_all (is_within columns) kept ≡ true → list_all (is_within columns) rows ≡ true → list_all (is_within columns) (fold (with_row columns) kept rows) ≡ true
+all_once columns kept [] h k = h
+all_once columns kept (r ∷ rs) h k =
+    let t = both (is_within columns r) (list_all (is_within columns) rs) k in
+    all_once columns (with_row columns kept r) rs (pick (list_any (λ s. is_eq (row_cmp columns s r)) kept)) t.1
+  where
+    pick : (b : Bool) → list_all (is_within columns) (cond b kept (kept ++ r ∷ [])) ≡ true
+    pick true = h
+    pick false = all_kept columns kept r h (both (is_within columns r) (list_all (is_within columns) rs) k).0
 
-rows_are : (columns : List (List ℕ)) (rows : List Bindings) → AllByRecursion IsKnownRow rows → list_all (is_within columns) rows ≡ true → list_all (is_row columns) rows ≡ true
-rows_are columns [] h k = refl
-rows_are columns (r ∷ rs) h k = let t = both (is_within columns r) _ k in and_true (is_row columns r) _ (row_is columns r h.0 t.0) (rows_are columns rs h.1 t.1)
+all_distinct : (distinct : Bool) (columns : List (List ℕ)) (rows : List Bindings) → list_all (is_within columns) rows ≡ true → list_all (is_within columns) (distinct_rows distinct columns rows) ≡ true
+all_distinct true columns rows h = all_once columns [] rows refl h
+all_distinct false columns rows h = h
+
+all_behind : {X : Type 0} (p : X → Bool) (n : ℕ) (xs : List X) → list_all p xs ≡ true → list_all p (drop n xs) ≡ true
+all_behind p zero xs h = h
+all_behind p (suc n) [] h = h
+all_behind p (suc n) (x ∷ xs) h = all_behind p n xs (both (p x) (list_all p xs) h).1
+
+all_front : {X : Type 0} (p : X → Bool) (n : ℕ) (xs : List X) → list_all p xs ≡ true → list_all p (take n xs) ≡ true
+all_front p zero xs h = refl
+all_front p (suc n) [] h = h
+all_front p (suc n) (x ∷ xs) h = let t = both (p x) (list_all p xs) h in and_true (p x) _ t.0 (all_front p n xs t.1)
+
+all_limited : {columns : List (List ℕ)} (limit : Option ℕ) (rows : List Bindings) → list_all (is_within columns) rows ≡ true → list_all (is_within columns) (limited limit rows) ≡ true
+all_limited {columns} (Some limit) rows h = all_front (is_within columns) limit rows h
+all_limited None rows h = h
+
+all_keyed : (orders : List Order) (columns : List (List ℕ)) (rows : List Bindings) → list_all (λ (k : Keyed). is_within columns k.row) (map (keyed orders columns) rows) ≡ true
+all_keyed orders columns [] = refl
+all_keyed orders columns (s ∷ ss) = and_true (is_within columns (projected columns s)) _ (projected_within columns s) (all_keyed orders columns ss)
+
+all_mapped : (columns : List (List ℕ)) (ks : List Keyed) → list_all (λ (k : Keyed). is_within columns k.row) ks ≡ true → list_all (is_within columns) (map (λ k. k.row) ks) ≡ true
+all_mapped columns [] h = refl
+all_mapped columns (k ∷ ks) h = let t = both (is_within columns k.row) (list_all (λ (k : Keyed). is_within columns k.row) ks) h in and_true (is_within columns k.row) _ t.0 (all_mapped columns ks t.1)
+
+all_in_order : (orders : List Order) (columns : List (List ℕ)) (rows : List Bindings) → list_all (is_within columns) (in_order orders columns rows) ≡ true
+all_in_order orders columns rows =
+    all_mapped columns (sorted_by (keyed_cmp orders columns) (map (keyed orders columns) rows))
+    (all_sorted (keyed_cmp orders columns) (λ (k : Keyed). is_within columns k.row) (map (keyed orders columns) rows) (all_keyed orders columns rows))
+
+all_selected : (q : Query) (distinct : Bool) (columns : List (List ℕ)) (rows : List Bindings) → list_all (is_within columns) (selected q distinct columns rows) ≡ true
+all_selected q distinct columns rows =
+    all_limited {columns} q.limit (drop q.offset (distinct_rows distinct columns (in_order q.order columns rows)))
+    (all_behind (is_within columns) q.offset (distinct_rows distinct columns (in_order q.order columns rows)) (all_distinct distinct columns (in_order q.order columns rows) (all_in_order q.order columns rows)))
 
 -- ---- the answer
 
-table_is : (names : List (List ℕ)) (rows : List Bindings) → All IsName (once names) → All IsKnownRow (ordered (once names) rows) → is_table (once names) (ordered (once names) rows) ≡ true
-table_is names rows h k =
-    let columns = once names in
-    and_true (list_all (λ name. is_name (chars name)) columns && are_distinct columns) _
-    (and_true _ (are_distinct columns) (names_are columns (recursion_from_All IsName columns h)) (once_distinct names))
-    (rows_are columns (ordered columns rows) (recursion_from_All IsKnownRow (ordered columns rows) k) (all_sorted (row_cmp columns) (is_within columns) (map (projected columns) rows) (all_projected columns rows)))
+-- the columns of a form are distinct
+abbrev has_distinct : Form → Bool
+has_distinct (Select distinct columns) = are_distinct columns
+has_distinct Ask = true
 
-plain_is : (graph : List Triple) (names : List (List ℕ)) (patterns : List Pattern) → IsKnown (answer (plain_query (once names) patterns) graph) → is_answer (answer (plain_query (once names) patterns) graph) ≡ true
-plain_is graph names patterns known = table_is names (bgp graph (patterns_of (group_of patterns))) known.0 known.1
+form_binds : (q : Query) (form : Form) (rows : List Bindings) → has_distinct form ≡ true → binds_columns (form_answer q form rows) ≡ true
+form_binds q (Select distinct columns) rows h = and_true (are_distinct columns) _ h (all_selected q distinct columns rows)
+form_binds q Ask rows h = refl
 
--- what is selected are names, each once
-selected : (head : List Word) (group : Group) (columns : List (List ℕ)) → SpellsHead head group columns → (names : List (List ℕ)) × (columns ≡ once names)
-selected head group columns (inl x) = (group_mentions group, x.1)
-selected head group columns (inr x) = (x.0, x.3)
+columns_distinct : (names : Option (List (List ℕ))) (g : Group) (inline : Option Inline) → are_distinct (columns_of names g inline) ≡ true
+columns_distinct (Some names) g inline = once_distinct names
+columns_distinct None g inline = once_distinct (scope g ++ inline_columns inline)
 
-pub spelled_answer : (q : Query) (graph : List Triple) → IsSpellable q → IsKnown (answer q graph) → is_answer (answer q graph) ≡ true
-spelled_answer q graph h known =
-    let s = h.1.spelled in
-    let n = selected s.head (group_of s.patterns) s.columns s.selected in
-    let same : q ≡ plain_query (once n.0) s.patterns = s.query ∙ ap (λ (c : List (List ℕ)). plain_query c s.patterns) n.1 in
-    let P : Query → Type 0 = λ r. IsKnown (answer r graph) → is_answer (answer r graph) ≡ true in
-    subst P (sym same) (plain_is graph n.0 s.patterns) known
+form_distinct : (h : Head) (g : Group) (inline : Option Inline) → has_distinct (form_of h g inline) ≡ true
+form_distinct (head.Select once_each names) g inline = columns_distinct names g inline
+form_distinct head.Ask g inline = refl
+
+-- a query that is spelled is made of its parts
+made_of : (tokens : List Token) (q : Query) → query.spells tokens q → (main : Main) × (inline : Option Inline) × (q ≡ query_of main inline)
+unfolding query body
+made_of tokens q h = let parts = h.1.0 in let whole = parts.1.1.1 in (whole.0.0, whole.0.1, h.1.1 ∙ whole.1.1)
+
+pub spelled_answer : (q : Query) (graph : List Triple) (graphs : List ℕ → List Triple) (down : List ℕ) → IsSpellable q → binds_columns (answer q graph graphs down) ≡ true
+spelled_answer q graph graphs down h =
+    let made = made_of _ q h.1.spelled in
+    let distinct : has_distinct q.form ≡ true = subst (λ (r : Query). has_distinct r.form ≡ true) (sym made.1.1) (form_distinct made.0.head made.0.group made.1.0) in
+    form_binds q q.form (query_rows q graph graphs down) distinct

@@ -1,5 +1,10 @@
 pub mod FitLemmas
 pub mod ObjectLemmas
 pub mod RunLemmas
+pub mod OperatorLemmas
+pub mod GroupLemmas
+pub mod CountLemmas
+pub mod PlaceLemmas
+pub mod FormLemmas
 pub mod AnswerLemmas
 pub mod HonestLemmas

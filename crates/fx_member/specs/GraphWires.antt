@@ -1,10 +1,15 @@
 -- What a wire that answers by graphs holds, and what it has answered.
 use Rattle.std.specs.Prelude.{◌≡◌, ℕ, Bool, List, [], ◌∷◌, Option, Some, None, if◌then◌else◌, map}
 use Rattle.std.specs.Ordering.{is_eq}
+use Rattle.fx_algebra.specs.Answers.{answer_alone}
+use Rattle.fx_algebra.specs.Occurrences.{services}
+use Rattle.fx_algebra.specs.declared.queries.Query.{Query}
 use Rattle.fx_outside.specs.NameCounts.{count_of}
+use Rattle.fx_syntax.specs.Accepted.{Accepted}
 use Rattle.fx_terms.specs.Texts.{text_cmp}
 use Rattle.fx_terms.specs.declared.triples.Triple.{Triple}
 use Rattle.fx_wire.specs.Exchanges.{Exchange}
+use Rattle.fx_wire.specs.Honest.{Replies}
 use Rattle.fx_wire.specs.Scripts.{exchange_of}
 use Rattle.fx_member.specs.declared.graph_wires.GraphWire.{GraphWire}
 
@@ -30,3 +35,7 @@ pub record IsFreshWire (wire : GraphWire) (graphs : List (List ℕ × List Tripl
   pub told : (address : List ℕ) → graph_in wire address ≡ graph_of graphs address
   pub silent : log_in wire ≡ []
   pub faultless : (address : List ℕ) → faults_in wire address ≡ 0
+
+-- where the text is accepted as a query without SERVICE, the reply means its answer over the graph
+abbrev pub RepliesTo : List Triple → List ℕ → List ℕ → Type 0
+RepliesTo graph text reply = (q : Query) → Accepted text q → services q ≡ [] → Replies reply (answer_alone q graph)

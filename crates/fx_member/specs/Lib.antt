@@ -1,5 +1,6 @@
 pub mod Lookups
 pub mod Objects
+pub mod GroupRows
+pub mod FirstHere
 pub mod GraphWires
-pub mod KnownAnswers
 pub mod FaultWires

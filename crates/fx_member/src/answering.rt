@@ -1,20 +1,84 @@
 //! The answer of a query over a graph.
-ghost use Rattle.std.specs.Prelude.{◌≡◌, IfOk};
-ghost use Rattle.fx_algebra.specs.Answers.{answer as answer_of};
-ghost use Rattle.fx_syntax.specs.FirstForm.{IsPlain};
+ghost use Rattle.std.specs.Prelude.{◌≡◌, ℕ, List, IfErr, IfOk, IsPermutation, None};
+ghost use Rattle.fx_terms.specs.declared.triples.Triple.{Triple as TripleTree};
+ghost use Rattle.fx_algebra.specs.Answers.{answer as answer_of, with_inline as with_inline_of};
+ghost use Rattle.fx_member.specs.FirstHere.{first_here as first_here_of, IsCause};
+ghost use Rattle.fx_member.specs.GroupRows.{IsAnswerOf};
 
-use crate::evaluation::bgp;
-use fx_algebra::{Answer, Query, patterns_of};
-use fx_solutions::answer_of_rows;
+use crate::groups::group_rows;
+use crate::known_rows::known_to_rise;
+use crate::places::first_here;
+use fx_algebra::{Answer, Inline, Query, Solution};
+use fx_solutions::laws::one_answer;
+use fx_solutions::{answer_of_rows, inline_rows, join_with};
 use fx_terms::{Graph, Memory};
 use std::alloc::Global;
 
-/// The answer of a query over a graph (SPARQL 1.1 section 18.5), for queries of triples alone.
-pub fn answer(alloc: Global, graph: &Graph, query: &Query) -> Result<Answer, Memory>
-    requires { IsPlain query.now }
-    ensures { IfOk result (λ answer. answer ≡ answer_of query.now graph.now) }
+/// Why a query has no answer over a graph.
+#[derive(Clone, Copy, Debug, PartialEq, Eq)]
+pub enum MemberError {
+    /// The query has an occurrence of SERVICE that would have to be asked. This is the number of the first.
+    ServiceHere { place: u64 },
+    /// Memory ran out.
+    Memory,
+}
+
+impl From<Memory> for MemberError {
+    ghost use Rattle.std.specs.Prelude.{◌≡◌};
+    ghost use Rattle.fx_member.specs.declared.answering.MemberError.TheVariants.{Memory};
+
+    ghost from_gives = { λ _ e. e ≡ Memory };
+
+    fn from(_error: Memory) -> MemberError {
+        MemberError::Memory
+    }
+}
+
+/// The answer of a query over a graph (SPARQL 1.1 section 18.5), where the occurrences of SERVICE whose numbers are in `down` are
+/// down: none is asked, and each gives the one empty solution.
+///
+/// `ServiceHere` comes exactly where the number of some occurrence isn't in `down`, and names the first. `Memory` comes where
+/// memory runs out.
+pub fn answer(
+    alloc: Global,
+    graph: &Graph,
+    query: &Query,
+    down: &[u64],
+) -> Result<Answer, MemberError>
+    ensures answer { IfOk result (λ answer. (graphs : List ℕ → List TripleTree) → answer ≡ answer_of query.now graph.now graphs down.now) }
+    ensures whole { IfOk result (λ _. first_here_of query.now down.now ≡ None) }
+    ensures cause { IfErr result (IsCause query.now down.now) }
 {
-    let patterns = patterns_of(alloc, &query.group)?;
-    let rows = bgp(alloc, graph, patterns.as_slice())?;
-    answer_of_rows(alloc, &query.form, rows.as_slice())
+    if let Some(place) = first_here(alloc, query, down)? {
+        return Err(MemberError::ServiceHere { place });
+    }
+    let answer = answer_here(alloc, graph, query)?;
+    Ok(answer)
+}
+
+// The answer of a query over a graph, where all that it would ask are down.
+fn answer_here(alloc: Global, graph: &Graph, query: &Query) -> Result<Answer, Memory>
+    ensures { IfOk result (IsAnswerOf query.now graph.now) }
+{
+    // The rows come in some order, and the answer doesn't depend on it.
+    one_answer();
+    let found = group_rows(alloc, graph, &query.group)?;
+    let rows = with_inline(alloc, &query.inline, found)?;
+    known_to_rise(rows.as_slice());
+    let answer = answer_of_rows(alloc, query, rows.as_slice())?;
+    Ok(answer)
+}
+
+// The rows joined with the VALUES behind the query, where there is one.
+fn with_inline(
+    alloc: Global,
+    inline: &Option<Inline>,
+    rows: Vec<Solution>,
+) -> Result<Vec<Solution>, Memory>
+    ensures { IfOk result (λ all. IsPermutation (with_inline_of inline.now rows.items) all.items) }
+{
+    match inline {
+        None => Ok(rows),
+        Some(inline) => join_with(alloc, rows.as_slice(), inline_rows(alloc, inline)?),
+    }
 }

@@ -8,7 +8,7 @@ ghost use Rattle.fx_terms.specs.Terms.{term_cmp};
 ghost use Rattle.fx_terms.specs.Triples.{triple_cmp};
 ghost use Rattle.fx_terms.specs.declared.terms.Term.TheVariants.{Iri as IriTerm};
 ghost use Rattle.fx_algebra.specs.Solutions.{same_term};
-ghost use Rattle.fx_algebra.specs.BasicGraphPatterns.{parts_of, forced, value_of, bgp as bgp_of};
+ghost use Rattle.fx_algebra.specs.BasicGraphPatterns.{parts_of, forced, value_of};
 ghost use Rattle.fx_algebra.specs.Evaluation.{extended};
 ghost use Rattle.fx_member.specs.Lookups as spec;
 ghost use Rattle.fx_member.specs.Objects.{object_cmp, candidates_by_object};
@@ -19,28 +19,16 @@ use fx_terms::{Graph, Iri, Memory, Name, Pattern, PatternTerm, Term, Triple};
 use std::alloc::Global;
 use std::cmp::Ordering;
 
-/// The solutions of patterns over a graph: one for each choice of a triple for each pattern that gives each variable one
-/// term, in the order of the choices.
-///
-/// It goes pattern by pattern. Where a pattern's subject is known, only the run of triples with that subject is gone over,
-/// and of these only those with the predicate and the object, as far as these are known too. Where only the object is known,
-/// and rows are many, the triples are sorted by their objects first.
-pub fn bgp(alloc: Global, graph: &Graph, patterns: &[Pattern]) -> Result<Vec<Solution>, Memory>
-    ensures { IfOk result (λ rows. rows.items ≡ bgp_of graph.now patterns.now) }
-{
-    let mut rows = Vec::new(alloc);
-    rows.push(Solution::empty(alloc))?;
-    for pattern in patterns {
-        rows = extend_rows(alloc, graph, pattern, rows.as_slice())?;
-    }
-    Ok(rows)
-}
-
 // From how many rows on a join by object is worth a list of the triples in the order of their objects.
 const MANY: usize = 16;
 
-// Each row with each triple that fits it.
-fn extend_rows(
+/// Each row with each triple that fits it, in the order of the rows and then of the triples. From row to row this is the join with
+/// the solutions of a pattern, so one pattern after another gives the join with those of a run of patterns.
+///
+/// Where a pattern's subject is known, only the run of triples with that subject is gone over, and of these only those with the
+/// predicate and the object, as far as these are known too. Where only the object is known, and rows are many, the triples are
+/// sorted by their objects first.
+pub fn extend_rows(
     alloc: Global,
     graph: &Graph,
     pattern: &Pattern,

@@ -1,22 +1,20 @@
 //! A wire in memory that answers by the SPARQL algebra over graphs.
-ghost use Rattle.std.specs.Prelude.{◌≡◌, ◌<◌, ◌≤◌, ◌++◌, ◌∷◌, [], IfOk, IsOkAnd, OnOk, OnErr, List, ℕ, length, option_copied};
-ghost use Rattle.fx_algebra.specs.Answers.{answer as answer_of};
-ghost use Rattle.fx_algebra.specs.declared.queries.Query.{Query as QueryTree};
+ghost use Rattle.std.specs.Prelude.{◌≡◌, ◌<◌, ◌≤◌, ◌++◌, ◌∷◌, [], IfOk, IsOkAnd, OnOk, OnErr, List, ℕ, length, option_copied, true};
+ghost use Rattle.fx_algebra.specs.Answers.{answer_alone};
+ghost use Rattle.fx_algebra.specs.Occurrences.{services};
 ghost use Rattle.fx_member.specs.GraphWires as spec;
-ghost use Rattle.fx_results.specs.Meanings.{Denotes};
-ghost use Rattle.fx_syntax.specs.Accepted.{Accepted, IsSpellable};
+ghost use Rattle.fx_results.specs.Meanings.{binds_columns};
+ghost use Rattle.fx_syntax.specs.Accepted.{IsSpellable};
 ghost use Rattle.fx_terms.specs.Graphs.{IsGraph};
 ghost use Rattle.fx_wire.specs.Exchanges.{exchanged};
 ghost use Rattle.fx_wire.specs.Honest.{IsHonest, Replies};
 
-use crate::answering::answer;
-use crate::known_answers::known_answer;
-use fx_algebra::Query;
+use crate::answering::{MemberError, answer};
+use fx_algebra::{Answer, Query};
 use fx_http::{posted_text, reply_bytes};
 use fx_outside::{Endpoint, NameCounts};
-use fx_results::laws::denotes_itself;
 use fx_results::write;
-use fx_syntax::{FirstError, parse};
+use fx_syntax::{SyntaxError, SyntaxKind, parse};
 use fx_terms::{Graph, Iri, Memory};
 use fx_wire::script_wires::Answered;
 use fx_wire::{Wire, WireError};
@@ -150,31 +148,38 @@ fn reply_to(alloc: Global, graph: &Graph, request: &[u8]) -> Result<Vec<u8>, Mem
 
 // The whole reply to a text over a graph.
 fn reply_to_text(alloc: Global, graph: &Graph, text: &[u8]) -> Result<Vec<u8>, Memory>
-    ensures { IfOk result (λ reply. (q : QueryTree) → Accepted text.now q → Replies reply.items (answer_of q graph.now)) }
+    ensures { IfOk result (λ reply. spec.RepliesTo graph.now text.now reply.items) }
 {
     match parse(alloc, text) {
         Ok(query) => reply_to_query(alloc, graph, &query),
-        Err(FirstError::NotFirst) => reply_bytes(alloc, 400, b"NotFirst\n"),
-        Err(FirstError::Memory) => Err(Memory),
+        Err(SyntaxError::Refused { kind, place }) => refused(alloc, kind, place),
+        Err(SyntaxError::Memory) => Err(Memory),
     }
 }
 
-// The whole reply to a query over a graph.
-fn reply_to_query(alloc: Global, graph: &Graph, query: &Query) -> Result<Vec<u8>, Memory>
-    requires { IsSpellable query.now }
-    ensures { IfOk result (λ reply. Replies reply.items (answer_of query.now graph.now)) }
-{
-    let document = document_of(alloc, graph, query)?;
-    reply_bytes(alloc, 200, document.as_slice())
+// The reply that names why a text is refused, and where.
+fn refused(alloc: Global, kind: SyntaxKind, place: u64) -> Result<Vec<u8>, Memory> {
+    let why = format!(in alloc; "{} at {place}\n", kind.name())?;
+    reply_bytes(alloc, 400, why.as_bytes())
 }
 
-// The document of a query's answer over a graph.
-fn document_of(alloc: Global, graph: &Graph, query: &Query) -> Result<Vec<u8>, Memory>
+// The whole reply to a query over a graph. A query that would have to ask another endpoint has no answer here.
+fn reply_to_query(alloc: Global, graph: &Graph, query: &Query) -> Result<Vec<u8>, Memory>
     requires { IsSpellable query.now }
-    ensures { IfOk result (λ document. Denotes document.items (answer_of query.now graph.now)) }
+    ensures { IfOk result (λ reply. services query.now ≡ [] → Replies reply.items (answer_alone query.now graph.now)) }
 {
-    denotes_itself();
-    let answer = answer(alloc, graph, query)?;
-    known_answer(&answer);
-    write(alloc, &answer)
+    match answer(alloc, graph, query, &[]) {
+        Ok(answer) => reply_with(alloc, &answer),
+        Err(MemberError::ServiceHere { place: _ }) => reply_bytes(alloc, 400, b"ServiceHere\n"),
+        Err(MemberError::Memory) => Err(Memory),
+    }
+}
+
+// The whole reply with an answer.
+fn reply_with(alloc: Global, answer: &Answer) -> Result<Vec<u8>, Memory>
+    requires { binds_columns answer.now ≡ true }
+    ensures { IfOk result (λ reply. Replies reply.items answer.now) }
+{
+    let document = write(alloc, answer)?;
+    reply_bytes(alloc, 200, document.as_slice())
 }

@@ -5,10 +5,12 @@ pub mod answering;
 mod evaluation;
 pub mod fault_wires;
 pub mod graph_wires;
-mod known_answers;
+pub mod groups;
+mod known_rows;
 mod objects;
+mod places;
 
-pub use answering::answer;
+pub use answering::{MemberError, answer};
 pub use fault_wires::FaultWire;
 use fx_terms::shareable;
 pub use graph_wires::GraphWire;
@@ -17,6 +19,7 @@ pub use graph_wires::GraphWire;
 pub fn all_shareable() {
     shareable::<GraphWire>();
     shareable::<FaultWire>();
+    shareable::<MemberError>();
 }
 
 #[cfg(test)]

@@ -1,7 +1,8 @@
 -- What an endpoint owes that answers by the SPARQL algebra over a graph (SPARQL 1.1 Protocol, 2.1).
-use Rattle.std.specs.Prelude.{◌≤◌, ℕ, List, length}
+use Rattle.std.specs.Prelude.{◌≡◌, ◌≤◌, ℕ, List, [], length}
 use Rattle.fx_terms.specs.declared.triples.Triple.{Triple}
-use Rattle.fx_algebra.specs.Answers.{answer}
+use Rattle.fx_algebra.specs.Answers.{answer_alone}
+use Rattle.fx_algebra.specs.Occurrences.{services}
 use Rattle.fx_algebra.specs.declared.answers.Answer.{Answer}
 use Rattle.fx_algebra.specs.declared.queries.Query.{Query}
 use Rattle.fx_syntax.specs.Accepted.{Accepted}
@@ -15,6 +16,6 @@ pub record Replies (reply : List ℕ) (answer : Answer) : Type 0 where
   pub replied : IsReply reply body
   pub denotes : Denotes body answer
 
--- where the request posts the text of an accepted query, the reply means the query's answer over the graph
+-- where the request posts the text of an accepted query without SERVICE, the reply means the query's answer over the graph
 abbrev pub IsHonest : List Triple → List ℕ → List ℕ → Type 0
-IsHonest graph request reply = (text : List ℕ) (q : Query) → IsRequest request text → length text ≤ 67108864 → Accepted text q → Replies reply (answer q graph)
+IsHonest graph request reply = (text : List ℕ) (q : Query) → IsRequest request text → length text ≤ 67108864 → Accepted text q → services q ≡ [] → Replies reply (answer_alone q graph)

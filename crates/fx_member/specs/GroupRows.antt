@@ -1,0 +1,56 @@
+-- The rows of a group where no other endpoint is asked, since each occurrence of SERVICE is down (SPARQL 1.1 Federated Query,
+-- section 4). The rows stand in some order.
+use Rattle.std.specs.Prelude.{◌≡◌, ℕ, ◌+◌, ◌<◌, ◌≤◌, true, List, [], ◌∷◌, ◌++◌, map, length, IsPermutation}
+use Rattle.fx_terms.specs.declared.triples.Triple.{Triple}
+use Rattle.fx_algebra.specs.Answers.{answer}
+use Rattle.fx_algebra.specs.Evaluation.{extended}
+use Rattle.fx_algebra.specs.Groups.{Part, pattern, condition, operator, Meaning, meaning, element_meaning, group_meaning, conditions_of, part_services, groups_services, group_rows, alternatives, is_down}
+use Rattle.fx_algebra.specs.Occurrences.{services}
+use Rattle.fx_algebra.specs.Solutions.{Bindings}
+use Rattle.fx_algebra.specs.declared.answers.Answer.{Answer}
+use Rattle.fx_algebra.specs.declared.expressions.Expr.{Expr}
+use Rattle.fx_algebra.specs.declared.queries.Element.{Element, fold-Element}
+use Rattle.fx_algebra.specs.declared.queries.Group.{Group}
+use Rattle.fx_algebra.specs.declared.queries.Query.{Query}
+
+-- as many occurrences of SERVICE, from a number on, are down
+pub record AreDown (down : List ℕ) (number count : ℕ) : Type 0 where
+  pub each : (n : ℕ) → number ≤ n → n < number + count → is_down down n ≡ true
+
+-- what an element is to its group
+abbrev pub part_of : (List ℕ → List Triple) → List ℕ → Element → Part
+part_of graphs down = fold-Element Part Meaning (element_meaning graphs down) group_meaning
+
+-- the rows after one element
+abbrev pub after_part : List Triple → ℕ → List Bindings → Part → List Bindings
+after_part graph number rows (pattern p) = extended graph p rows
+after_part graph number rows (condition e) = rows
+after_part graph number rows (operator count f) = f graph number rows
+
+-- the rows are those of a group over a graph, whatever graphs the endpoints have, where all that the group would ask are down
+pub record AreRowsOf (group : Group) (graph : List Triple) (rows : List Bindings) : Type 0 where
+  pub same : (graphs : List ℕ → List Triple) (down : List ℕ) (number : ℕ) → AreDown down number (meaning graphs down group).services → IsPermutation (group_rows (meaning graphs down group) graph number) rows
+
+-- they are those before the group's filters
+pub record AreUnfiltered (group : Group) (graph : List Triple) (rows : List Bindings) : Type 0 where
+  pub same : (graphs : List ℕ → List Triple) (down : List ℕ) (number : ℕ) → AreDown down number (meaning graphs down group).services → IsPermutation ((meaning graphs down group).rows graph number) rows
+
+-- the expressions are a group's own filters
+pub record AreFilters (group : Group) (filters : List Expr) : Type 0 where
+  pub same : (graphs : List ℕ → List Triple) (down : List ℕ) → filters ≡ (meaning graphs down group).filters
+
+-- these are the filters after an element that had those before it
+pub record AreMoreFilters (element : Element) (before filters : List Expr) : Type 0 where
+  pub same : (graphs : List ℕ → List Triple) (down : List ℕ) → filters ≡ before ++ conditions_of (part_of graphs down element ∷ [])
+
+-- the rows are those of groups, one after the other
+pub record AreAlternatives (groups : List Group) (graph : List Triple) (rows : List Bindings) : Type 0 where
+  pub same : (graphs : List ℕ → List Triple) (down : List ℕ) (number : ℕ) → AreDown down number (groups_services (map (meaning graphs down) groups)) → IsPermutation (alternatives (map (meaning graphs down) groups) graph number) rows
+
+-- the rows are those after an element that had these before it
+pub record AreAfter (element : Element) (graph : List Triple) (before rows : List Bindings) : Type 0 where
+  pub same : (graphs : List ℕ → List Triple) (down : List ℕ) (number : ℕ) → AreDown down number (part_services (part_of graphs down element)) → IsPermutation (after_part graph number before (part_of graphs down element)) rows
+
+-- the answer is that of a query over a graph, whatever graphs the endpoints have, where all that the query would ask are down
+pub record IsAnswerOf (q : Query) (graph : List Triple) (found : Answer) : Type 0 where
+  pub same : (graphs : List ℕ → List Triple) (down : List ℕ) → AreDown down 0 (length (services q)) → found ≡ answer q graph graphs down

@@ -1,0 +1,133 @@
+//! The rows of groups (SPARQL 1.1 sections 18.2.2 and 18.6).
+ghost use Rattle.std.specs.Prelude.{◌≡◌, IfOk, OnOk};
+ghost use Rattle.fx_algebra.specs.Operators.{filtered as filtered_of};
+ghost use Rattle.fx_member.specs.GroupRows as spec;
+
+use crate::evaluation::extend_rows;
+use crate::known_rows::known_to_rise;
+use fx_algebra::{Element, Expr, Group, Solution};
+use fx_solutions::{extend, filter, inline_rows, join_with, left_join_with, minus_with};
+use fx_terms::{Graph, Memory};
+use std::alloc::Global;
+
+/// The rows of a group over a graph, in some order, where every occurrence of SERVICE in the group is down: none is asked, and
+/// each leaves the rows before it as they are.
+///
+/// The group is gone through from left to right. A run of triple patterns is joined pattern by pattern, so the rows before it
+/// are known to the look-ups. A nested group, a UNION, an OPTIONAL and a MINUS begin with the one empty solution. The filters of
+/// the group are applied at its end.
+#[cycle(rows)]
+pub fn group_rows(alloc: Global, graph: &Graph, group: &Group) -> Result<Vec<Solution>, Memory>
+    ensures { IfOk result (λ rows. spec.AreRowsOf group.now graph.now rows.items) }
+{
+    let found = unfiltered(alloc, graph, group)?;
+    let filters = filters_of(alloc, group)?;
+    let rows = filtered(alloc, found, filters.as_slice())?;
+    Ok(rows)
+}
+
+// The rows of a group without its filters.
+#[cycle(rows)]
+fn unfiltered(alloc: Global, graph: &Graph, group: &Group) -> Result<Vec<Solution>, Memory>
+    ensures { IfOk result (λ rows. spec.AreUnfiltered group.now graph.now rows.items) }
+{
+    let mut rows = Vec::new(alloc);
+    rows.push(Solution::empty(alloc))?;
+    for element in group.elements.as_slice() {
+        known_to_rise(rows.as_slice());
+        rows = after_element(alloc, graph, element, rows)?;
+    }
+    Ok(rows)
+}
+
+// The rows after an element, from those before it.
+#[cycle(rows)]
+fn after_element(
+    alloc: Global,
+    graph: &Graph,
+    element: &Element,
+    before: Vec<Solution>,
+) -> Result<Vec<Solution>, Memory>
+    ensures { IfOk result (λ rows. spec.AreAfter element.now graph.now before.items rows.items) }
+{
+    match element {
+        Element::Triple(pattern) => {
+            let rows = extend_rows(alloc, graph, pattern, before.as_slice())?;
+            Ok(rows)
+        }
+        Element::Filter(_) => Ok(before),
+        Element::Optional(group) => {
+            let found = unfiltered(alloc, graph, group)?;
+            let filters = filters_of(alloc, group)?;
+            let rows = left_join_with(alloc, before.as_slice(), found, filters.as_slice())?;
+            Ok(rows)
+        }
+        Element::Union(groups) => {
+            let found = alternatives(alloc, graph, groups.as_slice())?;
+            let rows = join_with(alloc, before.as_slice(), found)?;
+            Ok(rows)
+        }
+        Element::Minus(group) => {
+            let found = group_rows(alloc, graph, group)?;
+            let rows = minus_with(alloc, before.as_slice(), found)?;
+            Ok(rows)
+        }
+        Element::Bind { expr, name } => {
+            let rows = extend(alloc, before.as_slice(), name, expr)?;
+            Ok(rows)
+        }
+        Element::Values(inline) => {
+            let found = inline_rows(alloc, inline)?;
+            let rows = join_with(alloc, before.as_slice(), found)?;
+            Ok(rows)
+        }
+        Element::Service {
+            silent: _,
+            iri: _,
+            group: _,
+        } => Ok(before),
+    }
+}
+
+// The rows of groups, one after the other.
+#[cycle(rows)]
+fn alternatives(alloc: Global, graph: &Graph, groups: &[Group]) -> Result<Vec<Solution>, Memory>
+    ensures { IfOk result (λ rows. spec.AreAlternatives groups.now graph.now rows.items) }
+{
+    let mut rows = Vec::new(alloc);
+    for group in groups {
+        let mut found = group_rows(alloc, graph, group)?;
+        rows.append(&mut found)?;
+    }
+    Ok(rows)
+}
+
+// A group's own filters.
+fn filters_of(alloc: Global, group: &Group) -> Result<Vec<Expr>, Memory>
+    ensures { IfOk result (λ filters. spec.AreFilters group.now filters.items) }
+{
+    let mut filters = Vec::new(alloc);
+    for element in group.elements.as_slice() {
+        add_filter(alloc, &mut filters, element)?;
+    }
+    Ok(filters)
+}
+
+// Adds the expression of a filter. Any other element adds nothing.
+fn add_filter(alloc: Global, filters: &mut Vec<Expr>, element: &Element) -> Result<(), Memory>
+    ensures { OnOk result (spec.AreMoreFilters element.now filters.old.items filters.new.items) }
+{
+    if let Element::Filter(expr) = element {
+        filters.push(expr.copy(alloc)?)?;
+    }
+    Ok(())
+}
+
+fn filtered(alloc: Global, rows: Vec<Solution>, filters: &[Expr]) -> Result<Vec<Solution>, Memory>
+    ensures { IfOk result (λ kept. kept.items ≡ filtered_of filters.now rows.items) }
+{
+    if filters.is_empty() {
+        return Ok(rows);
+    }
+    filter(alloc, rows.as_slice(), filters)
+}
