@@ -7,7 +7,7 @@ use Rattle.fx_results.specs.declared.faults.ResultsError.{ResultsError}
 use Rattle.std.specs.Ordering.{is_eq}
 use Rattle.std.specs.List.{list_any, AllByRecursion}
 use Rattle.std.proofs.lemmas.Cmp.{tied_itself}
-use Rattle.std.proofs.lemmas.List.Sorted.{IsPermutation-refl, IsPermutation-sym, IsPermutation-cons, IsPermutation-trans, IsPermutation-middle, list_any-IsPermutation}
+use Rattle.std.proofs.lemmas.List.Sorted.{IsPermutation-refl, IsPermutation-sym, IsPermutation-cons, IsPermutation-trans, IsPermutation-map, IsPermutation-middle, list_any-IsPermutation}
 use Rattle.std.specs.declared.cmp.Ordering.{Ordering}
 use Rattle.std.specs.Ordering.{is_le}
 use Rattle.std.specs.FinMap.Entries.{below_all}
@@ -18,28 +18,34 @@ use Rattle.fx_terms.specs.declared.triples.Triple.{Triple}
 use Rattle.fx_terms.specs.declared.patterns.Pattern.{Pattern}
 use Rattle.fx_terms.proofs.SetLemmas.{Among, among_from, contains_from}
 use Rattle.fx_outside.specs.Endpoints.{EndpointParts}
-use Rattle.fx_algebra.specs.Answers.{answer, patterns_of}
+use Rattle.fx_algebra.specs.Answers.{answer_alone, form_answer, no_graphs}
 use Rattle.fx_algebra.specs.BasicGraphPatterns.{bgp, variables, IsSolutionOf}
 use Rattle.fx_algebra.specs.Scopes.{is_among, pattern_names, once}
-use Rattle.fx_algebra.specs.Sequences.{projected, ordered, sorted_by, insert_by, row_cmp}
+use Rattle.fx_algebra.specs.Sequences.{projected, sorted_by, insert_by}
+use Rattle.fx_algebra.specs.Occurrences.{Occurrence, all_of, element_occurrences, group_occurrences, of_element, services}
+use Rattle.fx_algebra.specs.OrderedRows.{keyed, keyed_cmp, in_order}
 use Rattle.fx_algebra.specs.Solutions.{Bindings, term_of, SameRows}
 use Rattle.fx_algebra.specs.declared.answers.Answer.{Answer}
 use Rattle.fx_algebra.specs.declared.answers.Answer.TheVariants.{Table, Truth}
+use Rattle.fx_algebra.specs.declared.queries.Element.{Element-F, fold-roll-Element}
+use Rattle.fx_algebra.specs.declared.queries.Element.TheVariants as element
+use Rattle.fx_algebra.specs.declared.queries.Group.{fold-roll-Group}
 use Rattle.fx_algebra.proofs.BgpLemmas.{solution_of}
+use Rattle.fx_algebra.proofs.PlainLemmas.{plain_rows}
 use Rattle.fx_http.specs.Requests.{IsRequest, request_of}
 use Rattle.fx_http.specs.Replies.{IsReply, Replies}
 use Rattle.fx_http.proofs.ReplyLaws.{reply_unique}
 use Rattle.fx_results.specs.Reading.{read_results}
 use Rattle.fx_results.specs.Meanings.{Denotes, SameAnswer}
 use Rattle.fx_syntax.specs.Accepted.{Accepted}
-use Rattle.fx_syntax.specs.FirstForm.{plain_query, group_of}
+use Rattle.fx_syntax.specs.Printable.{pattern_query}
 use Rattle.fx_wire.specs.Exchanges.{Exchange, exchanged}
 use Rattle.fx_wire.specs.Honest.{IsHonest}
-use Rattle.fx_engine.specs.MemberQueries.{columns_of, query_of, IsAsked}
+use Rattle.fx_engine.specs.MemberQueries.{columns_of, IsAsked}
 use Rattle.fx_engine.specs.Tables.{SameNames, HasTable, ReadsTable}
 use Rattle.fx_engine.specs.Federation.{IsBadExchange}
 use Rattle.fx_engine.proofs.NameLemmas.{among_once}
-use Rattle.fx_engine.proofs.SpelledLemmas.{patterns_are}
+use Rattle.fx_engine.proofs.PatternLemmas.{alone, is_plain_query}
 
 -- ---- rows in order are the rows
 
@@ -92,17 +98,33 @@ map_same : {X : Type 0} (f : X → X) (xs : List X) → ((x : X) → Among x xs 
 map_same f [] h = refl
 map_same f (x ∷ xs) h = let here : f x ≡ x = h x (inl refl) in let rest : map f xs ≡ xs = map_same f xs (λ y m. h y (inr m)) in λ i. here i ∷ rest i
 
-ordered_rows : (graph : List Triple) (p : Pattern) → IsPermutation (bgp graph (p ∷ [])) (ordered (columns_of p) (bgp graph (p ∷ [])))
+-- the rows of keyed rows
+rows_kept : (columns : List (List ℕ)) (rows : List Bindings) → map (λ k. k.row) (map (keyed [] columns) rows) ≡ map (projected columns) rows
+rows_kept columns [] = refl
+rows_kept columns (s ∷ rows) = ap (λ rest. projected columns s ∷ rest) (rows_kept columns rows)
+
+ordered_rows : (graph : List Triple) (p : Pattern) → IsPermutation (bgp graph (p ∷ [])) (in_order [] (columns_of p) (bgp graph (p ∷ [])))
 ordered_rows graph p =
+    let columns = columns_of p in
     let rows = bgp graph (p ∷ []) in
-    let same : map (projected (columns_of p)) rows ≡ rows = map_same (projected (columns_of p)) rows (projected_row graph p) in
-    subst (λ (v : List Bindings). IsPermutation rows (sorted_by (row_cmp (columns_of p)) v)) (sym same) (sorted_moves (row_cmp (columns_of p)) rows)
+    let all = map (keyed [] columns) rows in
+    let same : map (λ k. k.row) all ≡ rows = rows_kept columns rows ∙ map_same (projected columns) rows (projected_row graph p) in
+    let sorted = sorted_by (keyed_cmp [] columns) all in
+    subst (λ (v : List Bindings). IsPermutation v (map (λ k. k.row) sorted)) same (IsPermutation-map (λ k. k.row) all sorted (sorted_moves (keyed_cmp [] columns) all))
 
 -- ---- an honest reply
 
 -- the answer of a pattern's query
-answer_is : (graph : List Triple) (p : Pattern) → answer (query_of p) graph ≡ Table (columns_of p) (ordered (columns_of p) (bgp graph (p ∷ [])))
-answer_is graph p = ap (λ ps. Table (columns_of p) (ordered (columns_of p) (bgp graph ps))) (patterns_are (p ∷ []))
+answer_is : (graph : List Triple) (p : Pattern) → answer_alone (pattern_query p) graph ≡ Table (columns_of p) (in_order [] (columns_of p) (bgp graph (p ∷ [])))
+answer_is graph p =
+    let q = pattern_query p in
+    ap (form_answer q q.form) (plain_rows q graph no_graphs [] (is_plain_query p) ∙ ap (bgp graph) (alone p))
+
+-- it has no SERVICE
+no_services : (p : Pattern) → services (pattern_query p) ≡ []
+no_services p =
+    fold-roll-Group (List Occurrence) (List Occurrence) element_occurrences group_occurrences (record { elements = element.Triple p ∷ [] })
+    ∙ ap (λ v. all_of (v ∷ [])) (ap of_element (sym (element.rolls-Triple p)) ∙ fold-roll-Element (List Occurrence) (List Occurrence) element_occurrences group_occurrences (Element-F.Triple p))
 
 -- what an honest reply is read as
 pub record Told (reply : List ℕ) (graph : List Triple) (p : Pattern) : Type 0 where
@@ -115,19 +137,19 @@ pub record Told (reply : List ℕ) (graph : List Triple) (p : Pattern) : Type 0 
 same_names_of : (names others : List (List ℕ)) → IsPermutation names others → SameNames names others
 same_names_of names others h = λ name. list_any-IsPermutation (λ n. is_eq (text_cmp n name)) names others h
 
-told_table : (reply body : List ℕ) (graph : List Triple) (p : Pattern) (told : Answer) → IsReply reply body → read_results body ≡ Ok told → SameAnswer told (Table (columns_of p) (ordered (columns_of p) (bgp graph (p ∷ [])))) → Told reply graph p
+told_table : (reply body : List ℕ) (graph : List Triple) (p : Pattern) (told : Answer) → IsReply reply body → read_results body ≡ Ok told → SameAnswer told (Table (columns_of p) (in_order [] (columns_of p) (bgp graph (p ∷ [])))) → Told reply graph p
 told_table reply body graph p (Truth truth) h r s = absurd s
 told_table reply body graph p (Table names rows) h r s = record {
   rows = rows;
   body = body;
   replied = h;
   table = record { told = names; read = r; same = same_names_of names (columns_of p) s.0 };
-  same = IsPermutation-trans rows (ordered (columns_of p) (bgp graph (p ∷ []))) (bgp graph (p ∷ [])) s.1 (IsPermutation-sym _ _ (ordered_rows graph p));
+  same = IsPermutation-trans rows (in_order [] (columns_of p) (bgp graph (p ∷ []))) (bgp graph (p ∷ [])) s.1 (IsPermutation-sym _ _ (ordered_rows graph p));
 }
 
-pub honest_told : (request text reply : List ℕ) (graph : List Triple) (p : Pattern) → IsHonest graph request reply → IsRequest request text → length text ≤ 67108864 → Accepted text (query_of p) → Told reply graph p
+pub honest_told : (request text reply : List ℕ) (graph : List Triple) (p : Pattern) → IsHonest graph request reply → IsRequest request text → length text ≤ 67108864 → Accepted text (pattern_query p) → Told reply graph p
 honest_told request text reply graph p h r l a =
-    let x = h text (query_of p) r l a in
+    let x = h text (pattern_query p) r l a (no_services p) in
     told_table reply x.body graph p x.denotes.told x.replied x.denotes.read (subst (SameAnswer x.denotes.told) (answer_is graph p) x.denotes.same)
 
 equal_tables : (r : Result Answer ResultsError) (names others : List (List ℕ)) (rows more : List Bindings) → r ≡ Ok (Table names rows) → r ≡ Ok (Table others more) → rows ≡ more
@@ -172,10 +194,9 @@ pub bad_exchange : (o : Option (List Triple)) (at : EndpointParts) (request text
     → ((rows : List Bindings) → ReadsTable reply columns rows → ⊥) → IsBadExchange o (exchanged at request reply)
 bad_exchange o at request text reply columns p h r e l a unread = record {
   text = text;
-  columns = columns;
-  patterns = p ∷ [];
+  pattern = p;
   requested = e;
-  accepted = subst (λ (c : List (List ℕ)). Accepted text (plain_query c (p ∷ []))) (sym a.named) a.accepted;
-  unread = unread;
+  accepted = a.accepted;
+  unread = λ rows t. unread rows (subst (λ (c : List (List ℕ)). ReadsTable reply c rows) (sym a.named) t);
   long = too_long o request text reply columns p h r l a unread;
 }

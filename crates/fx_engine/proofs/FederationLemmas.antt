@@ -8,22 +8,16 @@ use Rattle.fx_terms.specs.Graphs.{union}
 use Rattle.fx_terms.specs.declared.triples.Triple.{Triple}
 use Rattle.fx_terms.specs.declared.patterns.Pattern.{Pattern}
 use Rattle.fx_terms.proofs.SetLemmas.{Among, among_from, contains_from}
-use Rattle.fx_algebra.specs.Answers.{answer, patterns_of, has_rows}
+use Rattle.fx_algebra.specs.Answers.{answer_alone, form_answer, no_graphs, patterns_of, IsPlain}
 use Rattle.fx_algebra.specs.BasicGraphPatterns.{bgp, forced, parts_of}
 use Rattle.fx_algebra.specs.Evaluation.{extended, rows_from}
 use Rattle.fx_algebra.specs.Operators.{join}
 use Rattle.fx_algebra.specs.Solutions.{Bindings, SameRows, rises}
-use Rattle.fx_algebra.specs.declared.answers.Answer.{Answer}
-use Rattle.fx_algebra.specs.declared.answers.Answer.TheVariants.{Table}
 use Rattle.fx_algebra.specs.declared.queries.Query.{Query}
 use Rattle.fx_algebra.proofs.BgpLemmas.{rows_from-bgp, solution_of}
 use Rattle.fx_algebra.proofs.JoinLemmas.{join_extends, same_join}
-use Rattle.fx_algebra.proofs.SequenceLemmas.{same_ordered}
-use Rattle.fx_syntax.specs.Accepted.{IsSpellable}
-use Rattle.fx_syntax.specs.FirstForm.{plain_query, group_of}
-use Rattle.fx_solutions.specs.Tables.{plain_answer}
-use Rattle.fx_engine.specs.MemberQueries.{IsPrintable}
-use Rattle.fx_engine.proofs.SpelledLemmas.{IsSpelled, spelled_from, patterns_are}
+use Rattle.fx_algebra.proofs.PlainLemmas.{plain_rows}
+use Rattle.fx_solutions.proofs.AnswerLemmas.{one_answer_holds}
 
 to_T : (b : Bool) → b ≡ true → T b
 to_T true h = tt
@@ -57,26 +51,16 @@ no_patterns graph = IsPermutation-refl ([] ∷ [])
 
 -- ---- the answer
 
-pub printable_patterns : (q : Query) (ps : List Pattern) → IsSpellable q → ps ≡ patterns_of q.group → All IsPrintable ps
-printable_patterns q ps h e =
-    let s = spelled_from q h in
-    let same : ps ≡ s.patterns = e ∙ ap (λ (x : Query). patterns_of x.group) s.query ∙ patterns_are s.patterns in
-    subst (All IsPrintable) (sym same) (All-from_recursion IsPrintable s.patterns s.printable)
+true_from : (b : Bool) → T b → b ≡ true
+true_from true h = refl
+true_from false h = absurd h
 
-pub answer_from : (graph : List Triple) (q : Query) (rows : List Bindings) → IsSpellable q → SameRows (bgp graph (patterns_of q.group)) rows → plain_answer q.form rows ≡ answer q graph
+all_true : (rows : List Bindings) → AllByRecursion (λ r. T (rises r)) rows → AllByRecursion (λ r. IsTrue (rises r)) rows
+all_true [] h = tt
+all_true (r ∷ rs) h = (true_from (rises r) h.0, all_true rs h.1)
+
+pub answer_from : (graph : List Triple) (q : Query) (rows : List Bindings) → IsPlain q → SameRows (bgp graph (patterns_of q.group)) rows → form_answer q q.form rows ≡ answer_alone q graph
 answer_from graph q rows h k =
-    let s = spelled_from q h in
-    let own = bgp graph (patterns_of (group_of s.patterns)) in
-    let same : SameRows own rows = subst (λ (x : Query). SameRows (bgp graph (patterns_of x.group)) rows) s.query k in
-    let rise : All (λ r. IsTrue (rises r)) own = All-from_recursion (λ r. IsTrue (rises r)) own (all_true own (all_rise graph (patterns_of (group_of s.patterns)) own (λ r m. m))) in
-    ap (λ (x : Query). plain_answer x.form rows) s.query
-    ∙ ap (λ v. Table s.columns v) (sym (same_ordered s.columns own rows rise same))
-    ∙ ap (λ (x : Query). answer x graph) (sym s.query)
-  where
-    true_from : (b : Bool) → T b → b ≡ true
-    true_from true h = refl
-    true_from false h = absurd h
-
-    all_true : (rows : List Bindings) → AllByRecursion (λ r. T (rises r)) rows → AllByRecursion (λ r. IsTrue (rises r)) rows
-    all_true [] h = tt
-    all_true (r ∷ rs) h = (true_from (rises r) h.0, all_true rs h.1)
+    let own = bgp graph (patterns_of q.group) in
+    let rise : All (λ r. IsTrue (rises r)) own = All-from_recursion (λ r. IsTrue (rises r)) own (all_true own (all_rise graph (patterns_of q.group) own (λ r m. m))) in
+    sym (one_answer_holds q own rows rise k) ∙ ap (form_answer q q.form) (sym (plain_rows q graph no_graphs [] h))

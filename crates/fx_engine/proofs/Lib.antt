@@ -1,6 +1,5 @@
 pub mod NameLemmas
-pub mod TextLemmas
-pub mod SpelledLemmas
+pub mod PatternLemmas
 pub mod AskLemmas
 pub mod TableLemmas
 pub mod GatherLemmas

@@ -52,39 +52,6 @@ all_among (n ∷ ns) others f = and_true _ _ (f n (here n ns)) (all_among ns oth
 pub among_same : (names others : List (List ℕ)) → SameNames names others → (list_all (is_among others) names ≡ true) × (list_all (is_among names) others ≡ true)
 among_same names others h = (all_among names others (λ name k. sym (h name) ∙ k), all_among others names (λ name k. h name ∙ k))
 
--- ---- names, each once
-
--- each name is none of those before it
-abbrev IsFresh : List (List ℕ) → List (List ℕ) → Type 0
-IsFresh before [] = Unit {0}
-IsFresh before (n ∷ ns) = (is_among before n ≡ false) × IsFresh (before ++ n ∷ []) ns
-
-fresh_fold : (before ns : List (List ℕ)) → IsFresh before ns → fold with_name before ns ≡ before ++ ns
-unfolding with_name
-fresh_fold before [] h = sym (append-nil before)
-fresh_fold before (n ∷ ns) h =
-    ap (λ b. fold with_name (cond b before (before ++ n ∷ [])) ns) h.0 ∙ fresh_fold (before ++ n ∷ []) ns h.1 ∙ append_assoc before (n ∷ []) ns
-
-fresh_more : (before ns : List (List ℕ)) (n : List ℕ) → IsFresh before ns → is_among (before ++ ns) n ≡ false → IsFresh before (ns ++ n ∷ [])
-fresh_more before [] n h new = (ap (λ v. is_among v n) (sym (append-nil before)) ∙ new, tt)
-fresh_more before (m ∷ ms) n h new = (h.0, fresh_more (before ++ m ∷ []) ms n h.1 (ap (λ v. is_among v n) (append_assoc before (m ∷ []) ms) ∙ new))
-
-fresh_with : (ns : List (List ℕ)) (n : List ℕ) → IsFresh [] ns → IsFresh [] (with_name ns n)
-unfolding with_name
-fresh_with ns n h = pick (is_among ns n) refl
-  where
-    pick : (b : Bool) → is_among ns n ≡ b → IsFresh [] (cond b ns (ns ++ n ∷ []))
-    pick true e = h
-    pick false e = fresh_more [] ns n h e
-
-fresh_folded : (ns names : List (List ℕ)) → IsFresh [] ns → IsFresh [] (fold with_name ns names)
-fresh_folded ns [] h = h
-fresh_folded ns (n ∷ names) h = fresh_folded (with_name ns n) names (fresh_with ns n h)
-
--- names that stand once are their own
-pub once_again : (names : List (List ℕ)) → once (once names) ≡ once names
-once_again names = fresh_fold [] (once names) (fresh_folded [] names tt)
-
 -- ---- the names that are kept are the names
 
 among_with : (ns : List (List ℕ)) (n name : List ℕ) → is_among (with_name ns n) name ≡ (is_among ns name || is_among (n ∷ []) name)

@@ -6,16 +6,16 @@ use Rattle.fx_terms.specs.Graphs.{union}
 use Rattle.fx_terms.specs.declared.triples.Triple.{Triple}
 use Rattle.fx_terms.specs.declared.patterns.Pattern.{Pattern}
 use Rattle.fx_outside.specs.Endpoints.{EndpointParts}
-use Rattle.fx_algebra.specs.Answers.{answer}
+use Rattle.fx_algebra.specs.Answers.{answer_alone}
 use Rattle.fx_algebra.specs.BasicGraphPatterns.{bgp}
 use Rattle.fx_algebra.specs.Solutions.{Bindings, SameRows}
 use Rattle.fx_algebra.specs.declared.answers.Answer.{Answer}
 use Rattle.fx_algebra.specs.declared.queries.Query.{Query}
 use Rattle.fx_http.specs.Requests.{request_of}
 use Rattle.fx_syntax.specs.Accepted.{Accepted}
-use Rattle.fx_syntax.specs.FirstForm.{plain_query}
+use Rattle.fx_syntax.specs.Printable.{pattern_query}
 use Rattle.fx_wire.specs.Exchanges.{Exchange, Seen}
-use Rattle.fx_engine.specs.MemberQueries.{IsAsked}
+use Rattle.fx_engine.specs.MemberQueries.{columns_of, IsAsked}
 use Rattle.fx_engine.specs.Tables.{ReadsTable}
 use Rattle.fx_engine.specs.declared.errors.AskError.{AskError}
 use Rattle.fx_engine.specs.declared.errors.AskError.TheVariants as ask
@@ -35,15 +35,14 @@ Tells graph (e ∷ es) (g ∷ gs) = (graph e.iri ≡ Some g) × Tells graph es g
 abbrev pub HasFailed : Seen → Seen → EndpointParts → Type 0
 HasFailed before after e = before.faults e.iri < after.faults e.iri
 
--- the exchange's request posts a plain query, and its reply is no table with just the query's columns; where the endpoint's
--- graph is told, the reply is longer than a reply may be
+-- the exchange's request posts the query of a pattern, and its reply is no table with just the pattern's variables as columns;
+-- where the endpoint's graph is told, the reply is longer than a reply may be
 pub record IsBadExchange (graph : Option (List Triple)) (x : Exchange) : Type 0 where
   pub text : List ℕ
-  pub columns : List (List ℕ)
-  pub patterns : List Pattern
+  pub pattern : Pattern
   pub requested : x.request ≡ request_of x.at text
-  pub accepted : Accepted text (plain_query columns patterns)
-  pub unread : (rows : List Bindings) → ReadsTable x.reply columns rows → ⊥
+  pub accepted : Accepted text (pattern_query pattern)
+  pub unread : (rows : List Bindings) → ReadsTable x.reply (columns_of pattern) rows → ⊥
   pub long : IfSome graph (λ _. 67108864 < length x.reply)
 
 -- such an exchange with the endpoint stands in what the log gained, where the log is told
@@ -93,5 +92,5 @@ GathersRows before after endpoints ps (Err e) = IsRefused before after endpoints
 
 -- where the graphs of all endpoints are told, the answer is the query's over their union; else the cause
 abbrev pub Federates : Seen → Seen → List EndpointParts → Query → Result Answer FedError → Type 0
-Federates before after endpoints q (Ok given) = (graphs : List (List Triple)) → Tells before.graph endpoints graphs → given ≡ answer q (union graphs)
+Federates before after endpoints q (Ok given) = (graphs : List (List Triple)) → Tells before.graph endpoints graphs → given ≡ answer_alone q (union graphs)
 Federates before after endpoints q (Err e) = IsRefused before after endpoints e

@@ -1,10 +1,9 @@
 //! The answer of a query over several endpoints.
 ghost use Rattle.std.specs.Prelude.{◌≡◌, ◌∷◌, [], true, All, IfOk};
+ghost use Rattle.fx_algebra.specs.Answers.{IsPlain};
 ghost use Rattle.fx_outside.specs.Endpoints.{is_sendable};
-ghost use Rattle.fx_syntax.specs.Accepted.{IsSpellable};
 ghost use Rattle.fx_wire.specs.Exchanges.{IsAfter, seen};
 ghost use Rattle.fx_engine.specs.Federation.{Federates, GathersRows};
-ghost use Rattle.fx_engine.specs.MemberQueries.{IsPrintable};
 
 use crate::errors::FedError;
 use crate::gathering::gather;
@@ -15,7 +14,7 @@ use fx_terms::{Memory, Pattern};
 use fx_wire::Wire;
 use std::alloc::Global;
 
-/// The answer of a query over the union of the graphs of the endpoints, as if they were one graph.
+/// The answer of a plain query over the union of the graphs of the endpoints, as if they were one graph.
 ///
 /// For each triple pattern in text order each endpoint is asked in turn for the pattern's solutions; they are united, each is
 /// kept once, and the patterns' rows are joined. The errors come as `FedError` says; no order between the endpoints of one
@@ -26,7 +25,7 @@ pub fn federate<W: Wire>(
     endpoints: &[Endpoint],
     wire: &mut W,
 ) -> Result<Answer, FedError>
-    requires spellable { IsSpellable query.now }
+    requires plain { IsPlain query.now }
     requires sendable { All (λ e. is_sendable e ≡ true) endpoints.now }
     ensures answer { Federates (seen W.tells_log W.log W.graph W.faults wire.old) (seen W.tells_log W.log W.graph W.faults wire.new) endpoints.now query.now result }
     ensures after { IsAfter (seen W.tells_log W.log W.graph W.faults wire.old) (seen W.tells_log W.log W.graph W.faults wire.new) }
@@ -36,7 +35,7 @@ pub fn federate<W: Wire>(
     };
     match join_all(alloc, patterns.as_slice(), endpoints, wire) {
         Err(error) => Err(error),
-        Ok(rows) => match answer_of_rows(alloc, &query.form, rows.as_slice()) {
+        Ok(rows) => match answer_of_rows(alloc, query, rows.as_slice()) {
             Ok(answer) => Ok(answer),
             Err(Memory) => Err(FedError::Memory),
         },
@@ -50,7 +49,6 @@ fn join_all<W: Wire>(
     endpoints: &[Endpoint],
     wire: &mut W,
 ) -> Result<Vec<Solution>, FedError>
-    requires printable { All IsPrintable patterns.now }
     requires sendable { All (λ e. is_sendable e ≡ true) endpoints.now }
     ensures rows { GathersRows (seen W.tells_log W.log W.graph W.faults wire.old) (seen W.tells_log W.log W.graph W.faults wire.new) endpoints.now patterns.now result }
     ensures after { IsAfter (seen W.tells_log W.log W.graph W.faults wire.old) (seen W.tells_log W.log W.graph W.faults wire.new) }

@@ -6,11 +6,11 @@ ghost use Rattle.fx_outside.specs.Endpoints.{is_sendable};
 ghost use Rattle.fx_algebra.specs.Solutions.{solution_cmp};
 ghost use Rattle.fx_wire.specs.Exchanges.{IsAfter, seen};
 ghost use Rattle.fx_engine.specs.Federation.{CollectsRows, GathersRows};
-ghost use Rattle.fx_engine.specs.MemberQueries.{IsAsked, IsPrintable};
+ghost use Rattle.fx_engine.specs.MemberQueries.{IsAsked};
 
 use crate::asking::ask;
 use crate::errors::FedError;
-use crate::queries::{columns_of, text_of};
+use crate::queries::{columns_of, is_literal, known_pattern, text_of};
 use fx_algebra::Solution;
 use fx_outside::Endpoint;
 use fx_terms::{Items, Memory, Name, Pattern};
@@ -18,7 +18,7 @@ use fx_wire::Wire;
 use std::alloc::Global;
 
 /// The rows of a pattern over the union of the endpoints' graphs: each endpoint is asked in turn, their rows are united, and
-/// each is kept once.
+/// each is kept once. A pattern with a literal as its predicate has no rows, and no endpoint is asked for it.
 pub fn gather<W: Wire>(
     alloc: Global,
     wire: &mut W,
@@ -26,14 +26,17 @@ pub fn gather<W: Wire>(
     pattern: &Pattern,
 ) -> Result<Vec<Solution>, FedError>
     requires sendable { All (λ e. is_sendable e ≡ true) endpoints.now }
-    requires printable { IsPrintable pattern.now }
     ensures rows { GathersRows (seen W.tells_log W.log W.graph W.faults wire.old) (seen W.tells_log W.log W.graph W.faults wire.new) endpoints.now (pattern.now ∷ []) result }
     ensures after { IsAfter (seen W.tells_log W.log W.graph W.faults wire.old) (seen W.tells_log W.log W.graph W.faults wire.new) }
 {
+    if is_literal(&pattern.predicate) {
+        return Ok(Vec::new(alloc));
+    }
+    known_pattern(pattern);
     let Ok(columns) = columns_of(alloc, pattern) else {
         return Err(FedError::Memory);
     };
-    let Ok(text) = text_of(alloc, pattern, columns.as_slice()) else {
+    let Ok(text) = text_of(alloc, pattern) else {
         return Err(FedError::Memory);
     };
     match collect(alloc, wire, endpoints, text.as_str(), columns.as_slice()) {

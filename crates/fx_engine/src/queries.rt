@@ -1,10 +1,14 @@
 //! The query that a member is asked for a pattern.
-ghost use Rattle.std.specs.Prelude.{◌≡◌, ◌++◌, ◌∷◌, ℕ, List, IfOk, OnOk, map, string_bytes};
+ghost use Rattle.std.specs.Prelude.{◌≡◌, ◌++◌, false, IfOk, OnOk, string_bytes};
+ghost use Rattle.fx_algebra.specs.Printed.{printed_query};
 ghost use Rattle.fx_algebra.specs.Scopes.{part_names};
+ghost use Rattle.fx_syntax.specs.Printable.{IsPart, IsTriple, pattern_query};
 ghost use Rattle.fx_engine.specs.MemberQueries as spec;
 
 use fx_algebra::scopes::once;
-use fx_terms::{Memory, Name, Pattern, PatternTerm, Term};
+use fx_algebra::{Element, Form, Group, Query};
+use fx_print::print;
+use fx_terms::{Items, Memory, Name, Pattern, PatternTerm, Term};
 use std::alloc::Global;
 
 /// The variables of a pattern, each once, in the order of subject, predicate, object.
@@ -27,71 +31,61 @@ fn push_name(names: &mut Vec<Name>, part: &PatternTerm) -> Result<(), Memory>
     Ok(())
 }
 
-/// The text of the query for a pattern, whose variables are these columns: its words with one space between.
-pub fn text_of(alloc: Global, pattern: &Pattern, columns: &[Name]) -> Result<String, Memory>
-    requires printable { spec.IsPrintable pattern.now }
-    requires named { columns.now ≡ spec.columns_of pattern.now }
-    ensures { IfOk result (λ text. string_bytes text ≡ spec.text_of pattern.now) }
+/// The text of the query for a pattern, whose columns are the pattern's variables.
+pub fn text_of(alloc: Global, pattern: &Pattern) -> Result<String, Memory>
+    ensures { IfOk result (λ text. string_bytes text ≡ printed_query (pattern_query pattern.now)) }
 {
-    let mut text = String::from_str(alloc, "SELECT")?;
-    push_columns(&mut text, columns)?;
-    push_word(&mut text, "WHERE")?;
-    push_word(&mut text, "{")?;
-    push_part(&mut text, &pattern.subject)?;
-    push_part(&mut text, &pattern.predicate)?;
-    push_part(&mut text, &pattern.object)?;
-    push_word(&mut text, ".")?;
-    push_word(&mut text, "}")?;
-    Ok(text)
+    let query = query_of(alloc, pattern)?;
+    print(alloc, &query)
 }
 
-fn push_columns(text: &mut String, columns: &[Name]) -> Result<(), Memory>
-    ensures { OnOk result (string_bytes text.new ≡ string_bytes text.old ++ spec.spaced (spec.column_words columns.now)) }
+fn query_of(alloc: Global, pattern: &Pattern) -> Result<Query, Memory>
+    ensures { IfOk result (λ query. query ≡ pattern_query pattern.now) }
 {
-    if columns.is_empty() {
-        return push_word(text, "*");
-    }
-    push_variables(text, columns)
+    let columns = Items::from_vec(columns_of(alloc, pattern)?);
+    let mut elements = Items::new(alloc);
+    elements.push(Element::Triple(pattern.copy()?))?;
+    Ok(Query {
+        form: Form::Select {
+            distinct: false,
+            columns,
+        },
+        group: Group { elements },
+        order: Items::new(alloc),
+        offset: 0,
+        limit: None,
+        inline: None,
+    })
 }
 
-fn push_variables(text: &mut String, names: &[Name]) -> Result<(), Memory>
-    ensures { OnOk result (string_bytes text.new ≡ string_bytes text.old ++ spec.spaced (map (λ name. 63 ∷ name) names.now)) }
-{
-    for name in names {
-        push_variable(text, name)?;
-    }
-    Ok(())
-}
-
-fn push_part(text: &mut String, part: &PatternTerm) -> Result<(), Memory>
-    requires { spec.IsPrintablePart part.now }
-    ensures { OnOk result (string_bytes text.new ≡ string_bytes text.old ++ (32 ∷ spec.part_word part.now)) }
+/// Whether a part of a pattern is a literal. A literal is no predicate of a triple.
+pub fn is_literal(part: &PatternTerm) -> bool
+    ensures { result ≡ spec.is_literal part.now }
 {
     match part {
-        PatternTerm::Variable(name) => push_variable(text, name),
-        PatternTerm::Constant(Term::Iri(iri)) => push_marked(text, " <", iri.text(), ">"),
-        PatternTerm::Constant(Term::Literal(_)) => unreachable!(),
+        PatternTerm::Variable(_) => false,
+        PatternTerm::Constant(Term::Iri(_)) => false,
+        PatternTerm::Constant(Term::Literal(_)) => true,
     }
 }
 
-fn push_variable(text: &mut String, name: &Name) -> Result<(), Memory>
-    ensures { OnOk result (string_bytes text.new ≡ string_bytes text.old ++ (32 ∷ 63 ∷ name.now)) }
+/// That the parts of a pattern are what their readers accept, for proofs that need to know. It does nothing.
+pub fn known_pattern(pattern: &Pattern)
+    requires { spec.is_literal pattern.now.predicate ≡ false }
+    ensures { IsTriple pattern.now }
 {
-    push_marked(text, " ?", name.text(), "")
+    known_part(&pattern.subject);
+    known_part(&pattern.predicate);
+    known_part(&pattern.object);
 }
 
-fn push_word(text: &mut String, word: &str) -> Result<(), Memory>
-    ensures { OnOk result (string_bytes text.new ≡ string_bytes text.old ++ (32 ∷ word.now)) }
+fn known_part(part: &PatternTerm)
+    ensures { IsPart part.now }
 {
-    push_marked(text, " ", word, "")
-}
-
-// Adds a word between two marks.
-fn push_marked(text: &mut String, before: &str, word: &str, after: &str) -> Result<(), Memory>
-    ensures { OnOk result (string_bytes text.new ≡ string_bytes text.old ++ (before.now ++ (word.now ++ after.now))) }
-{
-    text.push_str(before)?;
-    text.push_str(word)?;
-    text.push_str(after)?;
-    Ok(())
+    match part {
+        PatternTerm::Variable(name) => {
+            let _text = name.text();
+        }
+        PatternTerm::Constant(term) => term.known(),
+    }
 }

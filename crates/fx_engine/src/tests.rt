@@ -1,16 +1,14 @@
 //! What a federation answers over endpoints that answer by a script. Lists of rows are written with a `;` behind each row, and
 //! a row as names with their IRIs.
-ghost use Rattle.std.specs.Prelude.{IfOk};
-ghost use Rattle.fx_syntax.specs.Accepted.{IsSpellable};
-
+use crate::queries::text_of;
 use crate::{FedError, federate};
-use fx_algebra::{Answer, Query, Solution};
+use fx_algebra::{Answer, Solution, is_plain, patterns_of};
 use fx_outside::Endpoint;
-use fx_syntax::{FirstError, parse};
-use fx_terms::{Iri, Memory, Name, Term};
+use fx_print::print;
+use fx_syntax::parse;
+use fx_terms::{Iri, Memory, Term};
 use fx_wire::ScriptWire;
 use std::alloc::Global;
-use std::process::Abort;
 use std::test::Fail;
 
 const PATTERN: &str = "SELECT ?x WHERE { ?x <http://e/p> ?y }";
@@ -59,16 +57,13 @@ fn rows_of_all_endpoints_are_one_answer(rt: HostRuntime) -> Result<(), Fail> {
         // With no triple nothing is sent.
         ("SELECT * WHERE { }", "x y/", "x y/", 0, "", ";"),
     ] {
-        let query = query_of(rt.alloc(), text)?;
         let mut script = Vec::new(rt.alloc());
         push_tables(rt.alloc(), &mut script, 8001, first)?;
         push_tables(rt.alloc(), &mut script, 8002, second)?;
         let mut wire = ScriptWire::new(rt.alloc(), script)?;
-        let endpoints = [endpoint(rt.alloc(), 8001)?, endpoint(rt.alloc(), 8002)?];
-        assert!(rt; endpoints[0].is_sendable());
-        assert!(rt; endpoints[1].is_sendable());
-        let answer = federate(rt.alloc(), &query, endpoints.as_slice(), &mut wire)?;
-        is_table(&rt, &answer, columns, want)?;
+        let answer = ask(rt.alloc(), text, &mut wire).ok_or("not asked")?;
+        let want = format!(in rt.alloc(); "{columns}/{want}")?;
+        assert_eq!(rt; answer?.as_str(), want.as_str(), "at {text}");
         assert_eq!(rt; wire.log().len(), count, "at {text}");
     }
     Ok(())
@@ -93,15 +88,11 @@ fn a_refusal_names_its_endpoint(rt: HostRuntime) -> Result<(), Fail> {
         (fault, rows, FedError::BadReply { at: 0 }),
         (fault, "", FedError::BadReply { at: 0 }),
     ] {
-        let query = query_of(rt.alloc(), PATTERN)?;
         let mut script = Vec::new(rt.alloc());
         push_reply(rt.alloc(), &mut script, 8001, first)?;
         push_reply(rt.alloc(), &mut script, 8002, second)?;
         let mut wire = ScriptWire::new(rt.alloc(), script)?;
-        let endpoints = [endpoint(rt.alloc(), 8001)?, endpoint(rt.alloc(), 8002)?];
-        assert!(rt; endpoints[0].is_sendable());
-        assert!(rt; endpoints[1].is_sendable());
-        let answer = federate(rt.alloc(), &query, endpoints.as_slice(), &mut wire);
+        let answer = ask(rt.alloc(), PATTERN, &mut wire).ok_or("not asked")?;
         assert_eq!(rt; answer.err(), Some(want), "at {first} and {second}");
     }
     Ok(())
@@ -111,14 +102,12 @@ fn a_refusal_names_its_endpoint(rt: HostRuntime) -> Result<(), Fail> {
 fn each_endpoint_is_asked_for_the_pattern(rt: HostRuntime) -> Result<(), Fail> {
     let mut script = Vec::new(rt.alloc());
     for port in [8002, 8001] {
-        script.push((address(rt.alloc(), port)?, table(rt.alloc(), "x y", "")?))?;
+        let address = address(rt.alloc(), port).ok_or("no address")?;
+        script.push((address, table(rt.alloc(), "x y", "")?))?;
     }
     let mut wire = ScriptWire::new(rt.alloc(), script)?;
-    let endpoints = [endpoint(rt.alloc(), 8001)?, endpoint(rt.alloc(), 8002)?];
-    assert!(rt; endpoints[0].is_sendable());
-    assert!(rt; endpoints[1].is_sendable());
-    let query = query_of(rt.alloc(), PATTERN)?;
-    federate(rt.alloc(), &query, endpoints.as_slice(), &mut wire)?;
+    let answer = ask(rt.alloc(), PATTERN, &mut wire).ok_or("not asked")?;
+    assert_eq!(rt; answer?.as_str(), "x/");
     let mut log = wire.log().iter();
     for port in [8001, 8002] {
         let exchange = log.next().ok_or("no exchange")?;
@@ -130,23 +119,145 @@ fn each_endpoint_is_asked_for_the_pattern(rt: HostRuntime) -> Result<(), Fail> {
     Ok(())
 }
 
-fn query_of(alloc: Global, text: &str) -> Result<Query, FirstError>
-    ensures { IfOk result IsSpellable }
-{
-    parse(alloc, text.as_bytes())
+#[test]
+fn literals_are_asked_for(rt: HostRuntime) -> Result<(), Fail> {
+    // A query, and the text that each endpoint gets, or nothing where none is asked.
+    for (text, want) in [
+        (
+            "SELECT ?x { ?x <http://e/p> \"a\\\"b\"@EN }",
+            "SELECT ?x WHERE { ?x <http://e/p> \"a\\\"b\"@en . }",
+        ),
+        (
+            "SELECT * { 7 ?p true }",
+            "SELECT ?p WHERE { \"7\"^^<http://www.w3.org/2001/XMLSchema#integer> ?p \"true\"^^<http://www.w3.org/2001/XMLSchema#boolean> . }",
+        ),
+        ("SELECT * { }", ""),
+    ] {
+        let mut wire = ScriptWire::new(rt.alloc(), Vec::new(rt.alloc()))?;
+        let _answer = ask(rt.alloc(), text, &mut wire).ok_or("not asked")?;
+        assert_eq!(rt; wire.log().len(), 0, "at {text}");
+        let asked = asked_text(rt.alloc(), text).ok_or("no text")?;
+        assert_eq!(rt; asked.as_str(), want);
+    }
+    Ok(())
 }
 
-fn address(alloc: Global, port: u16) -> Result<Iri, Fail> {
-    let text = format!(in alloc; "http://127.0.0.1:{port}/sparql")?;
-    Ok(Iri::read(alloc, text.as_str())?)
+#[test]
+fn a_printed_query_is_read_as_it(rt: HostRuntime) -> Result<(), Fail> {
+    // Each is the printed text of the query that it is.
+    for text in [
+        "SELECT * WHERE { }",
+        "ASK WHERE { }",
+        "SELECT ?x WHERE { ?x ?y ?z . }",
+        "SELECT DISTINCT ?x ?y WHERE { ?x ?y ?z . ?z ?y ?x . }",
+        "SELECT ?x WHERE { ?x <http://e/p> \"a\" . ?x <http://e/p> \"b\"@en . ?x <http://e/p> \"c\"^^<http://e/t> . }",
+        "ASK WHERE { ?a ?b \"q\\\"u\\\\o\\nte\" . }",
+        "ASK WHERE { <http://e/é> <http://e/p> \"😀\"@en-gb . }",
+        "ASK WHERE { FILTER ( ?a || ?b && ?c ) }",
+        "ASK WHERE { FILTER ( ( ?a || ?b ) && ?c ) }",
+        "ASK WHERE { FILTER ( ?a = ?b + ?c * ?d ) }",
+        "ASK WHERE { FILTER ( ( ?a + ?b ) * ?c - ?d = ?e ) }",
+        "ASK WHERE { FILTER ( ?a - ( ?b - ?c ) = ?d ) }",
+        "ASK WHERE { FILTER ( ?a * ?b * ?c = ?a * ( ?b * ?c ) ) }",
+        "ASK WHERE { FILTER ( ( ?a = ?b ) = ?c ) }",
+        "ASK WHERE { FILTER ( ! ( ?a && ?b ) ) }",
+        "ASK WHERE { FILTER ( ! ?a = ( ?b || ?c ) ) }",
+        "ASK WHERE { FILTER ( ! BOUND ( ?a ) ) }",
+        "ASK WHERE { FILTER BOUND ( ?a ) }",
+        "ASK WHERE { FILTER ( - ( - ?a ) = + ?b ) }",
+        "ASK WHERE { FILTER ( ?a IN ( ?b , ?c ) ) }",
+        "ASK WHERE { FILTER ( ?a NOT IN ( ) ) }",
+        "ASK WHERE { FILTER ( ( ?a IN ( ?b ) ) = ?c ) }",
+        "ASK WHERE { FILTER ( ?a != ?b || ?a <= ?b || ?a >= ?b || ?a < ?b || ?a > ?b ) }",
+        "ASK WHERE { FILTER IF ( ?a , COALESCE ( ) , COALESCE ( ?b , ?c ) ) }",
+        "ASK WHERE { FILTER ( STR ( ?a ) = LANG ( ?a ) ) }",
+        "ASK WHERE { FILTER LANGMATCHES ( LANG ( ?a ) , \"*\" ) FILTER sameTerm ( ?a , ?b ) }",
+        "ASK WHERE { FILTER isIRI ( ?a ) FILTER isLITERAL ( ?a ) FILTER isBLANK ( ?a ) FILTER isNUMERIC ( ?a ) }",
+        "ASK WHERE { FILTER ( STRLEN ( DATATYPE ( ?a ) ) = ?b ) FILTER CONTAINS ( ?a , ?b ) FILTER STRSTARTS ( ?a , ?b ) FILTER STRENDS ( ?a , ?b ) }",
+        "ASK WHERE { OPTIONAL { ?a ?b ?c . FILTER ( ?a = ?c ) } }",
+        "ASK WHERE { { ?a ?b ?c . } }",
+        "ASK WHERE { { ?a ?b ?c . } UNION { } UNION { ?d ?e ?f . } }",
+        "ASK WHERE { { { } UNION { } } UNION { { } } }",
+        "SELECT ?x WHERE { ?x <http://e/p> ?y . MINUS { ?u <http://e/q> ?w . } }",
+        "SELECT ?a WHERE { BIND ( ?x + ?y AS ?a ) }",
+        "SELECT ?a ?b WHERE { VALUES ( ?a ?b ) { ( \"x\" UNDEF ) ( UNDEF <http://e/a> ) } }",
+        "ASK WHERE { VALUES ( ) { ( ) ( ) } }",
+        "ASK WHERE { SERVICE <http://e/s> { ?a ?b ?c . } }",
+        "ASK WHERE { SERVICE SILENT <http://e/s> { } ?a ?b ?c . }",
+        "SELECT ?a WHERE { ?a ?b ?c . } ORDER BY ?a DESC ( ?b ) ASC ( ?a + ?b ) STR ( ?c )",
+        "SELECT ?a WHERE { ?a ?b ?c . } LIMIT 10 OFFSET 5",
+        "SELECT ?a WHERE { ?a ?b ?c . } LIMIT 0",
+        "SELECT ?a WHERE { ?a ?b ?c . } OFFSET 18446744073709551615",
+        "SELECT ?a WHERE { ?a ?b ?c . } ORDER BY DESC ( STR ( ?a ) ) LIMIT 1 VALUES ( ?a ) { ( <http://e/a> ) }",
+        "ASK WHERE { { } } VALUES ( ?a ) { }",
+    ] {
+        let printed = printed_again(rt.alloc(), text).ok_or("no query")?;
+        assert_eq!(rt; printed.as_str(), text);
+    }
+    Ok(())
 }
 
-fn endpoint(alloc: Global, port: u16) -> Result<Endpoint, Fail> {
-    let name = String::from_str(alloc, "A")?;
+// The printed text of the query that a text is.
+fn printed_again(alloc: Global, text: &str) -> Option<String> {
+    let query = parse(alloc, text.as_bytes()).ok()?;
+    print(alloc, &query).ok()
+}
+
+// The text that is sent for the first pattern of a query, or nothing where there is none.
+fn asked_text(alloc: Global, text: &str) -> Option<String> {
+    let query = parse(alloc, text.as_bytes()).ok()?;
+    let patterns = patterns_of(alloc, &query.group).ok()?;
+    match patterns.first() {
+        Some(pattern) => text_of(alloc, pattern).ok(),
+        None => Some(String::new(alloc)),
+    }
+}
+
+// What a plain query answers over the two endpoints: its columns, a `/`, and its rows. None where the query isn't plain.
+fn ask(alloc: Global, text: &str, wire: &mut ScriptWire) -> Option<Result<String, FedError>> {
+    let endpoints = [endpoint(alloc, 8001)?, endpoint(alloc, 8002)?];
+    if !endpoints[0].is_sendable() || !endpoints[1].is_sendable() {
+        return None;
+    }
+    let query = parse(alloc, text.as_bytes()).ok()?;
+    if !is_plain(&query) {
+        return None;
+    }
+    match federate(alloc, &query, endpoints.as_slice(), wire) {
+        Ok(answer) => Some(Ok(answer_text(alloc, &answer)?)),
+        Err(error) => Some(Err(error)),
+    }
+}
+
+fn answer_text(alloc: Global, answer: &Answer) -> Option<String> {
+    match answer {
+        Answer::Truth(_) => None,
+        Answer::Table { columns, rows } => {
+            let mut text = String::new(alloc);
+            for (number, column) in columns.as_slice().iter().enumerate() {
+                if number > 0 {
+                    text.push_str(" ").ok()?;
+                }
+                text.push_str(column.text()).ok()?;
+            }
+            text.push_str("/").ok()?;
+            push_rows(&mut text, rows.as_slice()).ok()?;
+            Some(text)
+        }
+    }
+}
+
+fn address(alloc: Global, port: u16) -> Option<Iri> {
+    let text = format!(in alloc; "http://127.0.0.1:{port}/sparql").ok()?;
+    Iri::read(alloc, text.as_str()).ok()
+}
+
+fn endpoint(alloc: Global, port: u16) -> Option<Endpoint> {
+    let name = String::from_str(alloc, "A").ok()?;
     let iri = address(alloc, port)?;
-    let host = String::from_str(alloc, "127.0.0.1")?;
-    let target = String::from_str(alloc, "/sparql")?;
-    Ok(Endpoint::new(name, iri, host, port, target))
+    let host = String::from_str(alloc, "127.0.0.1").ok()?;
+    let target = String::from_str(alloc, "/sparql").ok()?;
+    Some(Endpoint::new(name, iri, host, port, target))
 }
 
 // Adds replies for a port's address: tables with a `|` between, each as its columns, a `/`, and its rows.
@@ -158,7 +269,8 @@ fn push_tables(
 ) -> Result<(), Fail> {
     for text in texts.split('|') {
         let (columns, rows) = text.split_once('/').ok_or("no table")?;
-        script.push((address(alloc, port)?, table(alloc, columns, rows)?))?;
+        let address = address(alloc, port).ok_or("no address")?;
+        script.push((address, table(alloc, columns, rows)?))?;
     }
     Ok(())
 }
@@ -171,7 +283,8 @@ fn push_reply(
     text: &str,
 ) -> Result<(), Fail> {
     if let Some((status, body)) = text.split_once('/') {
-        script.push((address(alloc, port)?, reply(alloc, status, body)?))?;
+        let address = address(alloc, port).ok_or("no address")?;
+        script.push((address, reply(alloc, status, body)?))?;
     }
     Ok(())
 }
@@ -233,29 +346,7 @@ fn reply(alloc: Global, status: &str, body: &str) -> Result<Vec<u8>, Memory> {
     Ok(bytes)
 }
 
-fn is_table<R: Abort + Alloc<A = Global>>(
-    rt: &R,
-    answer: &Answer,
-    columns: &str,
-    rows: &str,
-) -> Result<(), Memory> {
-    match answer {
-        Answer::Truth(_) => panic!(rt; "no table"),
-        Answer::Table {
-            columns: names,
-            rows: found,
-        } => {
-            let names = names.as_slice().iter().map(Name::text);
-            assert!(rt; names.eq(columns.split_whitespace()));
-            let text = text_of(rt.alloc(), found.as_slice())?;
-            assert_eq!(rt; text.as_str(), rows, "in {columns}");
-        }
-    }
-    Ok(())
-}
-
-fn text_of(alloc: Global, rows: &[Solution]) -> Result<String, Memory> {
-    let mut text = String::new(alloc);
+fn push_rows(text: &mut String, rows: &[Solution]) -> Result<(), Memory> {
     for row in rows {
         for (number, (name, term)) in row.pairs().iter().enumerate() {
             if number > 0 {
@@ -267,7 +358,7 @@ fn text_of(alloc: Global, rows: &[Solution]) -> Result<String, Memory> {
         }
         text.push_str(";")?;
     }
-    Ok(text)
+    Ok(())
 }
 
 fn iri_text(term: &Term) -> &str {

@@ -1,23 +1,35 @@
-use Rattle.std.proofs.Common.{◌≡◌, ◌∙◌, rules}
+use Rattle.std.proofs.Common.{◌≡◌, ◌∙◌, sym, subst, List, [], ℕ, rules}
+use Rattle.std.proofs.lemmas.List.Sorted.{IsPermutation-refl}
+use Rattle.fx_terms.specs.Graphs.{union}
+use Rattle.fx_algebra.specs.Solutions.{Bindings, SameRows}
+use Rattle.fx_syntax.specs.Accepted.{Accepted}
+use Rattle.fx_syntax.specs.Printable.{pattern_query}
+use Rattle.fx_syntax.proofs.printing.PatternQuery.{pattern_query_is_accepted}
 use Rattle.fx_engine.specs.MemberQueries.{IsAsked}
-use Rattle.fx_engine.proofs.TextLemmas.{text_accepted}
 use Rattle.fx_engine.proofs.GatherLemmas.{gathered}
+use Rattle.fx_engine.proofs.PatternLemmas.{no_rows}
 use Rattle.fx_engine.proofs.gathering.gather.Goals as goal
 
+pub returns-clause-rows : goal.returns-clause-rows
+returns-clause-rows g c =
+    λ graphs t.
+    subst (λ (rows : List Bindings). SameRows rows c.new.result.items) (sym (no_rows (union graphs) c.args.pattern.now (sym c.is_literal.ensures ∙ c.if-is_literal.true))) (IsPermutation-refl [])
+
 pub collect-requires-clause-asked : goal.collect-requires-clause-asked
-collect-requires-clause-asked g c = (
-  c.args.pattern.now,
-  record {
-    named = c.as_slice-2.ensures.value ∙ c.in-Ok.ensures;
-    accepted = text_accepted c.args.pattern.now c.as_str.result.now c.requires.printable (c.as_str.ensures.value ∙ c.in-Ok-text_of.ensures) c.as_str.utf8;
-  },
-)
+collect-requires-clause-asked g c =
+    let p = c.args.pattern.now in (
+      p,
+      record {
+        named = c.as_slice.ensures.value ∙ c.in-Ok.ensures;
+        accepted = subst (λ (text : List ℕ). Accepted text (pattern_query p)) (sym (c.as_str.ensures.value ∙ c.in-Ok-text_of.ensures)) (pattern_query_is_accepted p c.known_pattern.ensures);
+      },
+    )
 
 pub returns-in-Ok-each_once-clause-rows : goal.returns-in-Ok-each_once-clause-rows
 returns-in-Ok-each_once-clause-rows g c =
     let p = c.args.pattern.now in
-    let asked : IsAsked p c.as_slice-2.result.now c.as_str.result.now = record {
-      named = c.as_slice-2.ensures.value ∙ c.in-Ok.ensures;
-      accepted = text_accepted p c.as_str.result.now c.requires.printable (c.as_str.ensures.value ∙ c.in-Ok-text_of.ensures) c.as_str.utf8;
+    let asked : IsAsked p c.as_slice.result.now c.as_str.result.now = record {
+      named = c.as_slice.ensures.value ∙ c.in-Ok.ensures;
+      accepted = subst (λ (text : List ℕ). Accepted text (pattern_query p)) (sym (c.as_str.ensures.value ∙ c.in-Ok-text_of.ensures)) (pattern_query_is_accepted p c.known_pattern.ensures);
     } in
     λ graphs t. gathered graphs p c.in-Ok-collect.rows.items c.in-Ok-each_once.rows.items (c.in-Ok-collect.ensures.rows p graphs asked t) c.in-Ok-each_once.ensures
