@@ -2,3 +2,4 @@ pub mod GainLemmas
 pub mod LoadLemmas
 pub mod ReportLemmas
 pub mod QueryLemmas
+pub mod ServiceLemmas

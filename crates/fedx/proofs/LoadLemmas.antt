@@ -1,10 +1,10 @@
--- A refused text is no query.
+-- What the texts of files give.
 use Rattle.std.proofs.Common.{◌≡◌, ◌∙◌, ap, sym, subst, ℕ, ◌≤◌, List, Option, Some, None, Err, length}
 use Rattle.std.specs.Prelude.{IfSome}
-use Rattle.fx_algebra.specs.declared.queries.Query.{Query}
-use Rattle.fx_syntax.specs.declared.words.FirstError.{FirstError}
-use Rattle.fx_syntax.specs.declared.words.FirstError.TheVariants.{NotFirst, Memory}
-use Rattle.fx_syntax.specs.Accepted.{Accepted}
+use Rattle.fx_syntax.specs.Refused.{IsRefused, IsCause}
+use Rattle.fx_syntax.specs.declared.kinds.SyntaxKind.{SyntaxKind}
+use Rattle.fx_syntax.specs.declared.parsing.SyntaxError.{SyntaxError}
+use Rattle.fx_syntax.specs.declared.parsing.SyntaxError.TheVariants.{Refused}
 use Rattle.fx_terms.specs.declared.triples.Triple.{Triple}
 use Rattle.fx_ntriples.specs.Answers.{Answers}
 use Rattle.fx_ntriples.specs.Forms.{IsDocument}
@@ -16,9 +16,10 @@ use Rattle.fedx.specs.declared.refusals.GraphRefusal.TheVariants as graph
 use Rattle.fedx.specs.Files.{FileRead, IsNoGraph}
 use Rattle.fedx.specs.LocalSteps.{GivesGraph}
 
-pub no_query : (content : Option (List ℕ)) (limit : ℕ) (bytes text : List ℕ) (e : FirstError) → IfSome content (λ all. (bytes ≡ all) × (length all ≤ limit)) → text ≡ bytes → e ≡ NotFirst → ((q : Query) → Accepted text q → e ≡ Memory) → IfSome content (λ all. (length all ≤ limit) × ((q : Query) → Accepted all q → ⊥))
-no_query None limit bytes text e h s is only = tt
-no_query (Some all) limit bytes text e h s is only = (h.1, λ q a. let clash : NotFirst ≡ Memory = sym is ∙ only q (subst (λ (t : List ℕ). Accepted t q) (sym (s ∙ h.0)) a) in cc)
+-- a text that is refused as a query
+pub no_query : (content : Option (List ℕ)) (limit : ℕ) (bytes text : List ℕ) (e : SyntaxError) (kind : SyntaxKind) (place : ℕ) → IfSome content (λ all. (bytes ≡ all) × (length all ≤ limit)) → text ≡ bytes → e ≡ Refused kind place → IsCause text e → IfSome content (λ all. (length all ≤ limit) × IsRefused all kind place)
+no_query None limit bytes text e kind place h s is cause = tt
+no_query (Some all) limit bytes text e kind place h s is cause = (h.1, subst (λ (v : List ℕ). IsRefused v kind place) (s ∙ h.0) (subst (IsCause text) is cause))
 
 -- a text that is refused as a document
 pub no_graph : (f : FileRead) (bytes text : List ℕ) (e : NtError) → IfSome f.content (λ all. (bytes ≡ all) × (length all ≤ GRAPH_LIMIT)) → text ≡ bytes → Answers {X = List Triple} (Err e) (read_document text) → GivesGraph f (Err (graph.Refused e))

@@ -1,8 +1,9 @@
 -- What a refusal reports is its cause, for `query`.
-use Rattle.std.proofs.Common.{◌≡◌, ◌∙◌, ap, sym, subst, refl, ℕ, ◌<◌, ◌≤◌, List, [], Option, Some, None, Ok, Err, length, inl, inr, arith}
+use Rattle.std.proofs.Common.{◌≡◌, ◌∙◌, ap, sym, subst, refl, ℕ, ◌<◌, ◌≤◌, false, List, [], Option, Some, None, Ok, Err, length, inl, inr, arith}
 use Rattle.std.specs.Prelude.{IfSome, slice_get, Result}
 use Rattle.fx_outside.specs.Endpoints.{EndpointParts}
 use Rattle.fx_outside.specs.Streams.{AppendsFront}
+use Rattle.fx_algebra.specs.Answers.{is_plain, IsPlain}
 use Rattle.fx_algebra.specs.declared.queries.Query.{Query}
 use Rattle.fx_syntax.specs.Accepted.{Accepted}
 use Rattle.fx_sources.specs.Registries.{read_registry, AnswersRegistry}
@@ -13,19 +14,19 @@ use Rattle.fx_engine.specs.Federation.{IsRefused}
 use Rattle.fx_engine.specs.declared.errors.FedError.{FedError}
 use Rattle.fx_engine.specs.declared.errors.FedError.TheVariants as fed
 use Rattle.fedx.specs.declared.limits.TheConstants.{QUERY_LIMIT, REGISTRY_LIMIT}
-use Rattle.fedx.specs.declared.refusals.FileRefusal.{FileRefusal}
-use Rattle.fedx.specs.declared.refusals.FileRefusal.TheVariants as file
+use Rattle.fedx.specs.declared.refusals.QueryRefusal.{QueryRefusal}
+use Rattle.fedx.specs.declared.refusals.QueryRefusal.TheVariants as query
 use Rattle.fedx.specs.declared.refusals.RegistryRefusal.{RegistryRefusal}
 use Rattle.fedx.specs.declared.refusals.RegistryRefusal.TheVariants as registry
 use Rattle.fedx.specs.declared.statuses.Status.{Status}
 use Rattle.fedx.specs.declared.statuses.Status.TheVariants as status
 use Rattle.fedx.specs.FedRefusals.{fed_status_of, fed_line, name_at, name_of}
-use Rattle.fedx.specs.Files.{FileRead, IsRegistryFile, IsQuery, IsMember, IsNoRegistry}
-use Rattle.fedx.specs.Lines.{member_failed, bad_reply, request_too_long, no_memory}
+use Rattle.fedx.specs.Files.{FileRead, IsRegistryFile, IsQueryThat, IsMember, IsNoRegistry}
+use Rattle.fedx.specs.Lines.{not_built, member_failed, bad_reply, request_too_long, no_memory}
 use Rattle.fedx.specs.LocalSteps.{GivesQuery, query_line}
-use Rattle.fedx.specs.Query.{IsUnionDocument, IsUnionAnswer, IsUnionAnswerOf, IsQueryReported, IsQueryWritten}
+use Rattle.fedx.specs.Query.{IsOther, IsUnionDocument, IsUnionAnswer, IsUnionAnswerOf, IsQueryReported, IsQueryWritten}
 use Rattle.fedx.specs.QuerySteps.{GivesRegistry, registry_line, IsAskReported, IsAskWritten}
-use Rattle.fedx.specs.RefusalStatuses.{file_status, registry_status}
+use Rattle.fedx.specs.RefusalStatuses.{query_status, registry_status}
 
 -- ---- the registry
 
@@ -83,12 +84,12 @@ a_registry r es h = pick r.content h
     pick None h = tt
     pick (Some all) h = (h.0, (es, h.1))
 
-a_query : (q : FileRead) (asked : Query) → GivesQuery q (Ok asked) → IsQuery q
-a_query q asked h = pick q.content h
+query_that : (q : FileRead) (asked : Query) (P : Query → Type 0) → P asked → GivesQuery q (Ok asked) → IsQueryThat q P
+query_that q asked P p h = pick q.content h
   where
-    pick : (o : Option (List ℕ)) → IfSome o (λ all. (length all ≤ QUERY_LIMIT) × Accepted all asked) → IfSome o (λ all. (length all ≤ QUERY_LIMIT) × ((x : Query) × Accepted all x))
+    pick : (o : Option (List ℕ)) → IfSome o (λ all. (length all ≤ QUERY_LIMIT) × Accepted all asked) → IfSome o (λ all. (length all ≤ QUERY_LIMIT) × ((x : Query) × Accepted all x × P x))
     pick None h = tt
-    pick (Some all) h = (h.0, (asked, h.1))
+    pick (Some all) h = (h.0, (asked, h.1, p))
 
 a_member : (r : FileRead) (es : List EndpointParts) (e : EndpointParts) (at : ℕ) → GivesRegistry r (Ok es) → slice_get es at ≡ Some e → IsMember r e
 a_member r es e at h k = pick r.content h
@@ -97,28 +98,32 @@ a_member r es e at h k = pick r.content h
     pick None h = tt
     pick (Some all) h = (es, at, h.1, k)
 
-pub query_reported : (before after : Seen) (r q : FileRead) (es : List EndpointParts) (e : FileRefusal) → GivesRegistry r (Ok es) → GivesQuery q (Err e) → IsQueryReported before after r q (file_status e status.QueryRefused) (query_line e q.name)
-query_reported before after r q es file.Fault g h = inr (a_registry r es g, h, refl)
-query_reported before after r q es file.TooLong g h = inr (a_registry r es g, h, refl)
-query_reported before after r q es file.NotFirst g h = (a_registry r es g, h, refl)
-query_reported before after r q es file.Memory g h = refl
+pub query_reported : (before after : Seen) (r q : FileRead) (es : List EndpointParts) (e : QueryRefusal) → GivesRegistry r (Ok es) → GivesQuery q (Err e) → IsQueryReported before after r q (query_status e) (query_line e q.name)
+query_reported before after r q es query.Fault g h = inr (a_registry r es g, h, refl)
+query_reported before after r q es query.TooLong g h = inr (a_registry r es g, h, refl)
+query_reported before after r q es (query.Refused kind at) g h = (a_registry r es g, inl (kind, at, h, refl))
+query_reported before after r q es query.Memory g h = refl
 
-pub query_written : (before : Seen) (r q : FileRead) (e : FileRefusal) (old new : List ℕ) → new ≡ old → IsQueryWritten before r q (file_status e status.QueryRefused) old new
-query_written before r q file.Fault old new h = h
-query_written before r q file.TooLong old new h = h
-query_written before r q file.NotFirst old new h = h
-query_written before r q file.Memory old new h = h
+pub query_written : (before : Seen) (r q : FileRead) (e : QueryRefusal) (old new : List ℕ) → new ≡ old → IsQueryWritten before r q (query_status e) old new
+query_written before r q query.Fault old new h = h
+query_written before r q query.TooLong old new h = h
+query_written before r q (query.Refused kind at) old new h = h
+query_written before r q query.Memory old new h = h
+
+-- a query that isn't plain
+pub other_reported : (before after : Seen) (r q : FileRead) (es : List EndpointParts) (asked : Query) → GivesRegistry r (Ok es) → GivesQuery q (Ok asked) → is_plain asked ≡ false → IsQueryReported before after r q status.QueryRefused not_built
+other_reported before after r q es asked g h p = (a_registry r es g, inr (query_that q asked IsOther p h, refl))
 
 -- what a query's file gave, seen from an earlier call on
-pub query_since : (name : List ℕ) (earlier content : Option (List ℕ)) (first before after : ℕ) (x : Result Query FileRefusal) → content ≡ earlier → first ≤ before → GivesQuery (record { name = name; content = content; before = before; after = after }) x → GivesQuery (record { name = name; content = earlier; before = first; after = after }) x
+pub query_since : (name : List ℕ) (earlier content : Option (List ℕ)) (first before after : ℕ) (x : Result Query QueryRefusal) → content ≡ earlier → first ≤ before → GivesQuery (record { name = name; content = content; before = before; after = after }) x → GivesQuery (record { name = name; content = earlier; before = first; after = after }) x
 query_since name earlier content first before after x same kept h = subst (λ o. GivesQuery (record { name = name; content = o; before = first; after = after }) x) same (earlier_count x h)
   where
-    earlier_count : (x : Result Query FileRefusal) → GivesQuery (record { name = name; content = content; before = before; after = after }) x → GivesQuery (record { name = name; content = content; before = first; after = after }) x
+    earlier_count : (x : Result Query QueryRefusal) → GivesQuery (record { name = name; content = content; before = before; after = after }) x → GivesQuery (record { name = name; content = content; before = first; after = after }) x
     earlier_count (Ok asked) h = h
-    earlier_count (Err file.Fault) h = omega arith
-    earlier_count (Err file.TooLong) h = h
-    earlier_count (Err file.NotFirst) h = h
-    earlier_count (Err file.Memory) h = h
+    earlier_count (Err query.Fault) h = omega arith
+    earlier_count (Err query.TooLong) h = h
+    earlier_count (Err (query.Refused kind at)) h = h
+    earlier_count (Err query.Memory) h = h
 
 -- ---- the members
 
@@ -139,41 +144,43 @@ fed_written before es q fed.Memory old new h = h
 
 -- ---- the whole
 
-pub ask_reported : (before after : Seen) (r q : FileRead) (es : List EndpointParts) (asked : Query) (s : Status) (text : List ℕ) → GivesRegistry r (Ok es) → GivesQuery q (Ok asked) → IsAskReported before after es s text → IsQueryReported before after r q s text
-ask_reported before after r q es asked status.Done text g h k = (a_registry r es g, a_query q asked h, k)
-ask_reported before after r q es asked status.WriteFault text g h k = (a_registry r es g, a_query q asked h, k)
-ask_reported before after r q es asked status.NoMemory text g h k = k
-ask_reported before after r q es asked status.EndpointFault text g h k = (a_query q asked h, (k.0, a_member r es k.0 k.1 g k.2, k.3, k.4))
-ask_reported before after r q es asked status.BadReply text g h k = (a_query q asked h, (k.0, a_member r es k.0 k.1 g k.2, k.3, k.4))
-ask_reported before after r q es asked status.RequestTooLong text g h k = (a_query q asked h, (k.0, k.2, a_member r es k.0 k.1 g k.3, k.4, k.5))
-ask_reported before after r q es asked status.Usage text g h k = absurd k
-ask_reported before after r q es asked status.GraphRefused text g h k = absurd k
-ask_reported before after r q es asked status.RegistryRefused text g h k = absurd k
-ask_reported before after r q es asked status.QueryRefused text g h k = absurd k
-ask_reported before after r q es asked status.ReadFault text g h k = absurd k
-ask_reported before after r q es asked status.FileTooLong text g h k = absurd k
+pub ask_reported : (before after : Seen) (r q : FileRead) (es : List EndpointParts) (asked : Query) (s : Status) (text : List ℕ) → GivesRegistry r (Ok es) → GivesQuery q (Ok asked) → IsPlain asked → IsAskReported before after es s text → IsQueryReported before after r q s text
+ask_reported before after r q es asked status.Done text g h p k = (a_registry r es g, query_that q asked IsPlain p h, k)
+ask_reported before after r q es asked status.WriteFault text g h p k = (a_registry r es g, query_that q asked IsPlain p h, k)
+ask_reported before after r q es asked status.NoMemory text g h p k = k
+ask_reported before after r q es asked status.EndpointFault text g h p k = (query_that q asked IsPlain p h, (k.0, a_member r es k.0 k.1 g k.2, k.3, k.4))
+ask_reported before after r q es asked status.BadReply text g h p k = (query_that q asked IsPlain p h, (k.0, a_member r es k.0 k.1 g k.2, k.3, k.4))
+ask_reported before after r q es asked status.RequestTooLong text g h p k = (query_that q asked IsPlain p h, (k.0, k.2, a_member r es k.0 k.1 g k.3, k.4, k.5))
+ask_reported before after r q es asked status.Usage text g h p k = absurd k
+ask_reported before after r q es asked status.GraphRefused text g h p k = absurd k
+ask_reported before after r q es asked status.RegistryRefused text g h p k = absurd k
+ask_reported before after r q es asked status.QueryRefused text g h p k = absurd k
+ask_reported before after r q es asked status.UnknownService text g h p k = absurd k
+ask_reported before after r q es asked status.ReadFault text g h p k = absurd k
+ask_reported before after r q es asked status.FileTooLong text g h p k = absurd k
 
-a_union : (before : Seen) (r q : FileRead) (es : List EndpointParts) (asked : Query) (text : List ℕ) → GivesRegistry r (Ok es) → GivesQuery q (Ok asked) → IsUnionDocument before es asked text → IsUnionAnswer before r q text
-a_union before r q es asked text g h k = pick r.content g
+a_union : (before : Seen) (r q : FileRead) (es : List EndpointParts) (asked : Query) (text : List ℕ) → GivesRegistry r (Ok es) → GivesQuery q (Ok asked) → IsPlain asked → IsUnionDocument before es asked text → IsUnionAnswer before r q text
+a_union before r q es asked text g h p k = pick r.content g
   where
     both : (all : List ℕ) → read_registry all ≡ Ok es → (o : Option (List ℕ)) → IfSome o (λ query. (length query ≤ QUERY_LIMIT) × Accepted query asked) → IfSome o (λ query. IsUnionAnswerOf before all query text)
     both all e None h = tt
-    both all e (Some query) h = record { endpoints = es; registered = e; asked = asked; accepted = h.1; document_is = k }
+    both all e (Some query) h = record { endpoints = es; registered = e; asked = asked; accepted = h.1; plain = p; document_is = k }
 
     pick : (o : Option (List ℕ)) → IfSome o (λ all. (length all ≤ REGISTRY_LIMIT) × (read_registry all ≡ Ok es)) → IfSome o (λ all. IfSome q.content (λ query. IsUnionAnswerOf before all query text))
     pick None g = tt
     pick (Some all) g = both all g.1 q.content h
 
-pub ask_written : (before : Seen) (r q : FileRead) (es : List EndpointParts) (asked : Query) (s : Status) (old new : List ℕ) → GivesRegistry r (Ok es) → GivesQuery q (Ok asked) → IsAskWritten before es asked s old new → IsQueryWritten before r q s old new
-ask_written before r q es asked status.Done old new g h k = (k.0, a_union before r q es asked k.0 g h k.1, k.2)
-ask_written before r q es asked status.WriteFault old new g h k = (k.0, a_union before r q es asked k.0 g h k.1, k.2)
-ask_written before r q es asked status.NoMemory old new g h k = k
-ask_written before r q es asked status.EndpointFault old new g h k = k
-ask_written before r q es asked status.BadReply old new g h k = k
-ask_written before r q es asked status.RequestTooLong old new g h k = k
-ask_written before r q es asked status.Usage old new g h k = k
-ask_written before r q es asked status.GraphRefused old new g h k = k
-ask_written before r q es asked status.RegistryRefused old new g h k = k
-ask_written before r q es asked status.QueryRefused old new g h k = k
-ask_written before r q es asked status.ReadFault old new g h k = k
-ask_written before r q es asked status.FileTooLong old new g h k = k
+pub ask_written : (before : Seen) (r q : FileRead) (es : List EndpointParts) (asked : Query) (s : Status) (old new : List ℕ) → GivesRegistry r (Ok es) → GivesQuery q (Ok asked) → IsPlain asked → IsAskWritten before es asked s old new → IsQueryWritten before r q s old new
+ask_written before r q es asked status.Done old new g h p k = (k.0, a_union before r q es asked k.0 g h p k.1, k.2)
+ask_written before r q es asked status.WriteFault old new g h p k = (k.0, a_union before r q es asked k.0 g h p k.1, k.2)
+ask_written before r q es asked status.NoMemory old new g h p k = k
+ask_written before r q es asked status.EndpointFault old new g h p k = k
+ask_written before r q es asked status.BadReply old new g h p k = k
+ask_written before r q es asked status.RequestTooLong old new g h p k = k
+ask_written before r q es asked status.Usage old new g h p k = k
+ask_written before r q es asked status.GraphRefused old new g h p k = k
+ask_written before r q es asked status.RegistryRefused old new g h p k = k
+ask_written before r q es asked status.QueryRefused old new g h p k = k
+ask_written before r q es asked status.UnknownService old new g h p k = k
+ask_written before r q es asked status.ReadFault old new g h p k = k
+ask_written before r q es asked status.FileTooLong old new g h p k = k

@@ -1,6 +1,6 @@
 -- What a refusal reports is its cause.
-use Rattle.std.proofs.Common.{◌≡◌, ap, sym, subst, refl, ℕ, List, Option, Some, None, Err, inl, inr, slice_index_or, slice_set}
-use Rattle.fedx.specs.declared.refusals.FileRefusal.TheVariants as file
+use Rattle.std.proofs.Common.{◌≡◌, ap, sym, subst, refl, ℕ, List, Option, Some, None, Ok, Err, inl, inr, slice_index_or, slice_set}
+use Rattle.fedx.specs.declared.refusals.QueryRefusal.TheVariants as query
 use Rattle.fx_ntriples.specs.declared.faults.NtError.TheVariants as error
 use Rattle.fedx.specs.declared.refusals.GraphRefusal.TheVariants as graph
 use Rattle.fedx.specs.declared.refusals.Refusal.{Refusal}
@@ -8,13 +8,14 @@ use Rattle.fedx.specs.declared.refusals.Refusal.TheVariants as refusal
 use Rattle.fedx.specs.declared.statuses.Status.TheVariants as status
 use Rattle.fx_wire.specs.Exchanges.{Seen}
 use Rattle.fedx.specs.Commands.{Asked, over_file, over_members}
-use Rattle.fedx.specs.Files.{FileRead}
+use Rattle.fedx.specs.Files.{FileRead, IsQueryThat}
 use Rattle.fedx.specs.Lines.{usage_line, no_memory}
-use Rattle.fedx.specs.Local.{IsReported}
+use Rattle.fedx.specs.Local.{IsReported, IsWritten, HasLines}
+use Rattle.fedx.specs.declared.local.Report.{Report}
 use Rattle.fedx.specs.Query.{IsQueryReported, IsQueryWritten}
 use Rattle.fedx.specs.Runs.{OnFirst, Reports, Writes}
 use Rattle.fedx.specs.declared.statuses.Status.{Status}
-use Rattle.fedx.specs.LocalSteps.{GivesAnswer, refusal_line}
+use Rattle.fedx.specs.LocalSteps.{GivesAnswer, IsLineReported, IsDocumentWritten, refusal_line}
 use Rattle.fedx.specs.RefusalStatuses.{status_of}
 
 pub reported : (g q : FileRead) (r : Refusal) → GivesAnswer g q (Err r) → IsReported g q (status_of r) (refusal_line r g.name q.name)
@@ -26,10 +27,11 @@ reported g q (refusal.Graph (graph.Refused (error.Blank l c))) h = (error.Blank 
 reported g q (refusal.Graph (graph.Refused (error.Relative l c))) h = (error.Relative l c, h, refl)
 reported g q (refusal.Graph (graph.Refused error.Memory)) h = refl
 reported g q (refusal.Graph graph.Memory) h = refl
-reported g q (refusal.Query file.Fault) h = inr (h.0, h.1, refl)
-reported g q (refusal.Query file.TooLong) h = inr (h.0, h.1, refl)
-reported g q (refusal.Query file.NotFirst) h = (h.0, h.1, refl)
-reported g q (refusal.Query file.Memory) h = refl
+reported g q (refusal.Query query.Fault) h = inr (h.0, h.1, refl)
+reported g q (refusal.Query query.TooLong) h = inr (h.0, h.1, refl)
+reported g q (refusal.Query (query.Refused kind at)) h = (h.0, (kind, at, h.1, refl))
+reported g q (refusal.Query query.Memory) h = refl
+reported g q (refusal.UnknownService iri) h = (h.0, (iri, h.1, refl))
 reported g q refusal.Memory h = refl
 
 pub usage_reported : (read : List ℕ → FileRead) (before after : Seen) (asked : Option Asked) → asked ≡ None → Reports read before after asked status.Usage usage_line
@@ -40,6 +42,38 @@ pub memory_reported : (read : List ℕ → FileRead) (before after : Seen) (aske
 memory_reported read before after None = refl
 memory_reported read before after (Some (over_file g q)) = refl
 memory_reported read before after (Some (over_members r q)) = refl
+
+-- ---- reports of `local`
+
+pub lines_reported : (g q : FileRead) (r : Report) (s : Status) (text : List ℕ) → GivesAnswer g q (Ok r) → IsLineReported r.lines.items s text → IsReported g q s text
+lines_reported g q r status.Done text h k = (h.0, subst (λ (v : List ℕ). IsQueryThat q (HasLines v)) (sym k) h.1)
+lines_reported g q r status.WriteFault text h k = (h.0, (r.lines.items, h.1, k))
+lines_reported g q r status.NoMemory text h k = absurd k
+lines_reported g q r status.Usage text h k = absurd k
+lines_reported g q r status.RegistryRefused text h k = absurd k
+lines_reported g q r status.EndpointFault text h k = absurd k
+lines_reported g q r status.BadReply text h k = absurd k
+lines_reported g q r status.UnknownService text h k = absurd k
+lines_reported g q r status.RequestTooLong text h k = absurd k
+lines_reported g q r status.GraphRefused text h k = absurd k
+lines_reported g q r status.QueryRefused text h k = absurd k
+lines_reported g q r status.ReadFault text h k = absurd k
+lines_reported g q r status.FileTooLong text h k = absurd k
+
+pub document_written : (g q : FileRead) (r : Report) (s : Status) (old new : List ℕ) → GivesAnswer g q (Ok r) → IsDocumentWritten r.document.items s old new → IsWritten g q s old new
+document_written g q r status.Done old new h k = (r.document.items, h.2, k)
+document_written g q r status.WriteFault old new h k = (r.document.items, h.2, k)
+document_written g q r status.NoMemory old new h k = absurd k
+document_written g q r status.Usage old new h k = absurd k
+document_written g q r status.RegistryRefused old new h k = absurd k
+document_written g q r status.EndpointFault old new h k = absurd k
+document_written g q r status.BadReply old new h k = absurd k
+document_written g q r status.UnknownService old new h k = absurd k
+document_written g q r status.RequestTooLong old new h k = absurd k
+document_written g q r status.GraphRefused old new h k = absurd k
+document_written g q r status.QueryRefused old new h k = absurd k
+document_written g q r status.ReadFault old new h k = absurd k
+document_written g q r status.FileTooLong old new h k = absurd k
 
 -- ---- over members
 

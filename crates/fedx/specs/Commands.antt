@@ -1,10 +1,9 @@
 -- How the words of a command line are read.
-use Rattle.std.specs.Prelude.{◌≡◌, ℕ, Bool, true, false, List, [], ◌∷◌, map, Option, Some, None, Result, Ok, Err, codes, if◌then◌else◌, option_and_then, ◌==◌}
+use Rattle.std.specs.Prelude.{◌≡◌, ℕ, Bool, true, false, List, [], ◌∷◌, ◌++◌, map, Option, Some, None, Result, Ok, Err, codes, if◌then◌else◌, option_map, option_and_then, ◌==◌}
 use Rattle.std.specs.Borrow.{Bor}
 use Rattle.std.specs.Str.{bytes_eq}
 use Rattle.std.specs.declared.vec.Vec.{Vec}
 use Rattle.std.specs.declared.alloc.Global.{Global}
-use Rattle.fx_syntax.specs.Reading.{in_front}
 use Rattle.fedx.specs.declared.commands.Command.{Command}
 use Rattle.fedx.specs.declared.commands.Command.TheVariants.{Local, Query}
 use Rattle.fedx.specs.declared.commands.CommandError.{CommandError}
@@ -24,6 +23,16 @@ abbrev pub is_option : List ℕ → Bool
 is_option [] = false
 is_option (b ∷ []) = false
 is_option (b ∷ c ∷ bs) = b == 45
+
+-- an element before those that there are, if there are any
+abbrev pub in_front : {X : Type 0} → Option X → Option (List X) → Option (List X)
+in_front None rest = None
+in_front (Some x) None = None
+in_front (Some x) (Some xs) = Some (x ∷ xs)
+
+-- elements before those that there are, if there are any
+abbrev pub behind : {X : Type 0} → List X → Option (List X) → Option (List X)
+behind front rest = option_map (λ xs. front ++ xs) rest
 
 -- the words that are no options: behind -- every word is one, and before it no option may stand
 abbrev pub positionals : List (List ℕ) → Option (List (List ℕ))

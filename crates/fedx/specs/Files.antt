@@ -4,6 +4,8 @@ use Rattle.fx_terms.specs.declared.triples.Triple.{Triple}
 use Rattle.fx_outside.specs.Endpoints.{EndpointParts}
 use Rattle.fx_algebra.specs.declared.queries.Query.{Query}
 use Rattle.fx_syntax.specs.Accepted.{Accepted}
+use Rattle.fx_syntax.specs.Refused.{IsRefused}
+use Rattle.fx_syntax.specs.declared.kinds.SyntaxKind.{SyntaxKind}
 use Rattle.fx_ntriples.specs.Forms.{IsDocument}
 use Rattle.fx_ntriples.specs.Reading.{read_document}
 use Rattle.fx_ntriples.specs.declared.faults.NtError.{NtError}
@@ -39,13 +41,13 @@ IsGraph f = IfSome f.content (λ all. (length all ≤ GRAPH_LIMIT) × ((graph : 
 abbrev pub IsNoGraph : FileRead → NtError → Type 0
 IsNoGraph f e = IfSome f.content (λ all. (length all ≤ GRAPH_LIMIT) × (read_document all ≡ Err e))
 
--- where the content is told, it is a query within its limit
-abbrev pub IsQuery : FileRead → Type 0
-IsQuery f = IfSome f.content (λ all. (length all ≤ QUERY_LIMIT) × ((q : Query) × Accepted all q))
+-- where the content is told, it is within its limit, and refused as a query for this reason at this place
+abbrev pub IsNoQuery : FileRead → SyntaxKind → ℕ → Type 0
+IsNoQuery f kind place = IfSome f.content (λ all. (length all ≤ QUERY_LIMIT) × IsRefused all kind place)
 
--- where the content is told, it is within its limit and no query
-abbrev pub IsNoQuery : FileRead → Type 0
-IsNoQuery f = IfSome f.content (λ all. (length all ≤ QUERY_LIMIT) × ((q : Query) → Accepted all q → ⊥))
+-- where the content is told, it is a query within its limit that is so
+abbrev pub IsQueryThat : FileRead → (Query → Type 0) → Type 0
+IsQueryThat f P = IfSome f.content (λ all. (length all ≤ QUERY_LIMIT) × ((q : Query) × Accepted all q × P q))
 
 -- where the content is told, it is a registry within its limit
 abbrev pub IsRegistryFile : FileRead → Type 0

@@ -8,4 +8,5 @@ pub mod Query
 pub mod QuerySteps
 pub mod RefusalStatuses
 pub mod Runs
+pub mod Services
 pub mod Statuses

@@ -7,6 +7,8 @@ use Rattle.fx_ntriples.specs.declared.faults.NtError.{NtError}
 use Rattle.fx_ntriples.specs.declared.faults.NtError.TheVariants as graph
 use Rattle.fx_sources.specs.declared.errors.RegistryError.{RegistryError}
 use Rattle.fx_sources.specs.declared.errors.RegistryError.TheVariants as registry
+use Rattle.fx_syntax.specs.Refused.{kind_name}
+use Rattle.fx_syntax.specs.declared.kinds.SyntaxKind.{SyntaxKind}
 
 abbrev pub line : List ℕ → List ℕ
 line text = text ++ 10 ∷ []
@@ -30,6 +32,23 @@ no_memory = line (codes "no memory")
 pub record Gains (old new : List ℕ) (before after : ℕ) (text : List ℕ) : Type 0 where
   pub front : AppendsFront old new text
   pub whole : (HasRisen before after → ⊥) → new ≡ old ++ text
+
+-- ---- lines of queries
+
+-- why a query is refused, and the byte place
+abbrev pub query_refused : SyntaxKind → ℕ → List ℕ
+query_refused kind at = codes "query refused: " ++ (kind_name kind ++ (codes " at " ++ (decimal at ++ 10 ∷ [])))
+
+-- a query that can't be answered yet
+abbrev pub not_built : List ℕ
+not_built = line (codes "query refused: NotBuilt")
+
+abbrev pub unknown_service : List ℕ → List ℕ
+unknown_service iri = codes "unknown service " ++ (iri ++ 10 ∷ [])
+
+-- a SERVICE SILENT that names no endpoint
+abbrev pub silent_unknown : List ℕ → List ℕ
+silent_unknown iri = codes "silent " ++ (iri ++ line (codes ": unknown endpoint"))
 
 -- ---- lines of `local`
 

@@ -1,10 +1,12 @@
 -- What the steps of `fedx local` give. `IsReported` and `IsWritten` say what the whole gives.
-use Rattle.std.specs.Prelude.{◌≡◌, ℕ, ◌≤◌, List, Result, Ok, Err, IfSome, length, codes}
+use Rattle.std.specs.Prelude.{◌≡◌, ◌⊎◌, ℕ, ◌≤◌, List, [], ◌++◌, Result, Ok, Err, IfSome, length}
 use Rattle.std.specs.declared.vec.Vec.{Vec}
 use Rattle.std.specs.declared.alloc.Global.{Global}
 use Rattle.fx_terms.specs.declared.triples.Triple.{Triple}
 use Rattle.fx_algebra.specs.declared.queries.Query.{Query}
-use Rattle.fx_algebra.specs.Answers.{answer}
+use Rattle.fx_algebra.specs.Answers.{answer, no_graphs}
+use Rattle.fx_algebra.specs.Occurrences.{services}
+use Rattle.fx_outside.specs.Streams.{AppendsFront}
 use Rattle.fx_results.specs.Documents.{document}
 use Rattle.fx_syntax.specs.Accepted.{Accepted}
 use Rattle.fedx.specs.declared.limits.TheConstants.{GRAPH_LIMIT, QUERY_LIMIT}
@@ -14,18 +16,23 @@ use Rattle.fedx.specs.declared.refusals.GraphRefusal.{GraphRefusal}
 use Rattle.fedx.specs.declared.refusals.GraphRefusal.TheVariants as graph
 use Rattle.fedx.specs.declared.refusals.FileRefusal.{FileRefusal}
 use Rattle.fedx.specs.declared.refusals.FileRefusal.TheVariants as file
+use Rattle.fedx.specs.declared.refusals.QueryRefusal.{QueryRefusal}
+use Rattle.fedx.specs.declared.refusals.QueryRefusal.TheVariants as query
+use Rattle.fedx.specs.declared.local.Report.{Report}
 use Rattle.fedx.specs.declared.refusals.Refusal.{Refusal}
 use Rattle.fedx.specs.declared.refusals.Refusal.TheVariants as refusal
-use Rattle.fedx.specs.Files.{FileRead, HasFailed, IsTooLong, IsGraph, IsNoGraph, IsQuery, IsNoQuery}
-use Rattle.fedx.specs.Lines.{line, cannot_read, graph_refused, graph_too_long, query_too_long, no_memory}
-use Rattle.fedx.specs.Local.{IsAnswer}
+use Rattle.fedx.specs.declared.statuses.Status.{Status}
+use Rattle.fedx.specs.declared.statuses.Status.TheVariants as status
+use Rattle.fedx.specs.Files.{FileRead, HasFailed, IsTooLong, IsGraph, IsNoGraph, IsNoQuery, IsQueryThat}
+use Rattle.fedx.specs.Lines.{cannot_read, graph_refused, graph_too_long, query_refused, query_too_long, unknown_service, no_memory}
+use Rattle.fedx.specs.Local.{IsAnswer, HasLines, HasPlain}
+use Rattle.fedx.specs.Services.{all_numbers}
 
 -- the whole content of a file within a limit, or why there is none
 abbrev pub GivesFile : FileRead → ℕ → Result (Vec ℕ Global) FileRefusal → Type 0
 GivesFile f limit (Ok bytes) = IfSome f.content (λ all. (bytes.items ≡ all) × (length all ≤ limit))
 GivesFile f limit (Err file.Fault) = HasFailed f
 GivesFile f limit (Err file.TooLong) = IsTooLong limit f
-GivesFile f limit (Err file.NotFirst) = ⊥
 GivesFile f limit (Err file.Memory) = Unit {0}
 
 -- the graph of a file, or why there is none
@@ -38,32 +45,50 @@ GivesGraph f (Err (graph.Refused e)) = IsNoGraph f e
 GivesGraph f (Err graph.Memory) = Unit {0}
 
 -- the query of a file, or why there is none
-abbrev pub GivesQuery : FileRead → Result Query FileRefusal → Type 0
+abbrev pub GivesQuery : FileRead → Result Query QueryRefusal → Type 0
 GivesQuery f (Ok query) = IfSome f.content (λ all. (length all ≤ QUERY_LIMIT) × Accepted all query)
-GivesQuery f (Err file.Fault) = HasFailed f
-GivesQuery f (Err file.TooLong) = IsTooLong QUERY_LIMIT f
-GivesQuery f (Err file.NotFirst) = IsNoQuery f
-GivesQuery f (Err file.Memory) = Unit {0}
+GivesQuery f (Err query.Fault) = HasFailed f
+GivesQuery f (Err query.TooLong) = IsTooLong QUERY_LIMIT f
+GivesQuery f (Err (query.Refused kind place)) = IsNoQuery f kind place
+GivesQuery f (Err query.Memory) = Unit {0}
 
--- the document of the answer, or why there is none
-abbrev pub GivesAnswer : FileRead → FileRead → Result (Vec ℕ Global) Refusal → Type 0
-GivesAnswer g q (Ok text) = IsGraph g × IsQuery q × IsAnswer g q text.items
+-- the document of the answer and the lines behind it, or why there is none
+abbrev pub GivesAnswer : FileRead → FileRead → Result Report Refusal → Type 0
+GivesAnswer g q (Ok report) = IsGraph g × IsQueryThat q (HasLines report.lines.items) × IsAnswer g q report.document.items
 GivesAnswer g q (Err (refusal.Graph r)) = GivesGraph g (Err r)
-GivesAnswer g q (Err (refusal.Query file.Fault)) = IsGraph g × HasFailed q
-GivesAnswer g q (Err (refusal.Query file.TooLong)) = IsGraph g × IsTooLong QUERY_LIMIT q
-GivesAnswer g q (Err (refusal.Query file.NotFirst)) = IsGraph g × IsNoQuery q
-GivesAnswer g q (Err (refusal.Query file.Memory)) = Unit {0}
+GivesAnswer g q (Err (refusal.Query r)) = IsGraph g × GivesQuery q (Err r)
+GivesAnswer g q (Err (refusal.UnknownService iri)) = IsGraph g × IsQueryThat q (HasPlain iri)
 GivesAnswer g q (Err refusal.Memory) = Unit {0}
 
--- the document of the answer that a file's query has over a graph, or why there is none
-abbrev pub GivesDocument : List Triple → FileRead → Result (Vec ℕ Global) Refusal → Type 0
-GivesDocument graph q (Ok text) = IfSome q.content (λ all. (length all ≤ QUERY_LIMIT) × ((asked : Query) × Accepted all asked × (text.items ≡ document (answer asked graph))))
+-- the document of the answer that a query has over a graph, and the lines behind it, or why there is none
+abbrev pub GivesReport : List Triple → Query → Result Report Refusal → Type 0
+GivesReport graph asked (Ok report) = HasLines report.lines.items asked × (report.document.items ≡ document (answer asked graph no_graphs (all_numbers (services asked))))
+GivesReport graph asked (Err (refusal.Graph r)) = ⊥
+GivesReport graph asked (Err (refusal.Query r)) = ⊥
+GivesReport graph asked (Err (refusal.UnknownService iri)) = HasPlain iri asked
+GivesReport graph asked (Err refusal.Memory) = Unit {0}
+
+-- the same of the query of a file
+abbrev pub GivesDocument : List Triple → FileRead → Result Report Refusal → Type 0
+GivesDocument graph q (Ok report) = IsQueryThat q (λ asked. GivesReport graph asked (Ok report))
 GivesDocument graph q (Err (refusal.Graph r)) = ⊥
-GivesDocument graph q (Err (refusal.Query file.Fault)) = HasFailed q
-GivesDocument graph q (Err (refusal.Query file.TooLong)) = IsTooLong QUERY_LIMIT q
-GivesDocument graph q (Err (refusal.Query file.NotFirst)) = IsNoQuery q
-GivesDocument graph q (Err (refusal.Query file.Memory)) = Unit {0}
+GivesDocument graph q (Err (refusal.Query r)) = GivesQuery q (Err r)
+GivesDocument graph q (Err (refusal.UnknownService iri)) = IsQueryThat q (HasPlain iri)
 GivesDocument graph q (Err refusal.Memory) = Unit {0}
+
+-- ---- what is written of a report
+
+-- which lines are to be written behind a document
+abbrev pub IsLineReported : List ℕ → Status → List ℕ → Type 0
+IsLineReported lines status.Done text = text ≡ lines
+IsLineReported lines status.WriteFault text = (text ≡ []) ⊎ (text ≡ lines)
+IsLineReported lines s text = ⊥
+
+-- the document, or a front of it
+abbrev pub IsDocumentWritten : List ℕ → Status → List ℕ → List ℕ → Type 0
+IsDocumentWritten document status.Done old new = new ≡ old ++ document
+IsDocumentWritten document status.WriteFault old new = AppendsFront old new document
+IsDocumentWritten document s old new = ⊥
 
 -- ---- lines of refusals
 
@@ -73,14 +98,15 @@ graph_line graph.TooLong name = graph_too_long name
 graph_line (graph.Refused e) name = graph_refused e
 graph_line graph.Memory name = no_memory
 
-abbrev pub query_line : FileRefusal → List ℕ → List ℕ
-query_line file.Fault name = cannot_read name
-query_line file.TooLong name = query_too_long name
-query_line file.NotFirst name = line (codes "query refused: NotFirst")
-query_line file.Memory name = no_memory
+abbrev pub query_line : QueryRefusal → List ℕ → List ℕ
+query_line query.Fault name = cannot_read name
+query_line query.TooLong name = query_too_long name
+query_line (query.Refused kind place) name = query_refused kind place
+query_line query.Memory name = no_memory
 
 -- the line of a refusal, by the names of the graph's file and the query's file
 abbrev pub refusal_line : Refusal → List ℕ → List ℕ → List ℕ
 refusal_line (refusal.Graph r) g q = graph_line r g
 refusal_line (refusal.Query r) g q = query_line r q
+refusal_line (refusal.UnknownService iri) g q = unknown_service iri
 refusal_line refusal.Memory g q = no_memory

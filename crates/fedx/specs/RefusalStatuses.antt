@@ -1,6 +1,6 @@
 -- How a run with a refusal ends.
-use Rattle.fedx.specs.declared.refusals.FileRefusal.{FileRefusal}
-use Rattle.fedx.specs.declared.refusals.FileRefusal.TheVariants as file
+use Rattle.fedx.specs.declared.refusals.QueryRefusal.{QueryRefusal}
+use Rattle.fedx.specs.declared.refusals.QueryRefusal.TheVariants as query
 use Rattle.fedx.specs.declared.refusals.Refusal.{Refusal}
 use Rattle.fedx.specs.declared.refusals.Refusal.TheVariants as refusal
 use Rattle.fedx.specs.declared.refusals.GraphRefusal.{GraphRefusal}
@@ -12,12 +12,11 @@ use Rattle.fx_sources.specs.declared.errors.RegistryError.TheVariants as error
 use Rattle.fedx.specs.declared.statuses.Status.{Status}
 use Rattle.fedx.specs.declared.statuses.Status.TheVariants as status
 
--- where a text that is not accepted ends it so
-abbrev pub file_status : FileRefusal → Status → Status
-file_status file.Fault refused = status.ReadFault
-file_status file.TooLong refused = status.FileTooLong
-file_status file.NotFirst refused = refused
-file_status file.Memory refused = status.NoMemory
+abbrev pub query_status : QueryRefusal → Status
+query_status query.Fault = status.ReadFault
+query_status query.TooLong = status.FileTooLong
+query_status (query.Refused kind place) = status.QueryRefused
+query_status query.Memory = status.NoMemory
 
 abbrev pub graph_status : GraphRefusal → Status
 graph_status graph.Fault = status.ReadFault
@@ -28,7 +27,8 @@ graph_status graph.Memory = status.NoMemory
 
 abbrev pub status_of : Refusal → Status
 status_of (refusal.Graph r) = graph_status r
-status_of (refusal.Query r) = file_status r status.QueryRefused
+status_of (refusal.Query r) = query_status r
+status_of (refusal.UnknownService iri) = status.UnknownService
 status_of refusal.Memory = status.NoMemory
 
 abbrev pub registry_status : RegistryRefusal → Status

@@ -1,7 +1,7 @@
 -- The exit status of each end.
 use Rattle.std.specs.Prelude.{ℕ}
 use Rattle.fedx.specs.declared.statuses.Status.{Status}
-use Rattle.fedx.specs.declared.statuses.Status.TheVariants.{Done, Usage, QueryRefused, RegistryRefused, EndpointFault, BadReply, ReadFault, WriteFault, RequestTooLong, GraphRefused, NoMemory, FileTooLong}
+use Rattle.fedx.specs.declared.statuses.Status.TheVariants.{Done, Usage, QueryRefused, RegistryRefused, EndpointFault, BadReply, UnknownService, ReadFault, WriteFault, RequestTooLong, GraphRefused, NoMemory, FileTooLong}
 
 abbrev pub code_of : Status → ℕ
 code_of Done = 0
@@ -10,6 +10,7 @@ code_of QueryRefused = 3
 code_of RegistryRefused = 4
 code_of EndpointFault = 5
 code_of BadReply = 6
+code_of UnknownService = 7
 code_of ReadFault = 8
 code_of WriteFault = 9
 code_of RequestTooLong = 10

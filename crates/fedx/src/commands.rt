@@ -1,7 +1,7 @@
 //! Command lines.
 ghost use Rattle.std.specs.Prelude.{◌≡◌, ◌∷◌, ℕ, List, None, IfOk, IsErrOf, map, option_and_then, string_bytes};
 ghost use Rattle.std.specs.Str.{bytes_eq};
-ghost use Rattle.fx_syntax.specs.Reading.{behind};
+ghost use Rattle.fedx.specs.Commands.{behind};
 ghost use Rattle.fedx.specs.Commands as spec;
 
 use std::alloc::{AllocFailed, Global};

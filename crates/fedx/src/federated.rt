@@ -1,8 +1,8 @@
 //! The command `query`.
 ghost use Rattle.std.specs.Prelude.{◌≡◌, ◌≤◌, true, All, IsTrue, List, ℕ};
+ghost use Rattle.fx_algebra.specs.Answers.{IsPlain};
 ghost use Rattle.fx_outside.specs.Endpoints.{is_sendable};
 ghost use Rattle.fx_outside.specs.Faults.{HasRisen};
-ghost use Rattle.fx_syntax.specs.Accepted.{IsSpellable};
 ghost use Rattle.fx_wire.specs.Exchanges.{IsAfter, seen};
 ghost use Rattle.fedx.specs.Files.{file_read};
 ghost use Rattle.fedx.specs.Lines.{Gains};
@@ -11,9 +11,11 @@ ghost use Rattle.fedx.specs.QuerySteps.{GivesUnionDocument, IsAskReported, IsAsk
 
 use crate::loading::{load_query, load_registry};
 use crate::refusals::fed_status;
-use crate::reports::{write_fed_error, write_query_refusal, write_registry_refusal};
+use crate::reports::{
+    write_fed_error, write_not_built, write_query_refusal, write_registry_refusal,
+};
 use crate::statuses::Status;
-use fx_algebra::Query;
+use fx_algebra::{Query, is_plain};
 use fx_engine::{FedError, federate};
 use fx_outside::{Endpoint, Files, Sink, write_all};
 use fx_results::write;
@@ -21,7 +23,8 @@ use fx_wire::Wire;
 use std::alloc::Global;
 
 /// Answers the query of a file over the members of the registry of a file, and writes the document on `out`, or the line of
-/// the refusal on `err`. The registry's file is read first.
+/// the refusal on `err`. The registry's file is read first. A query that isn't plain can't be answered over members yet, and
+/// is refused as `NotBuilt`.
 pub fn run_query<F: Files, W: Wire, O: Sink, E: Sink>(
     alloc: Global,
     files: &mut F,
@@ -47,9 +50,15 @@ pub fn run_query<F: Files, W: Wire, O: Sink, E: Sink>(
         Ok(members) => match load_query(alloc, files, query) {
             Err(refusal) => {
                 write_query_refusal(err, refusal, query);
-                refusal.status(Status::QueryRefused)
+                refusal.status()
             }
-            Ok(asked) => ask_members(alloc, members.endpoints(), &asked, wire, out, err),
+            Ok(asked) => {
+                if !is_plain(&asked) {
+                    write_not_built(err);
+                    return Status::QueryRefused;
+                }
+                ask_members(alloc, members.endpoints(), &asked, wire, out, err)
+            }
         },
     }
 }
@@ -63,7 +72,7 @@ fn ask_members<W: Wire, O: Sink, E: Sink>(
     out: &mut O,
     err: &mut E,
 ) -> Status
-    requires spellable { IsSpellable query.now }
+    requires plain { IsPlain query.now }
     requires sendable { All (λ e. is_sendable e ≡ true) endpoints.now }
     ensures reported { (text : List ℕ) × IsAskReported (seen W.tells_log W.log W.graph W.faults wire.old) (seen W.tells_log W.log W.graph W.faults wire.new) endpoints.now result text × (IsTrue E.tells_held → Gains (E.held err.old) (E.held err.new) (E.write_faults err.old) (E.write_faults err.new) text) }
     ensures written { IsTrue O.tells_held → IsAskWritten (seen W.tells_log W.log W.graph W.faults wire.old) endpoints.now query.now result (O.held out.old) (O.held out.new) }
@@ -90,7 +99,7 @@ fn union_document<W: Wire>(
     query: &Query,
     wire: &mut W,
 ) -> Result<Vec<u8>, FedError>
-    requires spellable { IsSpellable query.now }
+    requires plain { IsPlain query.now }
     requires sendable { All (λ e. is_sendable e ≡ true) endpoints.now }
     ensures document { GivesUnionDocument (seen W.tells_log W.log W.graph W.faults wire.old) (seen W.tells_log W.log W.graph W.faults wire.new) endpoints.now query.now result }
     ensures wired { IsAfter (seen W.tells_log W.log W.graph W.faults wire.old) (seen W.tells_log W.log W.graph W.faults wire.new) }

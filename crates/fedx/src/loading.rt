@@ -1,18 +1,16 @@
 //! Files, and the graph and the query that they hold.
-ghost use Rattle.std.specs.Prelude.{◌≡◌, ◌≤◌, ℕ, List, IfOk};
+ghost use Rattle.std.specs.Prelude.{◌≡◌, ◌≤◌, ℕ, List};
 ghost use Rattle.fedx.specs.Files.{file_read};
-ghost use Rattle.fx_syntax.specs.Accepted.{IsSpellable};
-ghost use Rattle.fx_syntax.specs.FirstForm.{IsPlain};
 ghost use Rattle.fedx.specs.LocalSteps.{GivesFile, GivesGraph, GivesQuery};
 ghost use Rattle.fedx.specs.QuerySteps.{GivesRegistry};
 
 use crate::limits::{GRAPH_LIMIT, QUERY_LIMIT, REGISTRY_LIMIT};
-use crate::refusals::{FileRefusal, GraphRefusal, RegistryRefusal};
+use crate::refusals::{FileRefusal, GraphRefusal, QueryRefusal, RegistryRefusal};
 use fx_algebra::Query;
 use fx_ntriples::read_graph;
 use fx_outside::{FileError, Files};
 use fx_sources::Registry;
-use fx_syntax::{FirstError, parse};
+use fx_syntax::{SyntaxError, parse};
 use fx_terms::Graph;
 use std::alloc::Global;
 
@@ -25,7 +23,6 @@ pub fn load_graph<F: Files>(alloc: Global, files: &mut F, name: &str) -> Result<
     match load(alloc, files, name, GRAPH_LIMIT) {
         Err(FileRefusal::Fault) => Err(GraphRefusal::Fault),
         Err(FileRefusal::TooLong) => Err(GraphRefusal::TooLong),
-        Err(FileRefusal::NotFirst) => unreachable!(),
         Err(FileRefusal::Memory) => Err(GraphRefusal::Memory),
         Ok(bytes) => match read_graph(alloc, bytes.as_slice()) {
             Ok(graph) => Ok(graph),
@@ -35,19 +32,19 @@ pub fn load_graph<F: Files>(alloc: Global, files: &mut F, name: &str) -> Result<
 }
 
 /// The query of a file.
-pub fn load_query<F: Files>(alloc: Global, files: &mut F, name: &str) -> Result<Query, FileRefusal>
+pub fn load_query<F: Files>(alloc: Global, files: &mut F, name: &str) -> Result<Query, QueryRefusal>
     ensures outcome { GivesQuery (file_read F.content F.faults files.old files.new name.now) result }
-    ensures plain { IfOk result IsPlain }
-    ensures spellable { IfOk result IsSpellable }
     ensures kept { (other : List ℕ) → F.faults files.old other ≤ F.faults files.new other }
     ensures same { (other : List ℕ) → F.content files.new other ≡ F.content files.old other }
 {
     match load(alloc, files, name, QUERY_LIMIT) {
-        Err(refusal) => Err(refusal),
+        Err(FileRefusal::Fault) => Err(QueryRefusal::Fault),
+        Err(FileRefusal::TooLong) => Err(QueryRefusal::TooLong),
+        Err(FileRefusal::Memory) => Err(QueryRefusal::Memory),
         Ok(bytes) => match parse(alloc, bytes.as_slice()) {
             Ok(query) => Ok(query),
-            Err(FirstError::NotFirst) => Err(FileRefusal::NotFirst),
-            Err(FirstError::Memory) => Err(FileRefusal::Memory),
+            Err(SyntaxError::Refused { kind, place }) => Err(QueryRefusal::Refused { kind, place }),
+            Err(SyntaxError::Memory) => Err(QueryRefusal::Memory),
         },
     }
 }
@@ -65,7 +62,6 @@ pub fn load_registry<F: Files>(
     match load(alloc, files, name, REGISTRY_LIMIT) {
         Err(FileRefusal::Fault) => Err(RegistryRefusal::Fault),
         Err(FileRefusal::TooLong) => Err(RegistryRefusal::TooLong),
-        Err(FileRefusal::NotFirst) => unreachable!(),
         Err(FileRefusal::Memory) => Err(RegistryRefusal::Memory),
         Ok(bytes) => match Registry::read(alloc, bytes.as_slice()) {
             Ok(registry) => Ok(registry),

@@ -45,7 +45,7 @@ fn main(rt: HostRuntime) -> io::Result<ExitCode> {
             &mut err,
         ),
         Err(CommandError::Memory) => {
-            write_refusal(&mut err, Refusal::Memory, "", "");
+            write_refusal(&mut err, &Refusal::Memory, "", "");
             Status::NoMemory
         }
     };

@@ -6,6 +6,8 @@ use crate::statuses::Status;
 use fx_engine::FedError;
 use fx_ntriples::NtError;
 use fx_sources::RegistryError;
+use fx_syntax::SyntaxKind;
+use fx_terms::{Iri, Memory};
 
 /// Why a file gives nothing.
 #[derive(Clone, Copy, Debug, PartialEq, Eq)]
@@ -14,8 +16,6 @@ pub enum FileRefusal {
     Fault,
     /// It has more bytes than its limit.
     TooLong,
-    /// It is not of the form that is read.
-    NotFirst,
     /// Memory ran out.
     Memory,
 }
@@ -50,13 +50,44 @@ impl GraphRefusal {
     }
 }
 
-/// Why `local` has no answer.
+/// Why the file of a query gives no query.
 #[derive(Clone, Copy, Debug, PartialEq, Eq)]
+pub enum QueryRefusal {
+    /// Its reading failed.
+    Fault,
+    /// It has more bytes than its limit.
+    TooLong,
+    /// It is refused, for this reason at this byte place.
+    Refused { kind: SyntaxKind, place: u64 },
+    /// Memory ran out.
+    Memory,
+}
+
+impl QueryRefusal {
+    ghost use Rattle.fedx.specs.RefusalStatuses.{query_status};
+
+    /// How a run with this refusal ends.
+    pub fn status(self) -> Status
+        ensures { result ≡ query_status self }
+    {
+        match self {
+            QueryRefusal::Fault => Status::ReadFault,
+            QueryRefusal::TooLong => Status::FileTooLong,
+            QueryRefusal::Refused { kind: _, place: _ } => Status::QueryRefused,
+            QueryRefusal::Memory => Status::NoMemory,
+        }
+    }
+}
+
+/// Why `local` has no answer.
+#[derive(Debug, Drop)]
 pub enum Refusal {
     /// For the file of the graph.
     Graph(GraphRefusal),
     /// For the file of the query.
-    Query(FileRefusal),
+    Query(QueryRefusal),
+    /// For the first SERVICE without SILENT, which names this IRI.
+    UnknownService(Iri),
     /// Memory ran out.
     Memory,
 }
@@ -65,30 +96,26 @@ impl Refusal {
     ghost use Rattle.fedx.specs.RefusalStatuses.{status_of};
 
     /// How a run with this refusal ends.
-    pub fn status(self) -> Status
-        ensures { result ≡ status_of self }
+    pub fn status(&self) -> Status
+        ensures { result ≡ status_of self.now }
     {
         match self {
             Refusal::Graph(refusal) => refusal.status(),
-            Refusal::Query(refusal) => refusal.status(Status::QueryRefused),
+            Refusal::Query(refusal) => refusal.status(),
+            Refusal::UnknownService(_) => Status::UnknownService,
             Refusal::Memory => Status::NoMemory,
         }
     }
 }
 
-impl FileRefusal {
-    ghost use Rattle.fedx.specs.RefusalStatuses.{file_status};
+impl From<Memory> for Refusal {
+    ghost use Rattle.std.specs.Prelude.{◌≡◌};
+    ghost use Rattle.fedx.specs.declared.refusals.Refusal.TheVariants.{Memory as NoMemory};
 
-    /// How a run ends, where a text that is not accepted ends it so.
-    pub fn status(self, not_first: Status) -> Status
-        ensures { result ≡ file_status self not_first }
-    {
-        match self {
-            FileRefusal::Fault => Status::ReadFault,
-            FileRefusal::TooLong => Status::FileTooLong,
-            FileRefusal::NotFirst => not_first,
-            FileRefusal::Memory => Status::NoMemory,
-        }
+    ghost from_gives = { λ _ e. e ≡ NoMemory };
+
+    fn from(_error: Memory) -> Refusal {
+        Refusal::Memory
     }
 }
 

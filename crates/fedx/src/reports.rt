@@ -1,16 +1,18 @@
 //! Lines on standard error.
-ghost use Rattle.std.specs.Prelude.{◌≡◌, ◌++◌, ◌≤◌, ℕ, [], codes, IsTrue, IsOk, length};
+ghost use Rattle.std.specs.Prelude.{◌≡◌, ◌∷◌, ◌++◌, ◌≤◌, ℕ, [], codes, IsTrue, IsOk, length};
 ghost use Rattle.std.specs.Fmt.{decimal};
 ghost use Rattle.fedx.specs.FedRefusals.{fed_line, name_at};
-ghost use Rattle.fedx.specs.Lines.{Gains, graph_refused, line, place, registry_refused, request_too_long, usage_line};
+ghost use Rattle.fedx.specs.Lines.{Gains, graph_refused, line, not_built, place, query_refused, registry_refused, request_too_long, usage_line};
+ghost use Rattle.fx_syntax.specs.Refused.{kind_name};
 ghost use Rattle.fedx.specs.LocalSteps.{refusal_line, graph_line, query_line};
 ghost use Rattle.fedx.specs.QuerySteps.{registry_line};
 
-use crate::refusals::{FileRefusal, GraphRefusal, Refusal, RegistryRefusal};
+use crate::refusals::{GraphRefusal, QueryRefusal, Refusal, RegistryRefusal};
 use fx_engine::FedError;
 use fx_ntriples::NtError;
 use fx_outside::{Endpoint, Sink, write_all};
 use fx_sources::RegistryError;
+use fx_syntax::SyntaxKind;
 use itoa::Buffer;
 
 /// Writes the usage line.
@@ -24,12 +26,13 @@ pub fn write_usage<E: Sink>(err: &mut E)
 }
 
 /// Writes the line of a refusal, where the files have these names.
-pub fn write_refusal<E: Sink>(err: &mut E, refusal: Refusal, graph: &str, query: &str)
-    ensures { IsTrue E.tells_held → Gains (E.held err.old) (E.held err.new) (E.write_faults err.old) (E.write_faults err.new) (refusal_line refusal graph.now query.now) }
+pub fn write_refusal<E: Sink>(err: &mut E, refusal: &Refusal, graph: &str, query: &str)
+    ensures { IsTrue E.tells_held → Gains (E.held err.old) (E.held err.new) (E.write_faults err.old) (E.write_faults err.new) (refusal_line refusal.now graph.now query.now) }
 {
     match refusal {
-        Refusal::Graph(refusal) => write_graph_refusal(err, refusal, graph),
-        Refusal::Query(refusal) => write_query_refusal(err, refusal, query),
+        Refusal::Graph(refusal) => write_graph_refusal(err, *refusal, graph),
+        Refusal::Query(refusal) => write_query_refusal(err, *refusal, query),
+        Refusal::UnknownService(iri) => write_named(err, b"unknown service ", iri.text(), b"\n"),
         Refusal::Memory => write_line(err, b"no memory\n"),
     }
 }
@@ -71,15 +74,40 @@ fn write_graph_error<E: Sink>(err: &mut E, error: NtError)
 }
 
 /// Writes the line of a refusal of the query's file, where it has this name.
-pub fn write_query_refusal<E: Sink>(err: &mut E, refusal: FileRefusal, name: &str)
+pub fn write_query_refusal<E: Sink>(err: &mut E, refusal: QueryRefusal, name: &str)
     ensures { IsTrue E.tells_held → Gains (E.held err.old) (E.held err.new) (E.write_faults err.old) (E.write_faults err.new) (query_line refusal name.now) }
 {
     match refusal {
-        FileRefusal::Fault => write_named(err, b"cannot read ", name, b"\n"),
-        FileRefusal::TooLong => write_named(err, b"file ", name, b" has more than 1048576 bytes\n"),
-        FileRefusal::NotFirst => write_line(err, b"query refused: NotFirst\n"),
-        FileRefusal::Memory => write_line(err, b"no memory\n"),
+        QueryRefusal::Fault => write_named(err, b"cannot read ", name, b"\n"),
+        QueryRefusal::TooLong => {
+            write_named(err, b"file ", name, b" has more than 1048576 bytes\n")
+        }
+        QueryRefusal::Refused { kind, place } => write_query_refused(err, kind, place),
+        QueryRefusal::Memory => write_line(err, b"no memory\n"),
     }
+}
+
+fn write_query_refused<E: Sink>(err: &mut E, kind: SyntaxKind, place: u64)
+    ensures { IsTrue E.tells_held → Gains (E.held err.old) (E.held err.new) (E.write_faults err.old) (E.write_faults err.new) (query_refused kind place) }
+{
+    if let Ok(()) = write_all(err, b"query refused: ") {
+        write_kind_and_place(err, kind, place);
+    }
+}
+
+fn write_kind_and_place<E: Sink>(err: &mut E, kind: SyntaxKind, place: u64)
+    ensures { IsTrue E.tells_held → Gains (E.held err.old) (E.held err.new) (E.write_faults err.old) (E.write_faults err.new) (kind_name kind ++ (codes " at " ++ (decimal place ++ 10 ∷ []))) }
+{
+    if let Ok(()) = write_all(err, kind.name().as_bytes()) {
+        write_number(err, b" at ", place, b"\n");
+    }
+}
+
+/// Writes the line of a query that can't be answered yet.
+pub fn write_not_built<E: Sink>(err: &mut E)
+    ensures { IsTrue E.tells_held → Gains (E.held err.old) (E.held err.new) (E.write_faults err.old) (E.write_faults err.new) not_built }
+{
+    write_line(err, b"query refused: NotBuilt\n");
 }
 
 /// Writes the line of a refusal of the registry's file, where it has this name.

@@ -1,16 +1,17 @@
 //! The program over files, wires and streams that are handed in.
-ghost use Rattle.std.specs.Prelude.{◌≡◌, ◌≤◌, ◌<◌, IsTrue, List, ℕ, length, map, string_bytes};
+ghost use Rattle.std.specs.Prelude.{◌≡◌, ◌⊎◌, ◌≤◌, ◌<◌, IsTrue, List, ℕ, length, map, string_bytes};
 ghost use Rattle.fx_outside.specs.Faults.{HasRisen};
 ghost use Rattle.fx_wire.specs.Exchanges.{IsAfter, seen};
 ghost use Rattle.fedx.specs.Commands.{asked};
 ghost use Rattle.fedx.specs.Files.{file_read};
 ghost use Rattle.fedx.specs.Lines.{Gains};
 ghost use Rattle.fedx.specs.Local.{IsReported, IsWritten};
+ghost use Rattle.fedx.specs.LocalSteps.{IsDocumentWritten, IsLineReported};
 ghost use Rattle.fedx.specs.Runs.{OnFirst, Reports, Writes};
 
 use crate::commands::{Command, CommandError, read_command};
 use crate::federated::run_query;
-use crate::local::local;
+use crate::local::{Report, local};
 use crate::refusals::Refusal;
 use crate::reports::{write_refusal, write_usage};
 use crate::statuses::Status;
@@ -21,8 +22,9 @@ use std::alloc::Global;
 /// Runs the command that the words behind the program's name are, over these files and, of the wires, the first. It writes the
 /// command's document on `out`, and the line of any other end on `err`.
 ///
-/// The document is whole before its first byte is written, so that on every status but `Done` and `WriteFault` nothing is
-/// written on `out`, and with `WriteFault` a front of the document. A fault of `err` leaves the status as it is.
+/// The document and the lines behind it are whole before the first byte is written, so that on every status but `Done` and
+/// `WriteFault` nothing is written on `out`, and with `WriteFault` a front of the document. A fault of `err` while a refusal's
+/// line is written leaves the status as it is; one while the lines behind a document are written is a `WriteFault`.
 pub fn run<F: Files, W: Wire, O: Sink, E: Sink>(
     alloc: Global,
     words: &[String],
@@ -40,7 +42,7 @@ pub fn run<F: Files, W: Wire, O: Sink, E: Sink>(
     // members' graphs; with `WriteFault` a front of it; else nothing.
     ensures written { OnFirst wires.old wires.new (λ wire _. IsTrue O.tells_held → Writes (file_read F.content F.faults files.old files.new) (seen W.tells_log W.log W.graph W.faults wire) (asked (map (λ w. string_bytes w) words.now)) result (O.held out.old) (O.held out.new)) }
     ensures wired { OnFirst wires.old wires.new (λ wire later. IsAfter (seen W.tells_log W.log W.graph W.faults wire) (seen W.tells_log W.log W.graph W.faults later)) }
-    ensures write_fault { result ≡ Status.WriteFault → HasRisen (O.write_faults out.old) (O.write_faults out.new) }
+    ensures write_fault { result ≡ Status.WriteFault → HasRisen (O.write_faults out.old) (O.write_faults out.new) ⊎ HasRisen (E.write_faults err.old) (E.write_faults err.new) }
     ensures unfailed { ¬ (result ≡ Status.WriteFault) → O.write_faults out.new ≡ O.write_faults out.old }
     ensures kept { (name : List ℕ) → F.faults files.old name ≤ F.faults files.new name }
     ensures same { (name : List ℕ) → F.content files.new name ≡ F.content files.old name }
@@ -51,7 +53,7 @@ pub fn run<F: Files, W: Wire, O: Sink, E: Sink>(
             Status::Usage
         }
         Err(CommandError::Memory) => {
-            write_refusal(err, Refusal::Memory, "", "");
+            write_refusal(err, &Refusal::Memory, "", "");
             Status::NoMemory
         }
         Ok(Command::Local { graph, query }) => run_local(alloc, files, graph, query, out, err),
@@ -71,19 +73,32 @@ fn run_local<F: Files, O: Sink, E: Sink>(
 ) -> Status
     ensures reported { (text : List ℕ) × IsReported (file_read F.content F.faults files.old files.new graph.now) (file_read F.content F.faults files.old files.new query.now) result text × (IsTrue E.tells_held → Gains (E.held err.old) (E.held err.new) (E.write_faults err.old) (E.write_faults err.new) text) }
     ensures written { IsTrue O.tells_held → IsWritten (file_read F.content F.faults files.old files.new graph.now) (file_read F.content F.faults files.old files.new query.now) result (O.held out.old) (O.held out.new) }
-    ensures write_fault { result ≡ Status.WriteFault → HasRisen (O.write_faults out.old) (O.write_faults out.new) }
+    ensures write_fault { result ≡ Status.WriteFault → HasRisen (O.write_faults out.old) (O.write_faults out.new) ⊎ HasRisen (E.write_faults err.old) (E.write_faults err.new) }
     ensures unfailed { ¬ (result ≡ Status.WriteFault) → O.write_faults out.new ≡ O.write_faults out.old }
     ensures kept { (name : List ℕ) → F.faults files.old name ≤ F.faults files.new name }
     ensures same { (name : List ℕ) → F.content files.new name ≡ F.content files.old name }
 {
     match local(alloc, files, graph, query) {
-        Ok(text) => match write_all(out, text.as_slice()) {
-            Ok(()) => Status::Done,
-            Err(_) => Status::WriteFault,
-        },
+        Ok(report) => write_report(&report, out, err),
         Err(refusal) => {
-            write_refusal(err, refusal, graph, query);
+            write_refusal(err, &refusal, graph, query);
             refusal.status()
         }
+    }
+}
+
+// Writes a document on `out`, and then the lines behind it on `err`.
+fn write_report<O: Sink, E: Sink>(report: &Report, out: &mut O, err: &mut E) -> Status
+    ensures reported { (text : List ℕ) × IsLineReported report.now.lines.items result text × (IsTrue E.tells_held → Gains (E.held err.old) (E.held err.new) (E.write_faults err.old) (E.write_faults err.new) text) }
+    ensures written { IsTrue O.tells_held → IsDocumentWritten report.now.document.items result (O.held out.old) (O.held out.new) }
+    ensures write_fault { result ≡ Status.WriteFault → HasRisen (O.write_faults out.old) (O.write_faults out.new) ⊎ HasRisen (E.write_faults err.old) (E.write_faults err.new) }
+    ensures unfailed { ¬ (result ≡ Status.WriteFault) → O.write_faults out.new ≡ O.write_faults out.old }
+{
+    if write_all(out, report.document.as_slice()).is_err() {
+        return Status::WriteFault;
+    }
+    match write_all(err, report.lines.as_slice()) {
+        Ok(()) => Status::Done,
+        Err(_) => Status::WriteFault,
     }
 }

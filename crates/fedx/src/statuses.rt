@@ -9,7 +9,7 @@ pub enum Status {
     Done,
     /// The words are no command.
     Usage,
-    /// The query's text is not accepted.
+    /// The query's text is not accepted, or can't be answered yet.
     QueryRefused,
     /// The registry's text is not accepted.
     RegistryRefused,
@@ -17,9 +17,11 @@ pub enum Status {
     EndpointFault,
     /// The reply of an endpoint is not read.
     BadReply,
+    /// A SERVICE without SILENT names an IRI that is no endpoint.
+    UnknownService,
     /// The reading of a file failed.
     ReadFault,
-    /// A write to standard output failed.
+    /// A write to standard output failed, or a write behind it to standard error.
     WriteFault,
     /// The text of a request is too long.
     RequestTooLong,
@@ -43,6 +45,7 @@ impl Status {
             Status::RegistryRefused => 4,
             Status::EndpointFault => 5,
             Status::BadReply => 6,
+            Status::UnknownService => 7,
             Status::ReadFault => 8,
             Status::WriteFault => 9,
             Status::RequestTooLong => 10,

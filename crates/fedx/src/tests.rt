@@ -17,6 +17,10 @@ const USAGE: &str =
 const GRAPH: &str =
     "<http://e/a> <http://e/p> <http://e/b> .\n<http://e/a> <http://e/p> <http://e/c> .\n<http://e/a> <http://e/p> <http://e/b> .\n";
 
+// What two members hold together.
+const UNION: &str =
+    "<http://e/a> <http://e/p> <http://e/b> .\n<http://e/b> <http://e/q> \"1\"^^<http://www.w3.org/2001/XMLSchema#integer> .\n";
+
 const QUERY: &str = "SELECT * WHERE { ?x <http://e/p> ?y }";
 
 const DOCUMENT: &str =
@@ -154,6 +158,37 @@ fn answers_queries_over_a_file(rt: HostRuntime) -> Result<(), Fail> {
             "SELECT * WHERE { ?x ?p ?x }",
             r#"{"head":{"vars":["x","p"]},"results":{"bindings":[]}}"#,
         ),
+        // A triple and a row of VALUES that stand twice, an OPTIONAL with a filter of its own, a MINUS that shares nothing.
+        (
+            UNION,
+            "SELECT * WHERE { VALUES ?x { <http://e/a> <http://e/a> } ?x <http://e/p> ?y }",
+            r#"{"head":{"vars":["x","y"]},"results":{"bindings":[{"x":{"type":"uri","value":"http://e/a"},"y":{"type":"uri","value":"http://e/b"}},{"x":{"type":"uri","value":"http://e/a"},"y":{"type":"uri","value":"http://e/b"}}]}}"#,
+        ),
+        (
+            UNION,
+            "SELECT * WHERE { ?x <http://e/p> ?y OPTIONAL { ?y <http://e/q> ?z FILTER ( ?z = 2 && ?x = <http://e/a> ) } }",
+            r#"{"head":{"vars":["x","y","z"]},"results":{"bindings":[{"x":{"type":"uri","value":"http://e/a"},"y":{"type":"uri","value":"http://e/b"}}]}}"#,
+        ),
+        (
+            UNION,
+            "SELECT ?x WHERE { ?x <http://e/p> ?y MINUS { ?u <http://e/q> ?w } }",
+            r#"{"head":{"vars":["x"]},"results":{"bindings":[{"x":{"type":"uri","value":"http://e/a"}}]}}"#,
+        ),
+        (
+            UNION,
+            "SELECT DISTINCT ?x WHERE { VALUES ( ?x ?k ) { ( 1 3 ) ( 2 2 ) ( 1 1 ) } } ORDER BY ?k LIMIT 1 OFFSET 1",
+            r#"{"head":{"vars":["x"]},"results":{"bindings":[{"x":{"datatype":"http://www.w3.org/2001/XMLSchema#integer","type":"literal","value":"2"}}]}}"#,
+        ),
+        (
+            UNION,
+            "SELECT * WHERE { BIND ( 9223372036854775807 + 1 AS ?n ) }",
+            r#"{"head":{"vars":["n"]},"results":{"bindings":[{}]}}"#,
+        ),
+        (
+            UNION,
+            "ASK { { ?x <http://e/p> ?x } UNION { ?x <http://e/q> 1 } }",
+            r#"{"boolean":true,"head":{}}"#,
+        ),
     ] {
         let ran = run_words(
             rt.alloc(),
@@ -166,6 +201,39 @@ fn answers_queries_over_a_file(rt: HostRuntime) -> Result<(), Fail> {
         assert_eq!(rt; ran.status, Status::Done, "{query}");
         assert_eq!(rt; ran.out.as_slice(), document.as_bytes(), "{query}");
         assert_eq!(rt; ran.err.len(), 0, "{query}");
+    }
+    Ok(())
+}
+
+#[test]
+fn silent_services_have_their_lines(rt: HostRuntime) -> Result<(), Fail> {
+    let query =
+        "SELECT * WHERE { SERVICE SILENT <http://x/> { ?x ?y ?z } OPTIONAL { SERVICE SILENT <http://y/> {} } }";
+    let document = r#"{"head":{"vars":["x","y","z"]},"results":{"bindings":[{}]}}"#;
+    let lines = "silent http://x/: unknown endpoint\nsilent http://y/: unknown endpoint\n";
+    // Which write to standard error fails, the status, and how much of the lines stands there.
+    for (fails, status, count) in [
+        ([].as_slice(), Status::Done, lines.len()),
+        ([1].as_slice(), Status::WriteFault, 0),
+        ([2].as_slice(), Status::WriteFault, 40),
+    ] {
+        let fails = Fails {
+            files: &[],
+            out: &[],
+            err: fails,
+        };
+        let ran = run_words(
+            rt.alloc(),
+            &["local", "g.nt", "q.rq"],
+            UNION.as_bytes(),
+            query.as_bytes(),
+            40,
+            fails,
+        )?;
+        let front = lines.get(..count).ok_or("no such front")?;
+        assert_eq!(rt; ran.status, status);
+        assert_eq!(rt; ran.out.as_slice(), document.as_bytes());
+        assert_eq!(rt; ran.err.as_slice(), front.as_bytes());
     }
     Ok(())
 }
@@ -250,14 +318,50 @@ fn refuses_words_graphs_and_queries(rt: HostRuntime) -> Result<(), Fail> {
             GRAPH,
             "{",
             Status::QueryRefused,
-            "query refused: NotFirst\n",
+            "query refused: Unexpected at 0\n",
         ),
         (
             local.as_slice(),
             GRAPH,
             "",
             Status::QueryRefused,
-            "query refused: NotFirst\n",
+            "query refused: Unexpected at 0\n",
+        ),
+        (
+            local.as_slice(),
+            GRAPH,
+            "SELECT * WHERE { ?x <http://e/p>/<http://e/q> ?y }",
+            Status::QueryRefused,
+            "query refused: Unsupported at 32\n",
+        ),
+        (
+            local.as_slice(),
+            GRAPH,
+            "SELECT * WHERE { [] <http://e/p> ?y }",
+            Status::QueryRefused,
+            "query refused: BlankNode at 17\n",
+        ),
+        (
+            local.as_slice(),
+            GRAPH,
+            "SELECT * WHERE { ?x <http://e/p> 1.5 }",
+            Status::QueryRefused,
+            "query refused: Decimal at 33\n",
+        ),
+        (
+            local.as_slice(),
+            GRAPH,
+            "SELECT * WHERE { ?x <http://e/p> ?y BIND ( 1 AS ?y ) }",
+            Status::QueryRefused,
+            "query refused: BindInScope at 48\n",
+        ),
+        // The first SERVICE without SILENT is named, also inside a group that has no rows.
+        (
+            local.as_slice(),
+            GRAPH,
+            "SELECT * WHERE { SERVICE SILENT <http://x/> {} MINUS { SERVICE <http://y/> {} } SERVICE <http://z/> {} }",
+            Status::UnknownService,
+            "unknown service http://y/\n",
         ),
     ] {
         let ran = run_words(
@@ -279,7 +383,11 @@ fn refuses_words_graphs_and_queries(rt: HostRuntime) -> Result<(), Fail> {
 fn refuses_long_files(rt: HostRuntime) -> Result<(), Fail> {
     let spaces = vec![in rt.alloc(); b' '; 1048577]?;
     for (count, status, line) in [
-        (1048576, Status::QueryRefused, "query refused: NotFirst\n"),
+        (
+            1048576,
+            Status::QueryRefused,
+            "query refused: Unexpected at 1048576\n",
+        ),
         (
             1048577,
             Status::FileTooLong,
@@ -538,7 +646,13 @@ fn refuses_registries_and_then_queries(rt: HostRuntime) -> Result<(), Fail> {
             REGISTRY,
             "{",
             Status::QueryRefused,
-            "query refused: NotFirst\n",
+            "query refused: Unexpected at 0\n",
+        ),
+        (
+            REGISTRY,
+            "ASK {}",
+            Status::QueryRefused,
+            "query refused: NotBuilt\n",
         ),
     ] {
         let mut wires = [members(rt.alloc())?];

@@ -1,7 +1,6 @@
 use Rattle.std.proofs.Common.{◌≡◌, map, drop}
 use Rattle.std.specs.String.{string_bytes}
-use Rattle.fx_syntax.specs.Reading.{behind}
-use Rattle.fedx.specs.Commands.{positionals, positionals_from, texts}
+use Rattle.fedx.specs.Commands.{behind, positionals, positionals_from, texts}
 use Rattle.fedx.proofs.commands.positionals.Given as goal
 
 -- what is left completes the positionals

@@ -5,7 +5,7 @@ use Rattle.fedx.specs.Files.{file_read}
 use Rattle.fedx.specs.LocalSteps.{query_line}
 use Rattle.fedx.specs.Query.{IsQueryReported}
 use Rattle.fedx.specs.QuerySteps.{registry_line}
-use Rattle.fedx.proofs.QueryLemmas.{registry_reported, query_reported, query_since, ask_reported}
+use Rattle.fedx.proofs.QueryLemmas.{registry_reported, query_reported, query_since, other_reported, ask_reported}
 use Rattle.fedx.proofs.federated.run_query.Goals as goal
 
 pub returns-in-Err-clause-reported : goal.returns-in-Err-clause-reported
