@@ -76,8 +76,8 @@ pub block_passes : (serves : Bool) (inline : Inline) → Passes serves (block_ne
 block_passes serves inline =
     subst (Passes serves (block_nest inline)) (sym (block_tokens inline))
     (passes_both serves (block_nest inline) (columns_tokens inline) (rows_tokens inline)
-      (passes_less serves 1 (block_nest inline) (columns_tokens inline) (at_least_one inline) (passes_parens serves 0 (said (map (λ n. variable n) inline.columns)) (passes_calm serves 0 (said (map (λ n. variable n) inline.columns)) (calm_names inline.columns))))
-      (rows_in_braces serves inline.rows))
+    (passes_less serves 1 (block_nest inline) (columns_tokens inline) (at_least_one inline) (passes_parens serves 0 (said (map (λ n. variable n) inline.columns)) (passes_calm serves 0 (said (map (λ n. variable n) inline.columns)) (calm_names inline.columns))))
+    (rows_in_braces serves inline.rows))
 
 module _ (ps : Prefixes) where
   value_said : (v : Option Term) → IsFine (value_word v) → (grammar.value ps).spells (word_tokens (value_word v)) v
@@ -93,9 +93,17 @@ module _ (ps : Prefixes) where
   row_said : (width : ℕ) (row : List (Option Term)) → (length row == width) ≡ true → AreFine (row_words row) → (grammar.row ps width).spells (said (row_words row)) row
   unfolding grammar.row grammar.row_end
   row_said width row h f =
-      subst (λ (v : List Token). (grammar.row ps width).spells v row) (sym (said_brackets (map value_word row)))
-      ((row, tt), (token.Plain k.LeftParen ∷ said (map value_word row), token.Plain k.RightParen ∷ [], refl, after_said k.LeftParen (many (grammar.value ps)) (said (map value_word row)) row (values_said row (fine_brackets (map value_word row) f)),
-        (token.Plain k.RightParen, refl, refl, ap (λ (b : Bool). cond b (Ok tt) (Err ValuesWidth)) h)), refl)
+      subst (λ (v : List Token). (grammar.row ps width).spells v row) (sym (said_brackets (map value_word row))) (
+        (row, tt),
+        (
+          token.Plain k.LeftParen ∷ said (map value_word row),
+          token.Plain k.RightParen ∷ [],
+          refl,
+          after_said k.LeftParen (many (grammar.value ps)) (said (map value_word row)) row (values_said row (fine_brackets (map value_word row) f)),
+          (token.Plain k.RightParen, refl, refl, ap (λ (b : Bool). cond b (Ok tt) (Err ValuesWidth)) h),
+        ),
+        refl,
+      )
 
   rows_said : (width : ℕ) (rows : List (List (Option Term))) → are_wide width rows ≡ true → AreFine (flat_map row_words rows) → (many (grammar.row ps width)).spells (said (flat_map row_words rows)) rows
   rows_said width [] h f = refl
@@ -111,5 +119,14 @@ module _ (ps : Prefixes) where
       let u = fine_split (in_brackets (map (λ n. variable n) inline.columns)) (fixed (codes "{") ∷ (flat_map row_words inline.rows ++ fixed (codes "}") ∷ [])) f in
       let w = fine_split (flat_map row_words inline.rows) (fixed (codes "}") ∷ []) u.1.1 in
       subst (λ (v : List Token). (grammar.block ps).spells v inline) (sym (block_tokens inline))
-      (inr ((inline.columns, inline.rows), (columns_tokens inline, rows_tokens inline, refl, parens_said (grammar.columns []) (said (map (λ n. variable n) inline.columns)) inline.columns (columns_said inline.columns t.0),
-        braces_said (many (grammar.row ps (length inline.columns))) (said (flat_map row_words inline.rows)) inline.rows (rows_said (length inline.columns) inline.rows t.1 w.0)), refl))
+      (inr (
+        (inline.columns, inline.rows),
+        (
+          columns_tokens inline,
+          rows_tokens inline,
+          refl,
+          parens_said (grammar.columns []) (said (map (λ n. variable n) inline.columns)) inline.columns (columns_said inline.columns t.0),
+          braces_said (many (grammar.row ps (length inline.columns))) (said (flat_map row_words inline.rows)) inline.rows (rows_said (length inline.columns) inline.rows t.1 w.0),
+        ),
+        refl,
+      ))

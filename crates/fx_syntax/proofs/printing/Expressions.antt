@@ -232,7 +232,7 @@ module _ (ps : Prefixes) where
       record {
         level = refl;
         is_name = λ h. absurd (cc (h));
-    calls = λ h. absurd (cc (h));
+        calls = λ h. absurd (cc (h));
         passes = subst (Passes false 0) (sym same) (passes_calm false 0 (term_tokens t) (calm_term t));
         spelled = λ g f n h. subst (λ (v : List Token). (grammar.primary ps (inner n)).spells v (expr.Constant t)) (sym same) (constant_said t n f.0);
       }
@@ -278,9 +278,12 @@ module _ (ps : Prefixes) where
     passes = chain_passes (codes "*") 5 (omega arith) refl es;
     spelled = λ g f n h.
         let t = and_parts (is_chain (map measured (values es))) (all_good (map measured (values es))) g in
-        subst (λ (v : List Token). (grammar.product ps (inner n)).spells v (expr.Product (values es))) (sym (separated_said (codes "*") (placed_words 5 es)))
-        (values es, chain_said k.Star (grammar.factor ps (inner n)) (map said (placed_words 5 es)) (values es) (some_values es t.0)
-          (all_factors (inner n) (map said (placed_words 5 es)) (values es) (parts_said 5 (omega arith) es n t.1 (fine_separated (fixed (codes "*")) (placed_words 5 es) f) h)), chain_is expr.Product es t.0);
+        subst (λ (v : List Token). (grammar.product ps (inner n)).spells v (expr.Product (values es))) (sym (separated_said (codes "*") (placed_words 5 es))) (
+          values es,
+          chain_said k.Star (grammar.factor ps (inner n)) (map said (placed_words 5 es)) (values es) (some_values es t.0)
+              (all_factors (inner n) (map said (placed_words 5 es)) (values es) (parts_said 5 (omega arith) es n t.1 (fine_separated (fixed (codes "*")) (placed_words 5 es) f) h)),
+          chain_is expr.Product es t.0,
+        );
   }
 
   not_so : (e : Proved) → Law (print_step (Expr-F.Not (printed e.0))) (measure_step (Expr-F.Not (measured e.0))) (expr.Not e.0)
@@ -290,7 +293,7 @@ module _ (ps : Prefixes) where
       record {
         level = refl;
         is_name = λ h. absurd (cc (h));
-    calls = λ h. absurd (cc (h));
+        calls = λ h. absurd (cc (h));
         passes = passes_behind false (placed 6 (measured e.0)) (token_of.Plain k.Bang) (said (in_place 6 (printed e.0))) refl l.passes;
         spelled = λ g f n h. inl (e.0, after_said k.Bang (grammar.primary ps (inner n)) (said (in_place 6 (printed e.0))) e.0 (l.spelled g f.1 n h), refl);
       }
@@ -302,7 +305,7 @@ module _ (ps : Prefixes) where
       record {
         level = refl;
         is_name = λ h. absurd (cc (h));
-    calls = λ h. absurd (cc (h));
+        calls = λ h. absurd (cc (h));
         passes = passes_behind false (placed 6 (measured e.0)) (token_of.Plain k.Plus) (said (in_place 6 (printed e.0))) refl l.passes;
         spelled = λ g f n h. inr (inl (e.0, after_said k.Plus (grammar.primary ps (inner n)) (said (in_place 6 (printed e.0))) e.0 (l.spelled g f.1 n h), refl));
       }
@@ -314,7 +317,7 @@ module _ (ps : Prefixes) where
       record {
         level = refl;
         is_name = λ h. absurd (cc (h));
-    calls = λ h. absurd (cc (h));
+        calls = λ h. absurd (cc (h));
         passes = passes_behind false (placed 6 (measured e.0)) (token_of.Plain k.Dash) (said (in_place 6 (printed e.0))) refl l.passes;
         spelled = λ g f n h. inr (inr (inl (e.0, after_said k.Dash (grammar.primary ps (inner n)) (said (in_place 6 (printed e.0))) e.0 (l.spelled g f.1 n h), refl)));
       }
@@ -339,15 +342,23 @@ module _ (ps : Prefixes) where
       record {
         level = refl;
         is_name = λ h. absurd (cc (h));
-    calls = λ h. absurd (cc (h));
+        calls = λ h. absurd (cc (h));
         passes = subst (Passes false nest) (sym same) (passes_both false nest (said left) (token_of.Comparison op ∷ said right) (passes_less false (placed 3 (measured a.0)) nest (said left) (omega arith) l.passes)
-          (passes_behind false nest (token_of.Comparison op) (said right) refl (passes_less false (placed 3 (measured b.0)) nest (said right) (omega arith) r.passes)));
+            (passes_behind false nest (token_of.Comparison op) (said right) refl (passes_less false (placed 3 (measured b.0)) nest (said right) (omega arith) r.passes)));
         spelled = λ g f n h.
             let t = and_parts (measured a.0).good (measured b.0).good g in
             let u = fine_split left (fixed (comparison op) ∷ right) f in
-            subst (λ (v : List Token). (grammar.relation ps (inner n)).spells v (expr.Compare op a.0 b.0)) (sym same)
-            ((a.0, Some (relative.Compared op b.0)), (said left, token_of.Comparison op ∷ said right, refl, l.spelled t.0 u.0 n (omega (arith, h)),
-              inl ((op, b.0), (token_of.Comparison op ∷ [], said right, refl, (token_of.Comparison op, refl, refl, refl), r.spelled t.1 u.1.1 n (omega (arith, h))), refl)), refl);
+            subst (λ (v : List Token). (grammar.relation ps (inner n)).spells v (expr.Compare op a.0 b.0)) (sym same) (
+              (a.0, Some (relative.Compared op b.0)),
+              (
+                said left,
+                token_of.Comparison op ∷ said right,
+                refl,
+                l.spelled t.0 u.0 n (omega (arith, h)),
+                inl ((op, b.0), (token_of.Comparison op ∷ [], said right, refl, (token_of.Comparison op, refl, refl, refl), r.spelled t.1 u.1.1 n (omega (arith, h))), refl),
+              ),
+              refl,
+            );
       }
 
   -- ---- lists
@@ -363,9 +374,17 @@ module _ (ps : Prefixes) where
   list_said a [] [] h = ((tt, []), (token_of.Plain k.LeftParen ∷ [], token_of.Plain k.RightParen ∷ [], refl, mark_said k.LeftParen, inl (tt, mark_said k.RightParen, refl)), refl)
   list_said a [] (e ∷ es) h = absurd h
   list_said a (t ∷ ts) [] h = absurd h
-  list_said a (t ∷ ts) (e ∷ es) h =
-      ((tt, e ∷ es), (token_of.Plain k.LeftParen ∷ [], separated_tokens (token_of.Plain k.Comma) (t ∷ ts) ++ token_of.Plain k.RightParen ∷ [], refl, mark_said k.LeftParen,
-        inr (before_said (chain k.Comma a) k.RightParen (separated_tokens (token_of.Plain k.Comma) (t ∷ ts)) (e ∷ es) (chain_said k.Comma a (t ∷ ts) (e ∷ es) refl h))), refl)
+  list_said a (t ∷ ts) (e ∷ es) h = (
+    (tt, e ∷ es),
+    (
+      token_of.Plain k.LeftParen ∷ [],
+      separated_tokens (token_of.Plain k.Comma) (t ∷ ts) ++ token_of.Plain k.RightParen ∷ [],
+      refl,
+      mark_said k.LeftParen,
+      inr (before_said (chain k.Comma a) k.RightParen (separated_tokens (token_of.Plain k.Comma) (t ∷ ts)) (e ∷ es) (chain_said k.Comma a (t ∷ ts) (e ∷ es) refl h)),
+    ),
+    refl,
+  )
 
   abbrev list_tokens : List Proved → List Token
   list_tokens es = token_of.Plain k.LeftParen ∷ (separated_tokens (token_of.Plain k.Comma) (map said (placed_words 0 es)) ++ token_of.Plain k.RightParen ∷ [])
@@ -407,9 +426,9 @@ module _ (ps : Prefixes) where
       record {
         level = refl;
         is_name = λ h. absurd (cc (h));
-    calls = λ h. absurd (cc (h));
+        calls = λ h. absurd (cc (h));
         passes = subst (Passes false nest) (sym same) (passes_both false nest (said item) (said (among negated) ++ said list) (passes_less false (placed 3 (measured a.0)) nest (said item) (omega arith) l.passes)
-          (passes_both false nest (said (among negated)) (said list) (passes_calm false nest (said (among negated)) (calm_among negated)) (passes_less false (suc (most 0 (map measured (values es)))) nest (said list) (omega arith) (list_passes es))));
+            (passes_both false nest (said (among negated)) (said list) (passes_calm false nest (said (among negated)) (calm_among negated)) (passes_less false (suc (most 0 (map measured (values es)))) nest (said list) (omega arith) (list_passes es))));
         spelled = λ g f n h.
             let t = and_parts (measured a.0).good (all_good (map measured (values es))) g in
             let u = fine_split item (among negated ++ list) f in
@@ -447,7 +466,7 @@ module _ (ps : Prefixes) where
       let behind : List Word = signed (printed_addends rest) in
       passes_behind false n (fixed_token (sign a.0)) (said (word ++ behind)) (calm_sign a.0)
       (subst (Passes false n) (sym (said_both word behind)) (passes_both false n (said word) (said behind)
-        (passes_less false (placed 4 (measured a.1.0)) n (said word) (omega (arith, h)) (in_place_so 4 (omega arith) (printed a.1.0) (measured a.1.0) a.1.0 a.1.1).passes) (addends_pass rest n (omega (arith, h)))))
+      (passes_less false (placed 4 (measured a.1.0)) n (said word) (omega (arith, h)) (in_place_so 4 (omega arith) (printed a.1.0) (measured a.1.0) a.1.0 a.1.1).passes) (addends_pass rest n (omega (arith, h)))))
 
   addends_said : (rest : List (Sign × Proved)) (n : ℕ) → all_signed_good (measured_addends rest) ≡ true → AreFine (signed (printed_addends rest)) → most_signed (measured_addends rest) ≤ n → (many (grammar.addend ps (inner n))).spells (said (signed (printed_addends rest))) (addends rest)
   addends_said [] n g f h = refl
@@ -455,9 +474,13 @@ module _ (ps : Prefixes) where
       let word : List Word = in_place 4 (printed a.1.0) in
       let behind : List Word = signed (printed_addends rest) in
       let t = and_parts (measured a.1.0).good (all_signed_good (measured_addends rest)) g in
-      let u = fine_split word behind f.1 in
-      (fixed_token (sign a.0) ∷ said word, said behind, ap (λ (v : List Token). fixed_token (sign a.0) ∷ v) (said_both word behind),
-        sign_said a.0 (inner n) (said word) a.1.0 ((in_place_so 4 (omega arith) (printed a.1.0) (measured a.1.0) a.1.0 a.1.1).spelled t.0 u.0 n (omega (arith, h))), addends_said rest n t.1 u.1 (omega (arith, h)))
+      let u = fine_split word behind f.1 in (
+        fixed_token (sign a.0) ∷ said word,
+        said behind,
+        ap (λ (v : List Token). fixed_token (sign a.0) ∷ v) (said_both word behind),
+        sign_said a.0 (inner n) (said word) a.1.0 ((in_place_so 4 (omega arith) (printed a.1.0) (measured a.1.0) a.1.0 a.1.1).spelled t.0 u.0 n (omega (arith, h))),
+        addends_said rest n t.1 u.1 (omega (arith, h)),
+      )
 
   summed_is : (first : Expr) (rest : List (Sign × Proved)) → is_some (measured_addends rest) ≡ true → expr.Sum first (addends rest) ≡ grammar.summed first (addends rest)
   summed_is first [] h = absurd (cc (h))
@@ -473,7 +496,7 @@ module _ (ps : Prefixes) where
       record {
         level = refl;
         is_name = λ h. absurd (cc (h));
-    calls = λ h. absurd (cc (h));
+        calls = λ h. absurd (cc (h));
         passes = subst (Passes false nest) (sym (said_both word behind)) (passes_both false nest (said word) (said behind) (passes_less false (placed 4 (measured a.0)) nest (said word) (omega arith) l.passes) (addends_pass rest nest (omega arith)));
         spelled = λ g f n h.
             let t = and_parts (measured a.0).good (is_some (measured_addends rest) && all_signed_good (measured_addends rest)) g in
@@ -522,8 +545,17 @@ module _ (ps : Prefixes) where
   unfolding grammar.call grammar.two_call grammar.two_args behind_token
   call_two a f (t ∷ u ∷ []) (e ∷ d ∷ []) o h =
       subst (λ (v : List Token). (grammar.call a).spells (token_of.Two f ∷ token_of.Plain k.LeftParen ∷ (v ++ token_of.Plain k.RightParen ∷ [])) (expr.Call f (e ∷ d ∷ []))) (sym (two_tokens t u))
-      (inr (inr (inr (inr (inl ((f, (e, d)), (token_of.Two f ∷ [], token_of.Plain k.LeftParen ∷ ((t ++ token_of.Plain k.Comma ∷ u) ++ token_of.Plain k.RightParen ∷ []), refl, (token_of.Two f, refl, refl, refl),
-        parens_said (grammar.two_args a) (t ++ token_of.Plain k.Comma ∷ u) (e, d) (t, token_of.Plain k.Comma ∷ u, refl, h.0, after_said k.Comma a u d h.1.0)), refl))))))
+      (inr (inr (inr (inr (inl (
+        (f, (e, d)),
+        (
+          token_of.Two f ∷ [],
+          token_of.Plain k.LeftParen ∷ ((t ++ token_of.Plain k.Comma ∷ u) ++ token_of.Plain k.RightParen ∷ []),
+          refl,
+          (token_of.Two f, refl, refl, refl),
+          parens_said (grammar.two_args a) (t ++ token_of.Plain k.Comma ∷ u) (e, d) (t, token_of.Plain k.Comma ∷ u, refl, h.0, after_said k.Comma a u d h.1.0),
+        ),
+        refl,
+      ))))))
   call_two a f [] [] o h = absurd (cc (o))
   call_two a f [] (e ∷ es) o h = absurd h
   call_two a f (t ∷ ts) [] o h = absurd h
@@ -540,9 +572,13 @@ module _ (ps : Prefixes) where
   unfolding grammar.call grammar.if_call grammar.two_args behind_token
   call_three a (t ∷ u ∷ w ∷ []) (e ∷ d ∷ c ∷ []) o h =
       subst (λ (v : List Token). (grammar.call a).spells (token_of.Plain k.If ∷ token_of.Plain k.LeftParen ∷ (v ++ token_of.Plain k.RightParen ∷ [])) (expr.Call function.If (e ∷ d ∷ c ∷ []))) (sym (three_tokens t u w))
-      (inr (inr (inl ((e, (d, c)), after_said k.If (grammar.parens (seq a (after (token k.Comma) (grammar.two_args a)))) (token_of.Plain k.LeftParen ∷ ((t ++ token_of.Plain k.Comma ∷ (u ++ token_of.Plain k.Comma ∷ w)) ++ token_of.Plain k.RightParen ∷ [])) (e, (d, c))
-        (parens_said (seq a (after (token k.Comma) (grammar.two_args a))) (t ++ token_of.Plain k.Comma ∷ (u ++ token_of.Plain k.Comma ∷ w)) (e, (d, c))
-          (t, token_of.Plain k.Comma ∷ (u ++ token_of.Plain k.Comma ∷ w), refl, h.0, after_said k.Comma (grammar.two_args a) (u ++ token_of.Plain k.Comma ∷ w) (d, c) (u, token_of.Plain k.Comma ∷ w, refl, h.1.0, after_said k.Comma a w c h.1.1.0))), refl))))
+      (inr (inr (inl (
+        (e, (d, c)),
+        after_said k.If (grammar.parens (seq a (after (token k.Comma) (grammar.two_args a)))) (token_of.Plain k.LeftParen ∷ ((t ++ token_of.Plain k.Comma ∷ (u ++ token_of.Plain k.Comma ∷ w)) ++ token_of.Plain k.RightParen ∷ [])) (e, (d, c))
+            (parens_said (seq a (after (token k.Comma) (grammar.two_args a))) (t ++ token_of.Plain k.Comma ∷ (u ++ token_of.Plain k.Comma ∷ w)) (e, (d, c))
+            (t, token_of.Plain k.Comma ∷ (u ++ token_of.Plain k.Comma ∷ w), refl, h.0, after_said k.Comma (grammar.two_args a) (u ++ token_of.Plain k.Comma ∷ w) (d, c) (u, token_of.Plain k.Comma ∷ w, refl, h.1.0, after_said k.Comma a w c h.1.1.0))),
+        refl,
+      ))))
   call_three a [] [] o h = absurd (cc (o))
   call_three a [] (e ∷ es) o h = absurd h
   call_three a (t ∷ ts) [] o h = absurd h

@@ -102,7 +102,6 @@ expression_words_read =
     (codes "STRSTARTS", record { ascii = refl; kind = kind.Word; begins = λ rest. refl; at_end = refl; at_space = λ rest. refl; says = refl }) ∷
     (codes "STRENDS", record { ascii = refl; kind = kind.Word; begins = λ rest. refl; at_end = refl; at_space = λ rest. refl; says = refl }) ∷ []
 
-
 find_next : (p : (text : List ℕ) × Fixed text) (text : List ℕ) (b rest : Bool) → bytes_eq text p.0 ≡ b → (rest ≡ true → Fixed text) → (b || rest) ≡ true → Fixed text
 find_next p text true rest e further h = subst Fixed (sym (same_text text p.0 (sym e))) p.1
 find_next p text false rest e further h = further h

@@ -165,8 +165,8 @@ module _ (ps : Prefixes) where
       let n = (measured e).nest in
       record {
         passes = λ o. passes_behind false (suc n) (token_of.Plain k.Bind) (said (in_brackets words)) refl
-        (subst (Passes false (suc n)) (sym same) (passes_parens false n (said (printed e).words ++ (token_of.Plain k.As ∷ token_of.Variable name ∷ []))
-          (passes_both false n (said (printed e).words) (token_of.Plain k.As ∷ token_of.Variable name ∷ []) (law ps e).passes (passes_calm false n (token_of.Plain k.As ∷ token_of.Variable name ∷ []) refl))));
+            (subst (Passes false (suc n)) (sym same) (passes_parens false n (said (printed e).words ++ (token_of.Plain k.As ∷ token_of.Variable name ∷ []))
+            (passes_both false n (said (printed e).words) (token_of.Plain k.As ∷ token_of.Variable name ∷ []) (law ps e).passes (passes_calm false n (token_of.Plain k.As ∷ token_of.Variable name ∷ []) refl))));
         names = sym (ap mentions (sym (element.rolls-Bind e name)) ∙ fold-roll-Element (List (List ℕ)) (List (List ℕ)) element_names group_names (Element-F.Bind e name));
         spelled = λ o f n h b names u.
             let w = fine_split (printed e).words (fixed (codes "AS") ∷ variable name ∷ []) (fine_brackets words f.1) in
@@ -208,8 +208,12 @@ module _ (ps : Prefixes) where
             let part = seq (grammar.service_name ps) (grammar.group ps n) in
             let inside : part.spells (token_of.Iri iri ∷ said (group_words g.0)) (iri, g.0) = (token_of.Iri iri ∷ [], said (group_words g.0), refl, inl (iri_said ps iri), g.1.spelled t.0 w.1.1 n h (omega (arith, b))) in
             let s = silent_said silent part (token_of.Iri iri ∷ said (group_words g.0)) iri g.0 inside in
-            inr (inr (inr (inl ((s.0, (iri, g.0)), after_said k.Service (seq (opt (token k.Silent)) part) (said (silence silent ++ (term (Iri iri) ∷ group_words g.0))) (s.0, (iri, g.0))
-              (subst (λ (v : List Token). (seq (opt (token k.Silent)) part).spells v (s.0, (iri, g.0))) (sym tokens) s.1), ap (λ (c : Bool). element.Service c iri g.0) s.2))));
+            inr (inr (inr (inl (
+              (s.0, (iri, g.0)),
+              after_said k.Service (seq (opt (token k.Silent)) part) (said (silence silent ++ (term (Iri iri) ∷ group_words g.0))) (s.0, (iri, g.0))
+                  (subst (λ (v : List Token). (seq (opt (token k.Silent)) part).spells v (s.0, (iri, g.0))) (sym tokens) s.1),
+              ap (λ (c : Bool). element.Service c iri g.0) s.2,
+            ))));
       }
 
   -- ---- UNION
@@ -223,9 +227,10 @@ module _ (ps : Prefixes) where
   groups_pass : (serves : Bool) (gs : List ProvedGroup) (n : ℕ) → all_held (map held (groups gs)) ≡ true → (any_serves (map held (groups gs)) ≡ true → serves ≡ true) → most_held (map held (groups gs)) ≤ n → AllPass serves n (map said (group_texts gs))
   groups_pass serves [] n o s h = tt
   groups_pass serves (g ∷ gs) n o s h =
-      let t = and_parts (held g.0).good (all_held (map held (groups gs))) o in
-      (serve_more (held g.0).serves serves n (said (group_words g.0)) (λ e. s (or_first (held g.0).serves (any_serves (map held (groups gs))) e)) (passes_less (held g.0).serves (held g.0).nest n (said (group_words g.0)) (omega (arith, h)) (group_passes (group_words g.0) (held g.0) g.0 g.1 t.0)),
-        groups_pass serves gs n t.1 (λ e. s (or_second (held g.0).serves (any_serves (map held (groups gs))) e)) (omega (arith, h)))
+      let t = and_parts (held g.0).good (all_held (map held (groups gs))) o in (
+        serve_more (held g.0).serves serves n (said (group_words g.0)) (λ e. s (or_first (held g.0).serves (any_serves (map held (groups gs))) e)) (passes_less (held g.0).serves (held g.0).nest n (said (group_words g.0)) (omega (arith, h)) (group_passes (group_words g.0) (held g.0) g.0 g.1 t.0)),
+        groups_pass serves gs n t.1 (λ e. s (or_second (held g.0).serves (any_serves (map held (groups gs))) e)) (omega (arith, h)),
+      )
 
   groups_said : (gs : List ProvedGroup) (n : ℕ) → n ≤ 64 → all_held (map held (groups gs)) ≡ true → AllFine (group_texts gs) → most_held (map held (groups gs)) ≤ n → AllSaid (grammar.group ps n) (map said (group_texts gs)) (groups gs)
   groups_said [] n b o f h = tt
@@ -367,8 +372,13 @@ module _ (ps : Prefixes) where
         back = (said (element_words e.0) ++ run s.first) ++ s.back;
         tokens = said_both (element_words e.0) (words_of es) ∙ ap (λ (v : List Token). said (element_words e.0) ++ v) s.tokens ∙ sym (append_assoc (said (element_words e.0)) (run s.first) s.back);
         triples = tt;
-        items = (said (element_words e.0) ++ run s.first, s.back, refl, item_said names n (element_words e.0) e.0 s.first (t.spelled o f n h b names u) s.triples,
-          subst (λ (v : List (List ℕ)). (grammar.items ps (grammar.group ps n) v).spells s.back s.rest) (sym scope) s.items);
+        items = (
+          said (element_words e.0) ++ run s.first,
+          s.back,
+          refl,
+          item_said names n (element_words e.0) e.0 s.first (t.spelled o f n h b names u) s.triples,
+          subst (λ (v : List (List ℕ)). (grammar.items ps (grammar.group ps n) v).spells s.back s.rest) (sym scope) s.items,
+        );
       }
 
   split : (names : List (List ℕ)) (n : ℕ) → n ≤ 63 → (es : List ProvedElement) → all_held (helds es) ≡ true → are_fresh names (helds es) ≡ true → AreFine (words_of es) → most_held (helds es) ≤ n → Split names n es

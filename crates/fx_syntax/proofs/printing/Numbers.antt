@@ -60,16 +60,43 @@ digit_by P p0 p1 p2 p3 p4 p5 p6 p7 p8 p9 c h =
     let t = and_parts (nat_le 48 c) (nat_le c 57) h in
     let low : 48 ≤ c = leb-true 48 c t.0 in
     let high : c ≤ 57 = leb-true c 57 t.1 in
-    elim (cases_eq c 48) [ inl e ↦ subst P (sym e) p0 | inr n0 ↦
-    elim (cases_eq c 49) [ inl e ↦ subst P (sym e) p1 | inr n1 ↦
-    elim (cases_eq c 50) [ inl e ↦ subst P (sym e) p2 | inr n2 ↦
-    elim (cases_eq c 51) [ inl e ↦ subst P (sym e) p3 | inr n3 ↦
-    elim (cases_eq c 52) [ inl e ↦ subst P (sym e) p4 | inr n4 ↦
-    elim (cases_eq c 53) [ inl e ↦ subst P (sym e) p5 | inr n5 ↦
-    elim (cases_eq c 54) [ inl e ↦ subst P (sym e) p6 | inr n6 ↦
-    elim (cases_eq c 55) [ inl e ↦ subst P (sym e) p7 | inr n7 ↦
-    elim (cases_eq c 56) [ inl e ↦ subst P (sym e) p8 | inr n8 ↦
-    let last : c ≡ 57 = omega arith in subst P (sym last) p9 ] ] ] ] ] ] ] ] ]
+    elim (cases_eq c 48) [
+      | inl e ↦ subst P (sym e) p0
+      | inr n0 ↦
+          elim (cases_eq c 49) [
+            | inl e ↦ subst P (sym e) p1
+            | inr n1 ↦
+                elim (cases_eq c 50) [
+                  | inl e ↦ subst P (sym e) p2
+                  | inr n2 ↦
+                      elim (cases_eq c 51) [
+                        | inl e ↦ subst P (sym e) p3
+                        | inr n3 ↦
+                            elim (cases_eq c 52) [
+                              | inl e ↦ subst P (sym e) p4
+                              | inr n4 ↦
+                                  elim (cases_eq c 53) [
+                                    | inl e ↦ subst P (sym e) p5
+                                    | inr n5 ↦
+                                        elim (cases_eq c 54) [
+                                          | inl e ↦ subst P (sym e) p6
+                                          | inr n6 ↦
+                                              elim (cases_eq c 55) [
+                                                | inl e ↦ subst P (sym e) p7
+                                                | inr n7 ↦
+                                                    elim (cases_eq c 56) [
+                                                      | inl e ↦ subst P (sym e) p8
+                                                      | inr n8 ↦
+                                                          let last : c ≡ 57 = omega arith in subst P (sym last) p9
+                                                    ]
+                                              ]
+                                        ]
+                                  ]
+                            ]
+                      ]
+                ]
+          ]
+    ]
 
 abbrev ReadsAt : ℕ → Type 0
 ReadsAt c = (text rest : List ℕ) → scan.skip (scan.one class.is_digit) text ≡ rest → scan.decimal (c ∷ text) ≡ None → scan.longest (c ∷ text) ≡ Some (kind.Integer, rest)

@@ -63,9 +63,11 @@ module _ (p : Pattern) where
 
   fine : IsTriple p → AreFine words
   unfolding words
-  fine h =
-      (inr (inl refl), fine_both (column_words (once (pattern_names p))) (fixed (codes "WHERE") ∷ fixed (codes "{") ∷ (pattern_words p ++ fixed (codes "}") ∷ [])) (fine_columns (once (pattern_names p)) (all_named h))
-      (inr (inl refl), (inl refl, fine_both (pattern_words p) (fixed (codes "}") ∷ []) (fine_triple p h) (inl refl, tt))))
+  fine h = (
+    inr (inl refl),
+    fine_both (column_words (once (pattern_names p))) (fixed (codes "WHERE") ∷ fixed (codes "{") ∷ (pattern_words p ++ fixed (codes "}") ∷ [])) (fine_columns (once (pattern_names p)) (all_named h))
+        (inr (inl refl), (inl refl, fine_both (pattern_words p) (fixed (codes "}") ∷ []) (fine_triple p h) (inl refl, tt))),
+  )
 
   tokens : List Token
   tokens = token.Plain k.Select ∷ (said (column_words (once (pattern_names p))) ++ (token.Plain k.Where ∷ token.Plain k.LeftBrace ∷ (said (pattern_words p) ++ token.Plain k.RightBrace ∷ [])))
@@ -117,9 +119,11 @@ module _ (p : Pattern) where
   main_said : IsTriple p → (grammar.main []).spells tokens main_of
   unfolding grammar.main tokens main_of
   main_said h =
-      let group = token.Plain k.Where ∷ token.Plain k.LeftBrace ∷ (said (pattern_words p) ++ token.Plain k.RightBrace ∷ []) in
-      ((head.Select false (named (once (pattern_names p))), (roll-Group (record { elements = element.Triple p ∷ [] }), record { order = []; limits = grammar.limits_of None None })),
-        (token.Plain k.Select ∷ said (column_words (once (pattern_names p))), group, refl, head_said, (group, [], sym (append-nil group), where_said h, nothing_behind)), refl)
+      let group = token.Plain k.Where ∷ token.Plain k.LeftBrace ∷ (said (pattern_words p) ++ token.Plain k.RightBrace ∷ []) in (
+        (head.Select false (named (once (pattern_names p))), (roll-Group (record { elements = element.Triple p ∷ [] }), record { order = []; limits = grammar.limits_of None None })),
+        (token.Plain k.Select ∷ said (column_words (once (pattern_names p))), group, refl, head_said, (group, [], sym (append-nil group), where_said h, nothing_behind)),
+        refl,
+      )
 
   names_in : group_mentions (roll-Group (record { elements = element.Triple p ∷ [] })) ≡ pattern_names p
   names_in =

@@ -55,9 +55,12 @@ form_said form.Ask = refl
 
 select_said : (distinct : Bool) (columns : List (List ℕ)) → grammar.select_head.spells (token_of.Plain k.Select ∷ (said (distinction distinct) ++ said (column_words columns))) (head.Select distinct (named columns))
 unfolding grammar.select_head grammar.distinct
-select_said true columns =
-    ((Some true, named columns), after_said k.Select (seq grammar.distinct grammar.selected) (token_of.Plain k.Distinct ∷ said (column_words columns)) (Some true, named columns)
-      (token_of.Plain k.Distinct ∷ [], said (column_words columns), refl, inl (tt, mark_said k.Distinct, refl), selected_said columns), refl)
+select_said true columns = (
+  (Some true, named columns),
+  after_said k.Select (seq grammar.distinct grammar.selected) (token_of.Plain k.Distinct ∷ said (column_words columns)) (Some true, named columns)
+      (token_of.Plain k.Distinct ∷ [], said (column_words columns), refl, inl (tt, mark_said k.Distinct, refl), selected_said columns),
+  refl,
+)
 select_said false columns =
     ((None, named columns), after_said k.Select (seq grammar.distinct grammar.selected) (said (column_words columns)) (None, named columns) ([], said (column_words columns), refl, refl, selected_said columns), refl)
 
@@ -291,9 +294,17 @@ module _ (q : Query) (h : IsPrintable q) (b : brackets q ≤ 64) where
 
   main_said : (grammar.main []).spells main_tokens main_of
   unfolding grammar.main main_of
-  main_said =
-      ((head_of q.form, (q.group, record { order = q.order; limits = grammar.limits_or limited.value })), (head_tokens q.form, (token_of.Plain k.Where ∷ said (group_words q.group)) ++ (said (order_words q.order) ++ (said (limit_words q.limit) ++ said (offset_words q.offset))), refl, head_said q.form,
-        (token_of.Plain k.Where ∷ said (group_words q.group), said (order_words q.order) ++ (said (limit_words q.limit) ++ said (offset_words q.offset)), refl, where_said, modifiers_said)), refl)
+  main_said = (
+    (head_of q.form, (q.group, record { order = q.order; limits = grammar.limits_or limited.value })),
+    (
+      head_tokens q.form,
+      (token_of.Plain k.Where ∷ said (group_words q.group)) ++ (said (order_words q.order) ++ (said (limit_words q.limit) ++ said (offset_words q.offset))),
+      refl,
+      head_said q.form,
+      (token_of.Plain k.Where ∷ said (group_words q.group), said (order_words q.order) ++ (said (limit_words q.limit) ++ said (offset_words q.offset)), refl, where_said, modifiers_said),
+    ),
+    refl,
+  )
 
   tokens_are : said (query_words q) ≡ main_tokens ++ said (trailing_words q.inline)
   tokens_are =

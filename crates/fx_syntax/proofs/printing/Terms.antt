@@ -50,14 +50,32 @@ literal_said kinds d l h = go (length l.tag == 0) refl (bytes_eq l.datatype xsd_
     go true e true f = inl ((l.form, None), (token_of.Text l.form ∷ [], [], refl, (token_of.Text l.form, refl, refl, refl), refl), same_parts l xsd_string [] (same_text l.datatype xsd_string (sym f)) (no_tag l e))
     go true e false f =
         let other : bytes_eq l.datatype lang_string ≡ false = not_back _ (sym e ∙ h.fits) in
-        inl ((l.form, Some (annotation.Datatype l.datatype)), (token_of.Text l.form ∷ [], token_of.Plain k.CaretCaret ∷ token_of.Iri l.datatype ∷ [], refl, (token_of.Text l.form, refl, refl, refl),
-          inr (l.datatype, after_said k.CaretCaret kinds (token_of.Iri l.datatype ∷ []) l.datatype (d l.datatype other), refl)), same_parts l l.datatype [] refl (no_tag l e))
+        inl (
+          (l.form, Some (annotation.Datatype l.datatype)),
+          (
+            token_of.Text l.form ∷ [],
+            token_of.Plain k.CaretCaret ∷ token_of.Iri l.datatype ∷ [],
+            refl,
+            (token_of.Text l.form, refl, refl, refl),
+            inr (l.datatype, after_said k.CaretCaret kinds (token_of.Iri l.datatype ∷ []) l.datatype (d l.datatype other), refl),
+          ),
+          same_parts l l.datatype [] refl (no_tag l e),
+        )
     go false e b f =
         let some : 0 < length l.tag = omega (arith, eqb-false (length l.tag) 0 e) in
         let t = h.tag some in
         let other : bytes_eq l.datatype lang_string ≡ true = not_back_too _ (sym e ∙ h.fits) in
-        inl ((l.form, Some (annotation.Tag l.tag)), (token_of.Text l.form ∷ [], token_of.Tag l.tag ∷ [], refl, (token_of.Text l.form, refl, refl, refl),
-          inl (l.tag, (token_of.Tag l.tag, refl, refl, rw t.tag refl), refl)), same_parts l lang_string (map to_ascii_lowercase l.tag) (same_text l.datatype lang_string (sym other)) (sym t.lower))
+        inl (
+          (l.form, Some (annotation.Tag l.tag)),
+          (
+            token_of.Text l.form ∷ [],
+            token_of.Tag l.tag ∷ [],
+            refl,
+            (token_of.Text l.form, refl, refl, refl),
+            inl (l.tag, (token_of.Tag l.tag, refl, refl, rw t.tag refl), refl),
+          ),
+          same_parts l lang_string (map to_ascii_lowercase l.tag) (same_text l.datatype lang_string (sym other)) (sym t.lower),
+        )
 
 -- ---- as words
 

@@ -123,8 +123,8 @@ body_unescaped (suc n) (c ∷ cs) rest h =
     (λ e l. ap (λ v. v ∷ unescaped (OneSign 34) n (behind ++ 34 ∷ rest)) (sym e) ∙ ap (λ v. c ∷ v) (further (omega (arith, l))))
     (λ e l. ap (λ v. v ∷ unescaped (OneSign 34) n (behind ++ 34 ∷ rest)) (sym e) ∙ ap (λ v. c ∷ v) (further (omega (arith, l))))
     (λ i j x y l. ap (λ (b : Bool). cond b [] ((next c (behind ++ 34 ∷ rest)).0 ∷ unescaped (OneSign 34) n (next c (behind ++ 34 ∷ rest)).1)) i
-      ∙ ap (λ (b : Bool). (cond b (escape (behind ++ 34 ∷ rest)) (c, behind ++ 34 ∷ rest)).0 ∷ unescaped (OneSign 34) n (cond b (escape (behind ++ 34 ∷ rest)) (c, behind ++ 34 ∷ rest)).1) j
-      ∙ ap (λ v. c ∷ v) (further (omega (arith, l)))) h
+    ∙ ap (λ (b : Bool). (cond b (escape (behind ++ 34 ∷ rest)) (c, behind ++ 34 ∷ rest)).0 ∷ unescaped (OneSign 34) n (cond b (escape (behind ++ 34 ∷ rest)) (c, behind ++ 34 ∷ rest)).1) j
+    ∙ ap (λ v. c ∷ v) (further (omega (arith, l)))) h
 
 -- no third quote stands behind the first
 no_third : (cs rest : List ℕ) → scan.is 34 rest ≡ None → scan.and_then (scan.is 34 (flat_map written_byte cs ++ 34 ∷ rest)) (scan.is 34) ≡ None
@@ -194,7 +194,7 @@ form_reading text rest u stop =
       begins = subst (λ (v : List ℕ). BeginsToken (v ++ chars rest)) (sym same) refl;
       kind = kind.Text;
       reads = subst (λ (v : List ℕ). scan.longest (v ++ chars rest) ≡ Some (kind.Text, chars rest)) (sym same)
-      (ap (λ (v : List ℕ). scan.longest (34 ∷ v)) (append_assoc (flat_map written_byte (chars text)) (34 ∷ []) (chars rest)) ∙ text_reads (chars text) (chars rest) stop);
+          (ap (λ (v : List ℕ). scan.longest (34 ∷ v)) (append_assoc (flat_map written_byte (chars text)) (34 ∷ []) (chars rest)) ∙ text_reads (chars text) (chars rest) stop);
       says = ap token.Text (form_said text u);
     }
 

@@ -66,7 +66,7 @@ fixed_reading text rest f e =
       begins = subst (λ (v : List ℕ). BeginsToken (v ++ chars rest)) same (f.begins (chars rest));
       kind = f.kind;
       reads = subst (λ (v : List ℕ). scan.longest (v ++ chars rest) ≡ Some (f.kind, chars rest)) same
-      (ends_by (λ r. scan.longest (text ++ r) ≡ Some (f.kind, r)) f.at_end f.at_space (chars rest) (chars_end rest e));
+          (ends_by (λ r. scan.longest (text ++ r) ≡ Some (f.kind, r)) f.at_end f.at_space (chars rest) (chars_end rest e));
       says = f.says;
     }
 
@@ -245,6 +245,6 @@ iri_reading iri rest h =
       begins = subst (λ (v : List ℕ). BeginsToken (v ++ chars rest)) (sym same) refl;
       kind = kind.Iri;
       reads = subst (λ (v : List ℕ). scan.longest (v ++ chars rest) ≡ Some (kind.Iri, chars rest)) (sym same)
-      (ap (λ (v : List ℕ). scan.longest (60 ∷ v)) (append_assoc (chars iri) (62 ∷ []) (chars rest)) ∙ iri_reads (chars iri) (chars rest) (chars_some iri h.utf8 (iri_some iri h)) (iri_chars iri h));
+          (ap (λ (v : List ℕ). scan.longest (60 ∷ v)) (append_assoc (chars iri) (62 ∷ []) (chars rest)) ∙ iri_reads (chars iri) (chars rest) (chars_some iri h.utf8 (iri_some iri h)) (iri_chars iri h));
       says = ap (λ (v : List ℕ). iri_or (read_iri (decoded (OneSign 62) v))) (behind_low 60 (iri ++ 62 ∷ []) (omega arith) inner) ∙ ap (λ (v : List ℕ). iri_or (read_iri v)) (iri_decoded iri h) ∙ ap iri_or h.iri;
     }
