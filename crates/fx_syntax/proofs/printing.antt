@@ -14,3 +14,8 @@ pub mod Expressions
 pub mod Blocks
 pub mod Groups
 pub mod Queries
+pub mod Tracking
+pub mod Taken
+pub mod TakenGroups
+pub mod Sayings
+pub mod TakenQueries

@@ -338,3 +338,11 @@ pub record IsPrintable (q : Query) : Type 0 where
 -- the law: what is printed of it is accepted as it, where at most 64 brackets are open at once
 abbrev pub PrintedIsAccepted : Type 0
 PrintedIsAccepted = (q : Query) → IsPrintable q → brackets q ≤ 64 → Accepted (printed_query q) q
+
+-- the law: what is accepted as a query is one that the grammar has
+abbrev pub AcceptedIsPrintable : Type 0
+AcceptedIsPrintable = (text : List ℕ) (q : Query) → Accepted text q → IsPrintable q
+
+-- the law: where some text is accepted as a query, what is printed of it is too, if at most 64 brackets are open at once
+abbrev pub SpellableIsAccepted : Type 0
+SpellableIsAccepted = (text : List ℕ) (q : Query) → Accepted text q → brackets q ≤ 64 → Accepted (printed_query q) q

@@ -1,7 +1,7 @@
 //! Laws of the definitions, each the contract of a function that does nothing.
 ghost use Rattle.fx_syntax.specs.Accepted.{OneQuery};
 ghost use Rattle.fx_syntax.specs.Grammar as grammar;
-ghost use Rattle.fx_syntax.specs.Printable.{PatternQueryIsAccepted, PrintedIsAccepted};
+ghost use Rattle.fx_syntax.specs.Printable.{AcceptedIsPrintable, PatternQueryIsAccepted, PrintedIsAccepted, SpellableIsAccepted};
 ghost use Rattle.fx_syntax.specs.Rule.{ReadAsSpelled, RefusedForGood};
 
 /// A text is accepted as one query at most.
@@ -27,4 +27,14 @@ pub fn pattern_query_is_accepted()
 /// The printed text of a query that the grammar has, in which at most 64 brackets are open at once, is accepted as that query.
 pub fn printed_is_accepted()
     ensures { PrintedIsAccepted }
+{}
+
+/// What is accepted as a query is one that the grammar has, in the sense of the law above.
+pub fn accepted_is_printable()
+    ensures { AcceptedIsPrintable }
+{}
+
+/// Where some text is accepted as a query, its printed text is too, if at most 64 brackets are open at once in it.
+pub fn spellable_is_accepted()
+    ensures { SpellableIsAccepted }
 {}

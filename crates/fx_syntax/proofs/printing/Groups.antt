@@ -451,3 +451,13 @@ module _ (ps : Prefixes) where
       ind-Group (λ e. OfElement (element_words e) (held_element e) e) (λ g. OfGroup (group_words g) (held g) g)
       (λ x y same. subst (λ (z : Element-F Element Group). OfElement (element_words (roll-Element z)) (held_element (roll-Element z)) (roll-Element z)) same (step_element y))
       (λ x y same. subst (λ (z : Group-F Element Group). OfGroup (group_words (roll-Group z)) (held (roll-Group z)) (roll-Group z)) same (step_group y))
+
+  element_law : (e : Element) → OfElement (element_words e) (held_element e) e
+  element_law =
+      ind-Element (λ e. OfElement (element_words e) (held_element e) e) (λ g. OfGroup (group_words g) (held g) g)
+      (λ x y same. subst (λ (z : Element-F Element Group). OfElement (element_words (roll-Element z)) (held_element (roll-Element z)) (roll-Element z)) same (step_element y))
+      (λ x y same. subst (λ (z : Group-F Element Group). OfGroup (group_words (roll-Group z)) (held (roll-Group z)) (roll-Group z)) same (step_group y))
+
+  -- what is held of an element names what it mentions
+  pub mentioned : (e : Element) → (held_element e).names ≡ mentions e
+  mentioned e = element_named (e, element_law e)

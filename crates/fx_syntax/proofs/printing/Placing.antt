@@ -108,7 +108,7 @@ passes_behind serves n t tokens h p = passes_both serves n (t ∷ []) tokens (pa
 inner : Context → Context
 inner context = record { depth = context.depth + 1; service = context.service }
 
-deeper : (depth : ℕ) (service : Service) → SteadyAt depth service → SteadyAt (depth + 1) service
+pub deeper : (depth : ℕ) (service : Service) → SteadyAt depth service → SteadyAt (depth + 1) service
 deeper depth Outside s = tt
 deeper depth Named s = s
 deeper depth (Inside before) s = omega (arith, s)
@@ -118,7 +118,7 @@ still_open depth Outside s = refl
 still_open depth Named s = refl
 still_open depth (Inside before) s = ap (λ (b : Bool). cond b Outside (Inside before)) (ne_eqb depth before (λ e. absurd (omega (arith, s, e))))
 
-same_opened : (depth : ℕ) (service : Service) → SteadyAt depth service → opened depth service ≡ service
+pub same_opened : (depth : ℕ) (service : Service) → SteadyAt depth service → opened depth service ≡ service
 same_opened depth Outside s = refl
 same_opened depth Named s = absurd s
 same_opened depth (Inside before) s = refl
@@ -142,7 +142,7 @@ opens_brace context n rest s h =
     ∙ ap (λ (d : ℕ). token.Plain k.LeftBrace ∷ all_placed (record { depth = d; service = opened context.depth context.service }) rest) (one_more_is context.depth n h)
     ∙ ap (λ (v : Service). token.Plain k.LeftBrace ∷ all_placed (record { depth = context.depth + 1; service = v }) rest) (same_opened context.depth context.service s)
 
-back : (context : Context) → SteadyAt context.depth context.service → record { depth = context.depth + 1 - 1; service = closed (context.depth + 1 - 1) context.service } ≡ context
+pub back : (context : Context) → SteadyAt context.depth context.service → record { depth = context.depth + 1 - 1; service = closed (context.depth + 1 - 1) context.service } ≡ context
 back context s =
     let d : context.depth + 1 - 1 ≡ context.depth = omega arith in
     ap (λ (n : ℕ). record { depth = n; service = closed n context.service }) d ∙ ap (λ (v : Service). record { depth = context.depth; service = v }) (still_open context.depth context.service s)
