@@ -128,7 +128,7 @@ all_once columns kept (r ∷ rs) h k =
     pick true = h
     pick false = all_kept columns kept r h (both (is_within columns r) (list_all (is_within columns) rs) k).0
 
-all_distinct : (distinct : Bool) (columns : List (List ℕ)) (rows : List Bindings) → list_all (is_within columns) rows ≡ true → list_all (is_within columns) (distinct_rows distinct columns rows) ≡ true
+all_distinct : (is_distinct : Bool) (columns : List (List ℕ)) (rows : List Bindings) → list_all (is_within columns) rows ≡ true → list_all (is_within columns) (distinct_rows is_distinct columns rows) ≡ true
 all_distinct true columns rows h = all_once columns [] rows refl h
 all_distinct false columns rows h = h
 
@@ -142,9 +142,9 @@ all_front p zero xs h = refl
 all_front p (suc n) [] h = h
 all_front p (suc n) (x ∷ xs) h = let t = both (p x) (list_all p xs) h in and_true (p x) _ t.0 (all_front p n xs t.1)
 
-all_limited : {columns : List (List ℕ)} (limit : Option ℕ) (rows : List Bindings) → list_all (is_within columns) rows ≡ true → list_all (is_within columns) (limited limit rows) ≡ true
-all_limited {columns} (Some limit) rows h = all_front (is_within columns) limit rows h
-all_limited None rows h = h
+all_limited : (columns : List (List ℕ)) (limit : Option ℕ) (rows : List Bindings) → list_all (is_within columns) rows ≡ true → list_all (is_within columns) (limited limit rows) ≡ true
+all_limited columns (Some limit) rows h = all_front (is_within columns) limit rows h
+all_limited columns None rows h = h
 
 all_keyed : (orders : List Order) (columns : List (List ℕ)) (rows : List Bindings) → list_all (λ (k : Keyed). is_within columns k.row) (map (keyed orders columns) rows) ≡ true
 all_keyed orders columns [] = refl
@@ -159,20 +159,20 @@ all_in_order orders columns rows =
     all_mapped columns (sorted_by (keyed_cmp orders columns) (map (keyed orders columns) rows))
     (all_sorted (keyed_cmp orders columns) (λ (k : Keyed). is_within columns k.row) (map (keyed orders columns) rows) (all_keyed orders columns rows))
 
-all_selected : (q : Query) (distinct : Bool) (columns : List (List ℕ)) (rows : List Bindings) → list_all (is_within columns) (selected q distinct columns rows) ≡ true
-all_selected q distinct columns rows =
-    all_limited {columns} q.limit (drop q.offset (distinct_rows distinct columns (in_order q.order columns rows)))
-    (all_behind (is_within columns) q.offset (distinct_rows distinct columns (in_order q.order columns rows)) (all_distinct distinct columns (in_order q.order columns rows) (all_in_order q.order columns rows)))
+all_selected : (q : Query) (is_distinct : Bool) (columns : List (List ℕ)) (rows : List Bindings) → list_all (is_within columns) (selected q is_distinct columns rows) ≡ true
+all_selected q is_distinct columns rows =
+    all_limited columns q.limit (drop q.offset (distinct_rows is_distinct columns (in_order q.order columns rows)))
+    (all_behind (is_within columns) q.offset (distinct_rows is_distinct columns (in_order q.order columns rows)) (all_distinct is_distinct columns (in_order q.order columns rows) (all_in_order q.order columns rows)))
 
 -- ---- the answer
 
 -- the columns of a form are distinct
 abbrev has_distinct : Form → Bool
-has_distinct (Select distinct columns) = are_distinct columns
+has_distinct (Select is_distinct columns) = are_distinct columns
 has_distinct Ask = true
 
 form_binds : (q : Query) (form : Form) (rows : List Bindings) → has_distinct form ≡ true → binds_columns (form_answer q form rows) ≡ true
-form_binds q (Select distinct columns) rows h = and_true (are_distinct columns) _ h (all_selected q distinct columns rows)
+form_binds q (Select is_distinct columns) rows h = and_true (are_distinct columns) _ h (all_selected q is_distinct columns rows)
 form_binds q Ask rows h = refl
 
 columns_distinct : (names : Option (List (List ℕ))) (g : Group) (inline : Option Inline) → are_distinct (columns_of names g inline) ≡ true
@@ -186,10 +186,10 @@ form_distinct head.Ask g inline = refl
 -- a query that is spelled is made of its parts
 made_of : (tokens : List Token) (q : Query) → query.spells tokens q → (main : Main) × (inline : Option Inline) × (q ≡ query_of main inline)
 unfolding query body
-made_of tokens q h = let parts = h.1.0 in let whole = parts.1.1.1 in (whole.0.0, whole.0.1, h.1.1 ∙ whole.1.1)
+made_of tokens q h = let whole = h.1.4 in (whole.0.0, whole.0.1, h.2 ∙ whole.2)
 
 pub spelled_answer : (q : Query) (graph : List Triple) (graphs : List ℕ → List Triple) (down : List ℕ) → IsSpellable q → binds_columns (answer q graph graphs down) ≡ true
 spelled_answer q graph graphs down h =
     let made = made_of _ q h.1.spelled in
-    let distinct : has_distinct q.form ≡ true = subst (λ (r : Query). has_distinct r.form ≡ true) (sym made.1.1) (form_distinct made.0.head made.0.group made.1.0) in
+    let distinct : has_distinct q.form ≡ true = subst (λ (r : Query). has_distinct r.form ≡ true) (sym made.2) (form_distinct made.0.head made.0.group made.1) in
     form_binds q q.form (query_rows q graph graphs down) distinct
