@@ -19,13 +19,13 @@ no_service : (os : List Occurrence) (place : ℕ) → os ≡ [] → first_up [] 
 no_service [] place e h = cc
 no_service (o ∷ os) place e h = cc
 
-module _ {E : Type 0} (r : Result (Vec ℕ Global) E) (graph : List Triple) where
-  -- a document in a reply
-  pub replied : (document : List ℕ) (answer : Answer) (status : ℕ) → status ≡ 200 → Denotes document answer → IfOk r (λ reply. status ≡ 200 → IsReply reply.items document) → IfOk r (λ reply. Replies reply.items answer)
-  replied document answer status e d h =
-      elim r as (λ v. IfOk v (λ reply. status ≡ 200 → IsReply reply.items document) → IfOk v (λ reply. Replies reply.items answer))
-      [ Ok b ↦ λ k. record { body = document; replied = k e; denotes = d } | Err e ↦ λ k. tt ] h
+-- a document in a reply
+pub replied : {E : Type 0} (r : Result (Vec ℕ Global) E) (document : List ℕ) (answer : Answer) (status : ℕ) → status ≡ 200 → Denotes document answer → IfOk r (λ reply. status ≡ 200 → IsReply reply.items document) → IfOk r (λ reply. Replies reply.items answer)
+replied r document answer status e d h =
+    elim r as (λ v. IfOk v (λ reply. status ≡ 200 → IsReply reply.items document) → IfOk v (λ reply. Replies reply.items answer))
+    [ Ok b ↦ λ k. record { body = document; replied = k e; denotes = d } | Err e ↦ λ k. tt ] h
 
+module _ {E : Type 0} (r : Result (Vec ℕ Global) E) (graph : List Triple) where
   -- the answer is that of the query, whether it has a SERVICE or not
   pub answered : (q : Query) (answer : Answer) → answer ≡ answer_alone q graph → IfOk r (λ reply. Replies reply.items answer) → IfOk r (λ reply. services q ≡ [] → Replies reply.items (answer_alone q graph))
   answered q answer e h =

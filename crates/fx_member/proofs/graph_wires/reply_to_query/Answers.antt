@@ -2,6 +2,7 @@ use Rattle.std.proofs.Common.{◌≡◌, sym, subst, true, []}
 use Rattle.fx_algebra.specs.Answers.{no_graphs}
 use Rattle.fx_algebra.specs.declared.answers.Answer.{Answer}
 use Rattle.fx_results.specs.Meanings.{binds_columns}
+use Rattle.fx_member.specs.FirstHere.{IsCause}
 use Rattle.fx_member.proofs.AnswerLemmas.{spelled_answer}
 use Rattle.fx_member.proofs.HonestLemmas.{answered, not_alone}
 use Rattle.fx_member.proofs.graph_wires.reply_to_query.Goals as goal
@@ -13,4 +14,6 @@ pub returns-in-Ok : goal.returns-in-Ok
 returns-in-Ok c = answered c.reply_with.result c.args.graph.now c.args.query.now c.in-Ok.answer (c.in-Ok.ensures.answer no_graphs) c.reply_with.ensures
 
 pub returns-in-Err-ServiceHere : goal.returns-in-Err-ServiceHere
-returns-in-Err-ServiceHere c = ?
+returns-in-Err-ServiceHere c =
+    let cause = subst (IsCause c.args.query.now []) c.in-Err-ServiceHere.field-0-is c.in-Err-ServiceHere.ensures.cause in
+    not_alone c.reply_bytes.result c.args.graph.now c.args.query.now c.in-Err-ServiceHere.field-0-0 cause
