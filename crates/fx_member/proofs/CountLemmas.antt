@@ -1,5 +1,5 @@
 -- A group has as many occurrences of SERVICE as its list of them is long.
-use Rattle.std.proofs.Common.{◌≡◌, ◌∙◌, ap, sym, subst, ℕ, suc, ◌+◌, Bool, List, [], ◌∷◌, ◌++◌, map, length, length-append, refl, arith}
+use Rattle.std.proofs.Common.{◌≡◌, ◌∙◌, ap, sym, subst, ℕ, suc, List, [], ◌∷◌, map, length, length-append, refl, arith}
 use Rattle.fx_terms.specs.declared.triples.Triple.{Triple}
 use Rattle.fx_algebra.specs.Groups.{Part, Meaning, meaning, element_meaning, group_meaning, part_services, parts_services, groups_services}
 use Rattle.fx_algebra.specs.Occurrences.{Occurrence, all_of, element_occurrences, group_occurrences, of_group, of_element}

@@ -21,7 +21,7 @@ use Rattle.fx_terms.specs.declared.patterns.Pattern.{Pattern}
 use Rattle.fx_terms.specs.declared.patterns.PatternTerm.{PatternTerm}
 use Rattle.fx_terms.specs.declared.patterns.PatternTerm.TheVariants.{Variable, Constant}
 use Rattle.fx_terms.proofs.OrderLemmas.{exact_terms}
-use Rattle.fx_algebra.specs.Solutions.{Bindings, term_of, with_pair, with_new, same_term, rises, merge, agree, is_or_none}
+use Rattle.fx_algebra.specs.Solutions.{Bindings, term_of, with_pair, same_term, rises, merge, agree, is_or_none}
 use Rattle.fx_algebra.specs.BasicGraphPatterns.{parts_of, forced, value_of, bound_to, with_part as part_with}
 use Rattle.fx_algebra.proofs.ForcedLemmas.{Extends, IsForced, forced_is, of_outcome, same_value}
 use Rattle.fx_algebra.proofs.JoinLemmas.{find-merge}

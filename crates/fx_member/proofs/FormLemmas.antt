@@ -1,21 +1,18 @@
 -- An answer doesn't depend on the order in which its rows were found.
-use Rattle.std.proofs.Common.{◌≡◌, ◌∙◌, ◌⊎◌, ◌≢◌, inl, inr, ap, sym, subst, refl, ℕ, suc, ◌+◌, ◌<◌, ◌≤◌, Bool, true, false, cond, List, [], ◌∷◌, length, drop, All, IsTrue, IsPermutation, arith, Some, None}
+use Rattle.std.proofs.Common.{◌≡◌, ◌∙◌, ◌⊎◌, ◌≢◌, inl, inr, sym, subst, refl, ℕ, suc, ◌+◌, ◌<◌, ◌≤◌, Bool, true, false, cond, List, [], ◌∷◌, length, All, IsTrue, IsPermutation, arith, Some, None}
 use Rattle.std.proofs.lemmas.Bool.{cases_eq}
 use Rattle.std.proofs.lemmas.List.Sorted.{IsPermutation-sym, IsPermutation-trans}
 use Rattle.fx_terms.specs.declared.triples.Triple.{Triple}
-use Rattle.fx_algebra.specs.Answers.{answer, form_answer, has_rows, selected, with_inline, query_rows}
+use Rattle.fx_algebra.specs.Answers.{answer, form_answer, with_inline, query_rows}
 use Rattle.fx_algebra.specs.Groups.{is_down, meaning, evaluated}
-use Rattle.fx_algebra.specs.Occurrences.{Occurrence, of_group, services}
+use Rattle.fx_algebra.specs.Occurrences.{Occurrence, services}
 use Rattle.fx_algebra.specs.Solutions.{Bindings, rises}
 use Rattle.fx_algebra.specs.declared.answers.Answer.{Answer}
-use Rattle.fx_algebra.specs.declared.answers.Answer.TheVariants.{Table, Truth}
-use Rattle.fx_algebra.specs.declared.queries.Form.{Form}
-use Rattle.fx_algebra.specs.declared.queries.Form.TheVariants.{Select, Ask}
 use Rattle.fx_algebra.specs.declared.queries.Query.{Query}
 use Rattle.fx_solutions.specs.Tables.{OneAnswer}
 use Rattle.fx_member.specs.FirstHere.{first_up, first_here}
 use Rattle.fx_member.specs.GroupRows.{AreDown, AreRowsOf, IsAnswerOf}
-use Rattle.fx_member.proofs.OperatorLemmas.{with_inline_moves, has_rows_moves}
+use Rattle.fx_member.proofs.OperatorLemmas.{with_inline_moves}
 use Rattle.fx_member.proofs.CountLemmas.{services_count}
 
 pub answer_of_rows : (q : Query) (graph : List Triple) (found all : List Bindings) (made : Answer) → OneAnswer → AreRowsOf q.group graph found → IsPermutation (with_inline q.inline found) all → All (λ s. IsTrue (rises s)) all

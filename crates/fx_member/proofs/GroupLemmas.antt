@@ -1,29 +1,28 @@
 -- How the rows of a group come of those after its elements, one element after the other.
-use Rattle.std.proofs.Common.{◌≡◌, ◌∙◌, ap, sym, subst, refl, ℕ, suc, ◌+◌, ◌<◌, ◌≤◌, Bool, true, false, T, cond, List, [], ◌∷◌, ◌++◌, map, length, take, drop, get_or, Option, Some, None, option_and_then, IsTrue, IsPermutation, arith, append-nil, append_assoc}
+use Rattle.std.proofs.Common.{◌≡◌, ◌∙◌, ap, sym, subst, refl, ℕ, suc, ◌+◌, ◌<◌, ◌≤◌, Bool, true, false, T, cond, List, [], ◌∷◌, ◌++◌, map, length, take, drop, get_or, Option, Some, None, IsTrue, IsPermutation, arith, append-nil, append_assoc}
 use Rattle.std.proofs.lemmas.List.{map-append, take_more, drop_more, drop_all}
 use Rattle.std.proofs.lemmas.List.Elements.{recursion_from_All}
-use Rattle.std.specs.Prelude.{filter, All}
-use Rattle.std.specs.List.{AllByRecursion, flat_map, filter_map, cons_option}
+use Rattle.std.specs.Prelude.{All}
+use Rattle.std.specs.List.{AllByRecursion, filter_map, cons_option}
 use Rattle.std.proofs.lemmas.List.Sorted.{IsPermutation-refl, IsPermutation-trans, IsPermutation-append}
 use Rattle.fx_terms.specs.declared.terms.Term.{Term}
 use Rattle.fx_terms.specs.declared.triples.Triple.{Triple}
 use Rattle.fx_terms.specs.declared.patterns.Pattern.{Pattern}
 use Rattle.fx_terms.specs.declared.patterns.PatternTerm.{PatternTerm}
-use Rattle.fx_algebra.specs.BasicGraphPatterns.{choices, parts_of, all_parts, forced, bgp}
-use Rattle.fx_algebra.specs.Evaluation.{extended, rows_from}
-use Rattle.fx_algebra.specs.Operators.{merges, join, filtered, minus, left_join, extend, inline_rows}
-use Rattle.fx_algebra.specs.Solutions.{Bindings, agree, merge, rises}
+use Rattle.fx_algebra.specs.BasicGraphPatterns.{parts_of, forced, bgp}
+use Rattle.fx_algebra.specs.Evaluation.{extended}
+use Rattle.fx_algebra.specs.Operators.{join, filtered, minus, left_join, extend, inline_rows}
+use Rattle.fx_algebra.specs.Solutions.{Bindings, rises}
 use Rattle.fx_algebra.specs.Groups.{Part, pattern, condition, operator, Step, run, apply, Meaning, meaning, element_meaning, group_meaning, with_pattern, with_part, steps_of, after, conditions_of, part_services, parts_services, groups_services, one_empty, group_rows, alternatives, is_down, service_rows}
 use Rattle.fx_algebra.specs.declared.expressions.Expr.{Expr}
 use Rattle.fx_algebra.specs.declared.queries.Element.{Element, Element-F, fold_out-Element, map-Element, fold-roll-Element, roll-Element}
 use Rattle.fx_algebra.specs.declared.queries.Element.TheVariants.{Triple as Triple-E, Filter, Optional, Union, Minus, Bind, Values, Service, rolls-Triple, rolls-Filter, rolls-Optional, rolls-Union, rolls-Minus, rolls-Bind, rolls-Values, rolls-Service}
 use Rattle.fx_algebra.specs.declared.queries.Inline.{Inline}
 use Rattle.fx_algebra.specs.declared.queries.Group.{Group, fold_out-Group}
-use Rattle.fx_algebra.proofs.BgpLemmas.{rows_beside, rows_from-flat_map}
 use Rattle.fx_algebra.proofs.ForcedLemmas.{IsForced, of_outcome, forced_is}
 use Rattle.fx_algebra.proofs.JoinLemmas.{join_extends, join_run, same_join}
 use Rattle.fx_member.specs.GroupRows.{AreDown, part_of, after_part, AreRowsOf, AreUnfiltered, AreFilters, AreMoreFilters, AreAlternatives, AreAfter}
-use Rattle.fx_member.proofs.OperatorLemmas.{filtered_moves, extend_moves, minus_moves, left_join_moves, join_one, filtered_by_none}
+use Rattle.fx_member.proofs.OperatorLemmas.{filtered_moves, extend_moves, minus_moves, left_join_moves, join_one}
 
 -- the rows rise by their names
 abbrev pub AllRise : List Bindings → Type 0

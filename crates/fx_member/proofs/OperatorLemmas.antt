@@ -1,13 +1,13 @@
 -- Operators give the same rows from the same rows, however these arrived.
-use Rattle.std.proofs.Common.{◌≡◌, ◌∙◌, ap, sym, subst, refl, Bool, true, false, not, ◌&&◌, cond, List, [], ◌∷◌, ◌++◌, map, filter, length, suc, arith, None, Some, IsPermutation}
+use Rattle.std.proofs.Common.{◌≡◌, ◌∙◌, ap, sym, subst, refl, Bool, true, not, ◌&&◌, cond, List, [], ◌∷◌, ◌++◌, map, filter, length, suc, arith, None, Some, IsPermutation}
 use Rattle.std.specs.Prelude.{ℕ, ◌==◌, Option}
 use Rattle.std.specs.List.{list_any}
 use Rattle.std.proofs.lemmas.Bool.Decides.{nat_tests}
-use Rattle.std.proofs.lemmas.List.Sorted.{IsPermutation-refl, IsPermutation-trans, IsPermutation-append, IsPermutation-map, list_any-IsPermutation}
+use Rattle.std.proofs.lemmas.List.Sorted.{IsPermutation-refl, IsPermutation-append, IsPermutation-map, list_any-IsPermutation}
 use Rattle.fx_algebra.specs.Answers.{has_rows, with_inline}
 use Rattle.fx_algebra.specs.Conditions.{holds}
 use Rattle.fx_algebra.specs.Groups.{one_empty}
-use Rattle.fx_algebra.specs.Operators.{merges, join, filtered, diff, left_join, is_removed_by, stays, minus, extended, extend, inline_rows}
+use Rattle.fx_algebra.specs.Operators.{join, filtered, diff, left_join, is_removed_by, stays, minus, extended, extend, inline_rows}
 use Rattle.fx_algebra.specs.Solutions.{Bindings, agree, merge}
 use Rattle.fx_algebra.specs.declared.expressions.Expr.{Expr}
 use Rattle.fx_algebra.specs.declared.queries.Inline.{Inline}

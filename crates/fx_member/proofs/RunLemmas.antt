@@ -1,10 +1,10 @@
 -- The run of triples with known parts, in a graph whose triples rise.
-use Rattle.std.proofs.Common.{◌≡◌, ◌∙◌, ap, sym, subst, refl, ℕ, zero, suc, ◌≤◌, ◌<◌, Bool, true, false, not, cond, List, [], ◌∷◌, length, take, drop, get_or, arith, Option, Some, None}
-use Rattle.std.specs.List.{AllByRecursion, AllWithin, filter}
-use Rattle.std.specs.List.Sorted.{IsStrictlySortedBy, IsPartitionedBy, IsPartitionPoint}
+use Rattle.std.proofs.Common.{◌≡◌, ◌∙◌, ap, sym, subst, refl, ℕ, zero, suc, ◌<◌, Bool, true, List, [], ◌∷◌, length, drop, get_or, arith, Option, Some, None}
+use Rattle.std.specs.List.{AllByRecursion}
+use Rattle.std.specs.List.Sorted.{IsStrictlySortedBy, IsPartitionedBy}
 use Rattle.std.specs.declared.cmp.Ordering.{Ordering}
 use Rattle.std.specs.declared.cmp.Ordering.TheVariants.{Less, Equal, Greater}
-use Rattle.std.specs.Ordering.{is_lt, is_le, is_eq, ordering_then}
+use Rattle.std.specs.Ordering.{is_lt, is_le, ordering_then}
 use Rattle.std.proofs.lemmas.Cmp.{alike_right}
 use Rattle.fx_terms.specs.Texts.{text_cmp}
 use Rattle.fx_terms.specs.Triples.{triple_cmp}

@@ -1,5 +1,5 @@
 -- What a wire that fails where it is to holds.
-use Rattle.std.specs.Prelude.{◌≡◌, ◌+◌, ◌&&◌, ◌==◌, ℕ, Bool, List, [], Option}
+use Rattle.std.specs.Prelude.{◌≡◌, ◌+◌, ◌&&◌, ◌==◌, ℕ, Bool, List, Option}
 use Rattle.std.specs.Ordering.{is_eq}
 use Rattle.fx_outside.specs.NameCounts.{count_of}
 use Rattle.fx_terms.specs.Texts.{text_cmp}

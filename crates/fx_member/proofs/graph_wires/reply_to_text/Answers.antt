@@ -1,4 +1,3 @@
-use Rattle.std.proofs.Common.{◌≡◌}
 use Rattle.fx_member.proofs.HonestLemmas.{one_query, no_query}
 use Rattle.fx_member.proofs.graph_wires.reply_to_text.Goals as goal
 

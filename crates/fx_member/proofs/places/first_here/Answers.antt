@@ -1,5 +1,5 @@
 use Rattle.std.proofs.Common.{◌∙◌, ap, List, Bool, arith}
-use Rattle.fx_algebra.specs.Occurrences.{services, Occurrence}
+use Rattle.fx_algebra.specs.Occurrences.{Occurrence}
 use Rattle.fx_member.specs.FirstHere.{first_false, first_up}
 use Rattle.fx_member.proofs.PlaceLemmas.{first_by_marks}
 use Rattle.fx_member.proofs.places.first_here.Goals as goal

@@ -1,4 +1,4 @@
-use Rattle.std.proofs.Common.{◌≡◌, ◌≤◌, ℕ, List, length, Option, Some, arith, subst}
+use Rattle.std.proofs.Common.{◌≡◌, ◌≤◌, List, length, Option, Some, arith, subst}
 use Rattle.std.specs.Prelude.{IfSome}
 use Rattle.fx_terms.specs.Graphs.{IsGraph}
 use Rattle.fx_terms.specs.declared.triples.Triple.{Triple}
