@@ -1,5 +1,5 @@
 -- What is printed is accepted where its words are fine, its tokens stay as they are, and they spell the query.
-use Rattle.std.proofs.Common.{◌≡◌, ℕ, List, ◌++◌, refl, sym, ap, ◌∙◌, subst, append-nil, arith, true}
+use Rattle.std.proofs.Common.{◌≡◌, List, ◌++◌, refl, sym, ap, ◌∙◌, subst, append-nil, arith, true}
 use Rattle.std.specs.Prelude.{[]}
 use Rattle.fx_algebra.specs.Printed.{Word, joined}
 use Rattle.fx_algebra.specs.declared.queries.Query.{Query}

@@ -1,14 +1,14 @@
 -- A printed block of VALUES is spelled by its tokens.
-use Rattle.std.proofs.Common.{◌≡◌, ℕ, zero, suc, ◌≤◌, Bool, true, false, not, cond, List, [], ◌∷◌, ◌++◌, length, map, Option, Some, None, Ok, Err, refl, sym, ap, ◌∙◌, subst, arith, append_assoc, append-nil, inl, inr, ◌&&◌}
+use Rattle.std.proofs.Common.{◌≡◌, ℕ, ◌≤◌, Bool, true, false, not, cond, List, [], ◌∷◌, ◌++◌, length, map, Option, Some, None, Ok, Err, refl, sym, ap, ◌∙◌, subst, arith, inl, inr}
 use Rattle.std.specs.Prelude.{codes, ◌==◌}
 use Rattle.std.specs.List.{flat_map, list_all}
 use Rattle.std.proofs.lemmas.Bool.{and_parts, not-true}
 use Rattle.fx_terms.specs.declared.terms.Term.{Term}
 use Rattle.fx_terms.specs.declared.terms.Term.TheVariants.{Iri, Literal}
 use Rattle.fx_algebra.specs.Scopes.{is_among}
-use Rattle.fx_algebra.specs.Printed.{Word, fixed, variable, in_brackets, value_word, row_words, block}
+use Rattle.fx_algebra.specs.Printed.{fixed, variable, in_brackets, value_word, row_words, block}
 use Rattle.fx_algebra.specs.declared.queries.Inline.{Inline}
-use Rattle.fx_syntax.specs.Rule.{Rule, many}
+use Rattle.fx_syntax.specs.Rule.{many}
 use Rattle.fx_syntax.specs.Grammar as grammar
 use Rattle.fx_syntax.specs.Grammar.{Prefixes}
 use Rattle.fx_syntax.specs.declared.kinds.SyntaxKind.TheVariants.{RepeatedName, ValuesWidth}
@@ -16,10 +16,10 @@ use Rattle.fx_syntax.specs.Printable.{AreFine, IsFine, said, word_tokens, are_ne
 use Rattle.fx_syntax.specs.declared.kinds.Kind.TheVariants as k
 use Rattle.fx_syntax.specs.declared.kinds.Token.{Token}
 use Rattle.fx_syntax.specs.declared.kinds.Token.TheVariants as token
-use Rattle.fx_syntax.proofs.printing.Saying.{said_both, fine_both}
+use Rattle.fx_syntax.proofs.printing.Saying.{said_both}
 use Rattle.fx_syntax.proofs.printing.Spelling.{mark_said, after_said, parens_said, braces_said}
 use Rattle.fx_syntax.proofs.printing.Terms.{iri_said, literal_said, datatype_in_said, calm_term}
-use Rattle.fx_syntax.proofs.printing.Placing.{Passes, passes_none, passes_both, passes_less, passes_calm, passes_behind, passes_parens, passes_braces, is_calm, calm_both}
+use Rattle.fx_syntax.proofs.printing.Placing.{Passes, passes_none, passes_both, passes_less, passes_calm, passes_parens, passes_braces, is_calm, calm_both}
 use Rattle.fx_syntax.proofs.printing.Columns.{names_said, calm_names}
 use Rattle.fx_syntax.proofs.printing.Expressions.{fine_split, said_brackets, fine_brackets}
 

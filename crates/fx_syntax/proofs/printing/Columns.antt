@@ -1,14 +1,14 @@
 -- The columns of a printed query.
-use Rattle.std.proofs.Common.{◌≡◌, ℕ, ◌<◌, Bool, true, false, cond, List, [], ◌∷◌, ◌++◌, length, map, Option, Some, None, refl, sym, ap, ◌∙◌, subst, append_assoc, append-nil, inl, inr}
+use Rattle.std.proofs.Common.{◌≡◌, ℕ, Bool, true, false, cond, List, [], ◌∷◌, ◌++◌, map, Option, Some, None, refl, sym, ap, ◌∙◌, subst, inl, inr}
 use Rattle.std.specs.Prelude.{fold}
 use Rattle.std.specs.List.{flat_map, list_all}
 use Rattle.fx_terms.specs.Names.{IsName}
-use Rattle.fx_algebra.specs.Printed.{Word, variable, column_words}
+use Rattle.fx_algebra.specs.Printed.{variable, column_words}
 use Rattle.fx_algebra.specs.Scopes.{is_among, with_name, once, scope}
 use Rattle.fx_algebra.specs.declared.queries.Group.{Group}
 use Rattle.fx_algebra.specs.declared.queries.Inline.{Inline}
 use Rattle.fx_syntax.specs.Grammar as grammar
-use Rattle.fx_syntax.specs.Printable.{AreFine, AreNames, said, word_tokens}
+use Rattle.fx_syntax.specs.Printable.{AreFine, AreNames, said}
 use Rattle.fx_syntax.specs.declared.kinds.Kind.TheVariants as k
 use Rattle.fx_syntax.specs.declared.kinds.Token.{Token}
 use Rattle.fx_syntax.specs.declared.kinds.Token.TheVariants as token

@@ -1,11 +1,11 @@
 -- A printed expression is spelled by its tokens, where the grammar has it and enough brackets may be opened.
-use Rattle.std.proofs.Common.{◌≡◌, ℕ, zero, suc, ◌+◌, ◌-◌, ◌<◌, ◌≤◌, Bool, true, false, not, cond, List, [], ◌∷◌, ◌++◌, length, map, Option, Some, None, is_some as has_some, Ok, refl, sym, ap, ◌∙◌, subst, arith, append_assoc, append-nil, inl, inr, ◌⊎◌, ◌&&◌, nat_le, max}
+use Rattle.std.proofs.Common.{◌≡◌, ℕ, zero, suc, ◌≤◌, Bool, true, false, cond, List, [], ◌∷◌, ◌++◌, map, Some, None, refl, sym, ap, ◌∙◌, subst, arith, append-nil, inl, inr, ◌&&◌, nat_le, max}
 use Rattle.std.specs.Prelude.{codes}
 use Rattle.std.specs.List.{flat_map, list_all}
-use Rattle.std.proofs.lemmas.Bool.{and_parts, leb-true, leb-false, le-leb, cases_eq}
+use Rattle.std.proofs.lemmas.Bool.{and_parts, leb-true, le-leb, cases_eq}
 use Rattle.fx_terms.specs.declared.terms.Term.{Term}
 use Rattle.fx_terms.specs.declared.terms.Term.TheVariants.{Iri, Literal}
-use Rattle.fx_algebra.specs.Printed.{Word, fixed, variable, term, Level, disjunction, conjunction, relation, sum, product, unary, named, constant, called, rank, Printed, in_place, in_brackets, marked, separated, chained, listed, comparison, sign, keyword, among, signed, print_step, printed, is_variable, is_call}
+use Rattle.fx_algebra.specs.Printed.{Word, fixed, variable, term, Level, disjunction, rank, Printed, in_place, in_brackets, marked, separated, chained, listed, comparison, sign, keyword, among, signed, print_step, printed, is_variable, is_call}
 use Rattle.fx_algebra.specs.declared.expressions.Expr.{Expr, Expr-F, fold-roll-Expr, map-Expr, ind-Expr, roll-Expr}
 use Rattle.fx_algebra.specs.declared.expressions.Expr.TheVariants as expr
 use Rattle.fx_algebra.specs.declared.expressions.Compare.{Compare}
@@ -14,10 +14,10 @@ use Rattle.fx_algebra.specs.declared.expressions.Sign.{Sign}
 use Rattle.fx_algebra.specs.declared.expressions.Sign.TheVariants as signs
 use Rattle.fx_algebra.specs.declared.expressions.Function.{Function}
 use Rattle.fx_algebra.specs.declared.expressions.Function.TheVariants as function
-use Rattle.fx_syntax.specs.Rule.{Rule, token, seq, after, before, opt, many, chain, made, nested}
+use Rattle.fx_syntax.specs.Rule.{Rule, token, seq, after, many, chain, nested}
 use Rattle.fx_syntax.specs.Grammar as grammar
 use Rattle.fx_syntax.specs.Grammar.{Prefixes}
-use Rattle.fx_syntax.specs.Printable.{AreFine, IsFine, said, word_tokens, term_tokens, fixed_token, Measured, placed, most, most_signed, all_good, all_signed_good, is_some, is_chain, is_one, is_two, is_three, are_variables, takes, measure_step, measured}
+use Rattle.fx_syntax.specs.Printable.{AreFine, IsFine, said, term_tokens, fixed_token, Measured, placed, most, most_signed, all_good, all_signed_good, is_some, is_chain, is_one, is_two, is_three, takes, measure_step, measured}
 use Rattle.fx_syntax.specs.declared.kinds.Kind.{Kind}
 use Rattle.fx_syntax.specs.declared.kinds.Kind.TheVariants as k
 use Rattle.fx_syntax.specs.declared.kinds.Token.{Token}

@@ -1,5 +1,5 @@
 -- The keywords and marks of a printed query read as one token each.
-use Rattle.std.proofs.Common.{◌≡◌, ℕ, suc, ◌<◌, Bool, true, false, cond, ltb, List, [], ◌∷◌, ◌++◌, length, map, Option, Some, None, refl, sym, ap, ◌∙◌, subst, arith, inl, inr, ◌⊎◌, nat_lt, ◌||◌}
+use Rattle.std.proofs.Common.{◌≡◌, ℕ, suc, ◌<◌, Bool, true, false, cond, List, [], ◌∷◌, ◌++◌, length, map, Some, None, refl, sym, ap, subst, arith, inl, inr, nat_lt, ◌||◌}
 use Rattle.std.specs.Prelude.{codes}
 use Rattle.std.specs.List.{list_all, list_any}
 use Rattle.std.specs.Str.{bytes_eq, encode_utf8_all}
@@ -12,9 +12,8 @@ use Rattle.fx_tokens.specs.Scan as scan
 use Rattle.fx_tokens.specs.declared.TokenKind.{TokenKind}
 use Rattle.fx_tokens.specs.declared.TokenKind.TheVariants as kind
 use Rattle.fx_syntax.specs.Classified.{token_of}
-use Rattle.fx_algebra.specs.Printed.{Word, fixed}
-use Rattle.fx_syntax.specs.Printable.{marks, query_words, expression_words, fixed_token, IsFine}
-use Rattle.fx_syntax.specs.declared.kinds.Token.{Token}
+use Rattle.fx_algebra.specs.Printed.{fixed}
+use Rattle.fx_syntax.specs.Printable.{fixed_token, IsFine}
 
 abbrev pub is_ascii : ℕ → Bool
 is_ascii c = nat_lt c 128

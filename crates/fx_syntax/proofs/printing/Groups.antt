@@ -1,34 +1,33 @@
 -- A printed group is spelled by its tokens, where the grammar has it and enough brackets may be opened.
-use Rattle.std.proofs.Common.{◌≡◌, ℕ, zero, suc, ◌+◌, ◌-◌, ◌<◌, ◌≤◌, Bool, true, false, not, cond, List, [], ◌∷◌, ◌++◌, length, map, Option, Some, None, is_some as has_some, Ok, Err, refl, sym, ap, ◌∙◌, subst, arith, append_assoc, append-nil, inl, inr, ◌⊎◌, ◌&&◌, ◌||◌, max}
+use Rattle.std.proofs.Common.{◌≡◌, ℕ, zero, suc, ◌≤◌, Bool, true, false, not, cond, List, [], ◌∷◌, ◌++◌, map, Option, Some, None, is_some as has_some, Ok, Err, refl, sym, ap, ◌∙◌, subst, arith, append_assoc, inl, inr, ◌⊎◌, ◌||◌}
 use Rattle.std.specs.Prelude.{codes, fold}
 use Rattle.std.specs.List.{flat_map, list_all}
 use Rattle.std.proofs.lemmas.Bool.{and_parts, not-true}
 use Rattle.std.proofs.lemmas.List.Sums.{fold-append}
-use Rattle.std.proofs.lemmas.List.Concat.{flat_map-append}
 use Rattle.fx_terms.specs.declared.terms.Term.TheVariants.{Iri, Literal}
 use Rattle.fx_terms.specs.declared.patterns.Pattern.{Pattern}
 use Rattle.fx_terms.specs.declared.patterns.PatternTerm.{PatternTerm}
 use Rattle.fx_terms.specs.declared.patterns.PatternTerm.TheVariants.{Variable, Constant}
-use Rattle.fx_algebra.specs.Printed.{Word, fixed, variable, term, in_brackets, separated, Printed, printed, condition, is_call, block, silence, part_word, pattern_words, element_step, group_step, element_words, group_words}
-use Rattle.fx_algebra.specs.Scopes.{is_among, with_name, all_of, pattern_names, element_names, group_names, mentions, group_mentions}
+use Rattle.fx_algebra.specs.Printed.{Word, fixed, variable, term, in_brackets, printed, condition, is_call, block, silence, part_word, pattern_words, element_step, group_step, element_words, group_words}
+use Rattle.fx_algebra.specs.Scopes.{is_among, with_name, all_of, element_names, group_names, mentions, group_mentions}
 use Rattle.fx_algebra.specs.declared.expressions.Expr.{Expr}
 use Rattle.fx_algebra.specs.declared.queries.Inline.{Inline}
 use Rattle.fx_algebra.specs.declared.queries.Element.{Element, Element-F, fold-roll-Element, map-Element, ind-Element, roll-Element}
 use Rattle.fx_algebra.specs.declared.queries.Element.TheVariants as element
 use Rattle.fx_algebra.specs.declared.queries.Group.{Group, Group-F, roll-Group, fold-roll-Group, map-Group, ind-Group}
-use Rattle.fx_syntax.specs.Rule.{Rule, token, seq, after, before, opt, many, chain, made, nested, spells_from}
+use Rattle.fx_syntax.specs.Rule.{Rule, token, seq, after, opt, nested}
 use Rattle.fx_syntax.specs.Grammar as grammar
 use Rattle.fx_syntax.specs.Grammar.{Prefixes}
-use Rattle.fx_syntax.specs.Printable.{AreFine, IsFine, IsPart, IsVerb, IsTriple, AreTriples, said, word_tokens, fixed_token, Measured, measured, is_some, is_block, block_nest, Held, most_held, all_held, any_serves, held_names, condition_nest, is_verb, not_bound, are_fresh, hold_element, hold_group, held, held_element}
+use Rattle.fx_syntax.specs.Printable.{AreFine, IsFine, IsPart, IsVerb, IsTriple, AreTriples, said, measured, is_some, block_nest, Held, most_held, all_held, any_serves, held_names, condition_nest, is_verb, not_bound, are_fresh, hold_element, hold_group, held, held_element}
 use Rattle.fx_syntax.specs.declared.kinds.Kind.TheVariants as k
 use Rattle.fx_syntax.specs.declared.kinds.SyntaxKind.TheVariants.{BindInScope}
 use Rattle.fx_syntax.specs.declared.kinds.Token.{Token}
 use Rattle.fx_syntax.specs.declared.kinds.Token.TheVariants as token_of
-use Rattle.fx_syntax.proofs.printing.Saying.{said_both, fine_both}
-use Rattle.fx_syntax.proofs.printing.Spelling.{mark_said, after_said, before_said, parens_said, braces_said, nested_said}
-use Rattle.fx_syntax.proofs.printing.Terms.{iri_said, triple_tokens, behind_triple, triples_said, run_is, calm_triple}
+use Rattle.fx_syntax.proofs.printing.Saying.{said_both}
+use Rattle.fx_syntax.proofs.printing.Spelling.{mark_said, after_said, parens_said, braces_said, nested_said}
+use Rattle.fx_syntax.proofs.printing.Terms.{iri_said, triples_said, run_is, calm_triple}
 use Rattle.fx_syntax.proofs.printing.Placing.{Passes, passes_none, passes_both, passes_less, passes_served, passes_calm, passes_behind, passes_parens, passes_braces, passes_service, is_calm}
-use Rattle.fx_syntax.proofs.printing.Expressions.{fine_split, said_brackets, fine_brackets, separated_tokens, separated_said, fine_separated, AllFine, AllPass, pass_separated, AllSaid, chain_said, inner, rule_at, lift, Law, law}
+use Rattle.fx_syntax.proofs.printing.Expressions.{fine_split, said_brackets, fine_brackets, separated_said, fine_separated, AllFine, AllPass, pass_separated, AllSaid, chain_said, inner, lift, law}
 use Rattle.fx_syntax.proofs.printing.Blocks.{block_passes, block_said}
 
 -- ---- SERVICE among what is printed

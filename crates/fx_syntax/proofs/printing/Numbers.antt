@@ -1,10 +1,9 @@
 -- Numbers of a printed query read as their tokens.
-use Rattle.std.proofs.Common.{◌≡◌, ℕ, zero, suc, ◌+◌, ◌*◌, ◌-◌, ◌/◌, ◌%◌, ◌^◌, ◌<◌, ◌≤◌, Bool, true, false, cond, List, [], ◌∷◌, ◌++◌, length, Option, Some, None, Ok, refl, sym, ap, ◌∙◌, subst, arith, length-append, inl, inr, ◌⊎◌, ◌&&◌, nat_le}
+use Rattle.std.proofs.Common.{◌≡◌, ℕ, ◌+◌, ◌*◌, ◌-◌, ◌/◌, ◌%◌, ◌^◌, ◌<◌, ◌≤◌, Bool, true, false, cond, List, [], ◌∷◌, ◌++◌, length, Option, Some, None, Ok, refl, sym, ap, ◌∙◌, subst, arith, length-append, inl, inr, nat_le}
 use Rattle.std.specs.List.{list_all}
-use Rattle.std.specs.Str.{chars, IsUtf8}
+use Rattle.std.specs.Str.{chars}
 use Rattle.std.specs.Fmt.{decimal}
 use Rattle.std.proofs.lemmas.Bool.{and_from, and_parts, leb-true, le-leb, cases_eq}
-use Rattle.std.proofs.lemmas.Bool.Decides.{nat_tests}
 use Rattle.std.proofs.lemmas.Str.{IsUtf8-from_ascii, chars-IsAscii}
 use Rattle.std.proofs.lemmas.Fmt.{decimal_by_steps, IsAscii-decimal}
 use Rattle.fx_tokens.specs.Classes as class
@@ -12,8 +11,7 @@ use Rattle.fx_tokens.specs.Reads.{BeginsToken}
 use Rattle.fx_tokens.specs.Scan as scan
 use Rattle.fx_tokens.specs.declared.TokenKind.{TokenKind}
 use Rattle.fx_tokens.specs.declared.TokenKind.TheVariants as kind
-use Rattle.fx_syntax.specs.Grammar.{number_from, number_in, number_of}
-use Rattle.fx_syntax.specs.declared.kinds.Token.{Token}
+use Rattle.fx_syntax.specs.Grammar.{number_from, number_of}
 use Rattle.fx_syntax.specs.declared.kinds.Token.TheVariants as token
 use Rattle.fx_syntax.proofs.printing.Pieces.{Reading}
 use Rattle.fx_syntax.proofs.printing.Words.{Ends, ends_by, chars_end, skip_ones, takes_one}

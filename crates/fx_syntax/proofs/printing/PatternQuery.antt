@@ -1,15 +1,12 @@
 -- The printed query of a pattern is accepted as that query.
-use Rattle.std.proofs.Common.{◌≡◌, ℕ, zero, suc, ◌≤◌, Bool, true, false, List, [], ◌∷◌, ◌++◌, map, Option, Some, None, refl, sym, ap, ◌∙◌, subst, arith, append_assoc, append-nil, inl, inr}
+use Rattle.std.proofs.Common.{◌≡◌, ℕ, true, false, List, [], ◌∷◌, ◌++◌, Some, None, refl, sym, ap, ◌∙◌, subst, arith, append_assoc, append-nil, inl, inr}
 use Rattle.std.specs.Prelude.{codes}
-use Rattle.std.specs.List.{flat_map, list_all}
-use Rattle.std.proofs.lemmas.List.Concat.{flat_map-append}
 use Rattle.fx_terms.specs.declared.patterns.Pattern.{Pattern}
 use Rattle.fx_terms.specs.declared.patterns.PatternTerm.{PatternTerm}
 use Rattle.fx_terms.specs.declared.patterns.PatternTerm.TheVariants.{Variable, Constant}
-use Rattle.fx_terms.specs.declared.terms.Term.TheVariants.{Iri, Literal}
-use Rattle.fx_algebra.specs.Printed.{Word, fixed, joined, part_word, pattern_words, column_words, element_step, group_step, element_words, group_words, query_words, form_words, order_words}
+use Rattle.fx_algebra.specs.Printed.{Word, fixed, joined, pattern_words, column_words, element_step, group_step, element_words, group_words, query_words, form_words, order_words}
 use Rattle.fx_algebra.specs.Scopes.{once, scope, part_names, pattern_names, element_names, group_names, mentions, group_mentions}
-use Rattle.fx_algebra.specs.declared.queries.Element.{Element, Element-F, fold-roll-Element}
+use Rattle.fx_algebra.specs.declared.queries.Element.{Element-F, fold-roll-Element}
 use Rattle.fx_algebra.specs.declared.queries.Element.TheVariants as element
 use Rattle.fx_algebra.specs.declared.queries.Group.{Group, roll-Group, fold-roll-Group}
 use Rattle.fx_syntax.specs.Grammar as grammar
@@ -17,15 +14,15 @@ use Rattle.fx_syntax.specs.Rule.{Rule, nested}
 use Rattle.fx_algebra.specs.declared.queries.Form.TheVariants as form
 use Rattle.fx_syntax.specs.declared.parts.Main.{Main}
 use Rattle.fx_syntax.specs.Accepted.{Accepted}
-use Rattle.fx_syntax.specs.Printable.{AreFine, IsFine, IsPart, IsVerb, IsTriple, AreNames, said, word_tokens, pattern_query, PatternQueryIsAccepted}
+use Rattle.fx_syntax.specs.Printable.{AreFine, IsPart, IsTriple, AreNames, said, pattern_query, PatternQueryIsAccepted}
 use Rattle.fx_syntax.specs.declared.kinds.Kind.TheVariants as k
 use Rattle.fx_syntax.specs.declared.kinds.Token.{Token}
 use Rattle.fx_syntax.specs.declared.kinds.Token.TheVariants as token
 use Rattle.fx_syntax.specs.declared.parts.Head.TheVariants as head
-use Rattle.fx_syntax.proofs.printing.Spelling.{mark_said, after_said, braces_said, nested_said}
+use Rattle.fx_syntax.proofs.printing.Spelling.{mark_said, braces_said, nested_said}
 use Rattle.fx_syntax.proofs.printing.Terms.{triples_said, run_is, verb_part, fine_triple, calm_triple}
 use Rattle.fx_syntax.proofs.printing.Saying.{fine_both, said_both}
-use Rattle.fx_syntax.proofs.printing.Placing.{is_calm, Passes, passes_calm, passes_both, passes_behind, passes_braces, passes_less}
+use Rattle.fx_syntax.proofs.printing.Placing.{Passes, passes_calm, passes_both, passes_behind, passes_braces, passes_less}
 use Rattle.fx_syntax.proofs.printing.Accepting.{accepted_so}
 use Rattle.fx_syntax.proofs.printing.Columns.{columns_read, once_once, once_names, names_both, fine_columns, calm_columns, named, selected_said}
 

@@ -1,12 +1,12 @@
 -- Texts that read as tokens, a piece after the other.
-use Rattle.std.proofs.Common.{◌≡◌, ℕ, ◌+◌, ◌-◌, ◌≤◌, List, [], ◌∷◌, ◌++◌, length, map, take, drop, Option, Some, None, Ok, refl, sym, ap, ◌∙◌, subst, arith, append_assoc, append-nil, length-append}
+use Rattle.std.proofs.Common.{◌≡◌, ℕ, ◌+◌, ◌-◌, List, [], ◌∷◌, ◌++◌, length, map, Some, Ok, refl, sym, ap, ◌∙◌, subst, arith, append_assoc, length-append}
 use Rattle.std.proofs.lemmas.List.{append_cancel_right}
 use Rattle.std.proofs.Math.Seq.{take-append_seam, drop-append_seam}
 use Rattle.std.specs.Prelude.{slice_range}
-use Rattle.std.specs.Str.{chars, IsUtf8, encode_utf8_all}
+use Rattle.std.specs.Str.{chars, IsUtf8}
 use Rattle.std.proofs.lemmas.Str.{IsUtf8-append, IsUtf8-nil, chars-append, chars-nil, encodes-chars}
 use Rattle.fx_tokens.specs.Answers.{width}
-use Rattle.fx_tokens.specs.Reads.{BeginsToken, Longest, with_front, Reads, ends, blank, token as one_token}
+use Rattle.fx_tokens.specs.Reads.{BeginsToken, Longest, Reads, ends, blank, token as one_token}
 use Rattle.fx_tokens.specs.Scan as scan
 use Rattle.fx_tokens.specs.declared.Token as read
 use Rattle.fx_tokens.specs.declared.TokenKind.{TokenKind}

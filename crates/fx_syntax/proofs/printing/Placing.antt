@@ -1,10 +1,9 @@
 -- Tokens that stay as they are where they stand: brackets that are closed again, of which few enough are open at once.
-use Rattle.std.proofs.Common.{◌≡◌, ℕ, zero, suc, ◌+◌, ◌-◌, ◌<◌, ◌≤◌, Bool, true, false, cond, not, List, [], ◌∷◌, ◌++◌, refl, sym, ap, ◌∙◌, subst, arith, append_assoc, ◌&&◌, ◌||◌, nat_lt}
-use Rattle.std.specs.Prelude.{◌==◌}
+use Rattle.std.proofs.Common.{◌≡◌, ℕ, suc, ◌+◌, ◌-◌, ◌<◌, ◌≤◌, Bool, true, false, cond, not, List, [], ◌∷◌, ◌++◌, refl, sym, ap, ◌∙◌, subst, arith, append_assoc, ◌&&◌, nat_lt}
 use Rattle.std.specs.List.{list_all}
-use Rattle.std.proofs.lemmas.Bool.{eq-eqb, and_from, lt-ltb, ne_eqb, and_parts, or_parts, not-true}
+use Rattle.std.proofs.lemmas.Bool.{eq-eqb, and_from, lt-ltb, ne_eqb, and_parts, not-true}
 use Rattle.fx_syntax.specs.Kinds.{is, kind_of}
-use Rattle.fx_syntax.specs.Classified.{kind_in, placed, behind, all_placed, one_more, opened, closed, is_inside}
+use Rattle.fx_syntax.specs.Classified.{kind_in, placed, behind, all_placed, one_more, opened, closed}
 use Rattle.fx_syntax.specs.declared.classify.Context.{Context}
 use Rattle.fx_syntax.specs.declared.classify.Service.{Service}
 use Rattle.fx_syntax.specs.declared.classify.Service.TheVariants.{Outside, Named, Inside}

@@ -1,23 +1,21 @@
 -- A printed query is accepted as that query, where the grammar has it and at most 64 brackets are open at once.
-use Rattle.std.proofs.Common.{◌≡◌, ℕ, zero, suc, ◌<◌, ◌≤◌, ◌^◌, Bool, true, false, cond, List, [], ◌∷◌, ◌++◌, map, Option, Some, None, Ok, refl, sym, ap, ◌∙◌, subst, arith, append_assoc, append-nil, inl, inr, ◌⊎◌, ◌&&◌, max}
+use Rattle.std.proofs.Common.{◌≡◌, ℕ, suc, ◌<◌, ◌≤◌, ◌^◌, Bool, true, false, cond, List, [], ◌∷◌, ◌++◌, Option, Some, None, refl, sym, ap, ◌∙◌, subst, arith, append_assoc, inl, inr}
 use Rattle.std.specs.Prelude.{codes, ◌==◌}
 use Rattle.std.specs.List.{flat_map, list_all}
 use Rattle.std.specs.Fmt.{decimal}
 use Rattle.std.proofs.lemmas.Bool.{and_parts, eqb-true}
-use Rattle.fx_algebra.specs.Printed.{Word, fixed, variable, number, joined, in_brackets, Printed, printed, Level, is_call, is_variable, block, column_words, distinction, form_words, key_words, order_words, limit_words, offset_words, trailing_words, group_words, query_words}
-use Rattle.fx_algebra.specs.Scopes.{once, scope}
+use Rattle.fx_algebra.specs.Printed.{Word, fixed, number, joined, in_brackets, Printed, printed, Level, is_call, is_variable, block, column_words, distinction, form_words, key_words, order_words, limit_words, offset_words, trailing_words, group_words, query_words}
 use Rattle.fx_algebra.specs.declared.expressions.Expr.{Expr}
-use Rattle.fx_algebra.specs.declared.expressions.Expr.TheVariants as expr
 use Rattle.fx_algebra.specs.declared.queries.Inline.{Inline}
 use Rattle.fx_algebra.specs.declared.queries.Order.{Order}
 use Rattle.fx_algebra.specs.declared.queries.Group.{Group}
 use Rattle.fx_algebra.specs.declared.queries.Form.{Form}
 use Rattle.fx_algebra.specs.declared.queries.Form.TheVariants as form
 use Rattle.fx_algebra.specs.declared.queries.Query.{Query}
-use Rattle.fx_syntax.specs.Rule.{Rule, token, seq, after, opt, many, some, nested}
+use Rattle.fx_syntax.specs.Rule.{token, seq, after, opt, many, some}
 use Rattle.fx_syntax.specs.Grammar as grammar
 use Rattle.fx_syntax.specs.Accepted.{Accepted}
-use Rattle.fx_syntax.specs.Printable.{AreFine, said, word_tokens, measured, Measured, held, block_nest, is_block, key_nest, most_keys, all_keys, inline_nest, is_inline, brackets, IsForm, IsPrintable, PrintedIsAccepted}
+use Rattle.fx_syntax.specs.Printable.{AreFine, said, measured, held, block_nest, key_nest, most_keys, all_keys, inline_nest, is_inline, brackets, IsForm, IsPrintable, PrintedIsAccepted}
 use Rattle.fx_syntax.specs.declared.kinds.Kind.TheVariants as k
 use Rattle.fx_syntax.specs.declared.kinds.Token.{Token}
 use Rattle.fx_syntax.specs.declared.kinds.Token.TheVariants as token_of
@@ -31,7 +29,7 @@ use Rattle.fx_syntax.proofs.printing.Numbers.{number_said}
 use Rattle.fx_syntax.proofs.printing.Placing.{Passes, passes_none, passes_both, passes_less, passes_served, passes_calm, passes_behind, passes_parens, is_calm, calm_both}
 use Rattle.fx_syntax.proofs.printing.Accepting.{accepted_so}
 use Rattle.fx_syntax.proofs.printing.Columns.{columns_read, calm_columns, named, selected_said}
-use Rattle.fx_syntax.proofs.printing.Expressions.{fine_split, said_brackets, fine_brackets, Law, law}
+use Rattle.fx_syntax.proofs.printing.Expressions.{fine_split, said_brackets, fine_brackets, law}
 use Rattle.fx_syntax.proofs.printing.Blocks.{block_passes, block_said}
 use Rattle.fx_syntax.proofs.printing.Groups.{OfGroup, group_law, group_passes, serve_more, whole_said}
 

@@ -1,10 +1,8 @@
 -- Printed words read as what they say.
-use Rattle.std.proofs.Common.{◌≡◌, ℕ, zero, suc, ◌<◌, Bool, true, false, cond, List, [], ◌∷◌, ◌++◌, length, Option, Some, None, refl, sym, ap, ◌∙◌, subst, arith, append_assoc, append-nil, inl, inr, ◌⊎◌, not}
+use Rattle.std.proofs.Common.{◌≡◌, ℕ, Bool, true, false, cond, List, [], ◌∷◌, ◌++◌, length, None, refl, sym, ap, subst, arith, append_assoc, inl, inr}
 use Rattle.std.specs.Prelude.{◌==◌}
-use Rattle.std.specs.List.{flat_map}
-use Rattle.std.specs.Str.{chars, IsUtf8, bytes_eq}
+use Rattle.std.specs.Str.{chars, bytes_eq}
 use Rattle.std.proofs.lemmas.Bool.{eqb-false}
-use Rattle.std.proofs.lemmas.List.{length-map}
 use Rattle.std.proofs.lemmas.List.Concat.{flat_map-append}
 use Rattle.fx_terms.specs.Literals.{LiteralParts, IsLiteral, xsd_string}
 use Rattle.fx_terms.specs.Terms.{IsTerm}
@@ -13,12 +11,11 @@ use Rattle.fx_terms.specs.declared.terms.Term.{Term}
 use Rattle.fx_terms.specs.declared.terms.Term.TheVariants.{Iri, Literal}
 use Rattle.fx_tokens.specs.Scan as scan
 use Rattle.fx_algebra.specs.Printed.{Word, fixed, variable, term, number, spelling, spaced, joined}
-use Rattle.fx_syntax.specs.Classified.{says, classified, all_placed, outermost}
 use Rattle.fx_syntax.specs.Printable.{IsFine, AreFine, word_tokens, term_tokens, suffix_tokens, said, fixed_token}
 use Rattle.fx_syntax.specs.declared.kinds.Kind.TheVariants as k
 use Rattle.fx_syntax.specs.declared.kinds.Token.{Token}
 use Rattle.fx_syntax.specs.declared.kinds.Token.TheVariants as token
-use Rattle.fx_syntax.proofs.printing.Pieces.{SaysAll, nothing, space, piece, Reading, Lexed, lexes, space_chars}
+use Rattle.fx_syntax.proofs.printing.Pieces.{SaysAll, nothing, space, piece, Reading, Lexed, lexes}
 use Rattle.fx_syntax.proofs.printing.Fixed.{fixed_reads}
 use Rattle.fx_syntax.proofs.printing.Words.{Ends, ends_by, chars_end, fixed_reading, name_reading, iri_reading, low_chars}
 use Rattle.fx_syntax.proofs.printing.Texts.{form_reading, carets_reading, tag_reading}

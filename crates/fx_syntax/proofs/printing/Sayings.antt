@@ -1,7 +1,6 @@
 -- What tokens say: names are names, IRIs are IRIs, and texts are UTF-8.
-use Rattle.std.proofs.Common.{◌≡◌, ℕ, zero, suc, ◌+◌, ◌*◌, ◌-◌, ◌<◌, ◌≤◌, Bool, true, false, cond, not, List, [], ◌∷◌, ◌++◌, length, map, drop, Option, Some, None, Ok, Err, Result, refl, sym, ap, ◌∙◌, subst, arith, ◌&&◌, ◌||◌, nat_le}
+use Rattle.std.proofs.Common.{◌≡◌, ℕ, zero, suc, ◌+◌, ◌*◌, Bool, true, false, cond, List, [], ◌∷◌, length, map, drop, Option, Some, None, Ok, Err, Result, refl, ap, arith}
 use Rattle.std.specs.Prelude.{codes, ◌==◌, All, slice_range}
-use Rattle.std.specs.List.{list_any}
 use Rattle.std.specs.Char.{to_ascii_uppercase}
 use Rattle.std.specs.Str.{chars, IsUtf8, encode_utf8_all, bytes_eq}
 use Rattle.std.proofs.lemmas.Bool.{and_from, and_parts}
@@ -9,23 +8,21 @@ use Rattle.std.proofs.lemmas.Bool.Decides.{nat_tests}
 use Rattle.std.proofs.lemmas.List.Elements.{All-head, All-tail}
 use Rattle.std.proofs.lemmas.Str.{scalars-chars, IsUtf8-between}
 use lib.Utf8.{scalar, scalars}
-use Rattle.fx_terms.specs.Iris.{IsIri, read_iri}
+use Rattle.fx_terms.specs.Iris.{read_iri}
 use Rattle.fx_terms.specs.Names as names
 use Rattle.fx_terms.specs.declared.iris.TermError.{TermError}
-use Rattle.fx_terms.specs.declared.names.NameError.{NameError}
 use Rattle.fx_tokens.specs.Classes as class
 use Rattle.fx_tokens.specs.Forms.{hex_value}
 use Rattle.fx_tokens.specs.Scan as scan
 use Rattle.fx_tokens.specs.Reads.{Reads, IsSlice}
 use Rattle.fx_tokens.specs.declared.Token as read
-use Rattle.fx_tokens.specs.declared.TokenError.{TokenError}
 use Rattle.fx_tokens.specs.declared.TokenKind.{TokenKind}
 use Rattle.fx_tokens.specs.declared.TokenKind.TheVariants as kind
 use Rattle.fx_tokens.proofs.Slices.{slices}
 use Rattle.fx_algebra.specs.declared.expressions.Compare.{Compare}
 use Rattle.fx_algebra.specs.declared.expressions.Function.{Function}
 use Rattle.fx_algebra.specs.declared.expressions.Function.TheVariants as function
-use Rattle.fx_syntax.specs.Classified.{token_of, says, iri_or, iri_of, variable_of, between_quotes, is_long, decoded, unescaped, closes, next, escape, coded, eight, letter, char_of, behind_first, first, local, behind_colon}
+use Rattle.fx_syntax.specs.Classified.{token_of, says, iri_or, variable_of, between_quotes, is_long, decoded, unescaped, closes, next, escape, coded, eight, letter, char_of, behind_first, first, local, behind_colon}
 use Rattle.fx_syntax.specs.Keywords as keywords
 use Rattle.fx_syntax.specs.declared.classify.Closing.{Closing}
 use Rattle.fx_syntax.specs.declared.classify.Closing.TheVariants.{One as OneSign, Three}

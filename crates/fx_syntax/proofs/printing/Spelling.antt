@@ -1,8 +1,8 @@
 -- What the ways to make a rule spell, from what their parts spell.
-use Rattle.std.proofs.Common.{◌≡◌, ℕ, zero, suc, ◌-◌, ◌<◌, Bool, true, false, List, [], ◌∷◌, ◌++◌, length, Option, Some, None, Ok, refl, sym, ap, ◌∙◌, subst, arith, append-nil, append_assoc, inl, inr, eq-eqb, sub-one}
+use Rattle.std.proofs.Common.{ℕ, suc, List, [], ◌∷◌, ◌++◌, None, refl, sym, append-nil, eq-eqb}
 use Rattle.std.specs.List.{flat_map}
-use Rattle.fx_syntax.specs.Kinds.{rank, is, kind_of}
-use Rattle.fx_syntax.specs.Rule.{Rule, Shape, shape_of, token, one, seq, after, before, opt, many, chain, some, made, nested, depth, then_by}
+use Rattle.fx_syntax.specs.Kinds.{rank}
+use Rattle.fx_syntax.specs.Rule.{Rule, token, seq, after, before, opt, many, nested, depth}
 use Rattle.fx_syntax.specs.Grammar.{parens, braces}
 use Rattle.fx_syntax.specs.declared.kinds.Kind.{Kind}
 use Rattle.fx_syntax.specs.declared.kinds.Kind.TheVariants as k

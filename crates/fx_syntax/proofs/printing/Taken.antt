@@ -1,22 +1,19 @@
 -- An expression that tokens spell is one that the grammar has, and its printed words are fine.
-use Rattle.std.proofs.Common.{◌≡◌, ℕ, zero, suc, ◌<◌, ◌≤◌, Bool, true, false, cond, not, List, [], ◌∷◌, ◌++◌, length, map, Option, Some, None, is_some as has_some, Ok, Err, Result, refl, sym, ap, ◌∙◌, subst, arith, append_assoc, append-nil, inl, inr, ◌⊎◌, ◌&&◌, nat_le}
-use Rattle.std.specs.Prelude.{codes, ◌==◌}
-use Rattle.std.specs.List.{list_all, flat_map}
+use Rattle.std.proofs.Common.{◌≡◌, ℕ, Bool, true, false, cond, not, List, [], ◌∷◌, ◌++◌, map, Option, Some, None, is_some as has_some, Ok, Err, Result, refl, sym, ap, ◌∙◌, subst, arith, append_assoc, append-nil, inl, inr, nat_le}
+use Rattle.std.specs.Prelude.{codes}
+use Rattle.std.specs.List.{list_all}
 use Rattle.std.specs.Str.{IsUtf8, bytes_eq}
-use Rattle.std.specs.Char.{to_ascii_lowercase}
-use Rattle.std.proofs.lemmas.Bool.{and_from, ne_eqb}
-use Rattle.std.proofs.lemmas.List.{length-map}
+use Rattle.std.proofs.lemmas.Bool.{and_from}
 use Rattle.std.proofs.lemmas.Str.{IsUtf8-append, IsUtf8-from_ascii}
-use Rattle.std.proofs.lemmas.Str.Ascii.{lowercase-lowercase}
 use Rattle.fx_terms.specs.Names.{IsName}
 use Rattle.fx_terms.specs.Iris.{IsIri, read_iri, iri_after, iri_with_scheme, has_scheme}
-use Rattle.fx_terms.specs.Literals.{LiteralParts, IsLiteral, IsTag, plain, xsd_string, lang_string, is_tag}
+use Rattle.fx_terms.specs.Literals.{IsLiteral, plain, xsd_string, lang_string, is_tag}
 use Rattle.fx_terms.specs.Terms.{IsTerm}
 use Rattle.fx_terms.specs.declared.iris.TermError.{TermError}
 use Rattle.fx_terms.specs.declared.terms.Term.{Term}
 use Rattle.fx_terms.specs.declared.terms.Term.TheVariants.{Iri, Literal}
 use Rattle.fx_terms.proofs.TagLemmas as tags
-use Rattle.fx_algebra.specs.Printed.{Word, fixed, variable, term, Level, Printed, in_place, in_brackets, marked, separated, chained, listed, comparison, sign, keyword, among, signed, print_step, printed, rank}
+use Rattle.fx_algebra.specs.Printed.{Word, fixed, Printed, in_place, in_brackets, marked, chained, listed, comparison, sign, keyword, among, signed, print_step, printed, rank}
 use Rattle.fx_algebra.specs.declared.expressions.Expr.{Expr, Expr-F, fold-roll-Expr, roll-Expr}
 use Rattle.fx_algebra.specs.declared.expressions.Expr.TheVariants as expr
 use Rattle.fx_algebra.specs.declared.expressions.Compare.{Compare}
@@ -26,13 +23,13 @@ use Rattle.fx_algebra.specs.declared.expressions.Sign.TheVariants as signs
 use Rattle.fx_algebra.specs.declared.expressions.Function.{Function}
 use Rattle.fx_algebra.specs.declared.expressions.Function.TheVariants as function
 use Rattle.fx_syntax.specs.Kinds.{is}
-use Rattle.fx_syntax.specs.Rule.{Rule, token, one, seq, after, before, either, opt, many, chain, made, nested, refusing}
+use Rattle.fx_syntax.specs.Rule.{Rule, token, one, seq, after, either, opt, chain, made}
 use Rattle.fx_syntax.specs.Grammar as grammar
 use Rattle.fx_syntax.specs.Grammar.{Prefixes}
-use Rattle.fx_syntax.specs.Printable.{AreFine, IsFine, Measured, all_good, all_signed_good, is_some, is_chain, takes, measure_step, measured}
+use Rattle.fx_syntax.specs.Printable.{AreFine, IsFine, Measured, all_good, all_signed_good, is_chain, takes, measure_step, measured}
 use Rattle.fx_syntax.specs.declared.kinds.Kind.TheVariants as k
 use Rattle.fx_syntax.specs.declared.kinds.SyntaxKind.{SyntaxKind}
-use Rattle.fx_syntax.specs.declared.kinds.SyntaxKind.TheVariants.{UnknownPrefix, RelativeIri, Unsupported, Unexpected, BadLiteral}
+use Rattle.fx_syntax.specs.declared.kinds.SyntaxKind.TheVariants.{Unsupported, Unexpected, BadLiteral}
 use Rattle.fx_syntax.specs.declared.kinds.Token.{Token}
 use Rattle.fx_syntax.specs.declared.kinds.Token.TheVariants as token_of
 use Rattle.fx_syntax.specs.declared.parts.Annotation.{Annotation}
@@ -43,7 +40,7 @@ use Rattle.fx_syntax.proofs.KindLaws.{apart_by}
 use Rattle.fx_syntax.proofs.printing.Fixed.{is_ascii}
 use Rattle.fx_syntax.proofs.printing.Words.{ascii_of}
 use Rattle.fx_syntax.proofs.printing.Saying.{fine_both}
-use Rattle.fx_syntax.proofs.printing.Tracking.{GoodToken, is_one_function, is_two_function, is_turning, Gives, Any, Maybe, Each, of_nested, Given, Some_of, each_of, of_one, of_token, of_refusing, of_made, of_seq, of_after, of_before, of_either, of_opt, of_many, of_chain, of_some, of_parens}
+use Rattle.fx_syntax.proofs.printing.Tracking.{GoodToken, is_one_function, is_two_function, is_turning, Any, Maybe, Each, of_nested, Given, Some_of, each_of, of_one, of_token, of_refusing, of_made, of_seq, of_after, of_before, of_either, of_opt, of_many, of_chain, of_parens}
 
 -- ---- IRIs
 

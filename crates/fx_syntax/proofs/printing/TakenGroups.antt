@@ -1,32 +1,31 @@
 -- A group that tokens spell is one that the grammar has, and its printed words are fine.
-use Rattle.std.proofs.Common.{◌≡◌, ℕ, zero, suc, ◌+◌, ◌<◌, ◌≤◌, Bool, true, false, cond, not, List, [], ◌∷◌, ◌++◌, length, map, Option, Some, None, is_some as has_some, Ok, Err, Result, refl, sym, ap, ◌∙◌, subst, arith, append_assoc, append-nil, inl, inr, ◌⊎◌, ◌&&◌, ◌||◌}
+use Rattle.std.proofs.Common.{◌≡◌, ℕ, zero, suc, Bool, true, false, cond, not, List, [], ◌∷◌, ◌++◌, length, map, Option, Some, None, is_some as has_some, Ok, Err, Result, refl, sym, ap, ◌∙◌, subst, append_assoc, append-nil, inl, inr}
 use Rattle.std.specs.Prelude.{codes, ◌==◌, fold}
-use Rattle.std.specs.List.{list_all, flat_map}
-use Rattle.std.proofs.lemmas.Bool.{and_from, and_parts, or_from, not-true}
+use Rattle.std.specs.List.{flat_map}
+use Rattle.std.proofs.lemmas.Bool.{and_from, and_parts, or_from}
 use Rattle.fx_terms.specs.Names.{IsName}
 use Rattle.fx_terms.specs.Iris.{IsIri}
-use Rattle.fx_terms.specs.Terms.{IsTerm}
 use Rattle.fx_terms.specs.declared.terms.Term.{Term}
 use Rattle.fx_terms.specs.declared.terms.Term.TheVariants.{Iri, Literal}
 use Rattle.fx_terms.specs.declared.patterns.Pattern.{Pattern}
 use Rattle.fx_terms.specs.declared.patterns.PatternTerm.{PatternTerm}
 use Rattle.fx_terms.specs.declared.patterns.PatternTerm.TheVariants.{Variable, Constant}
-use Rattle.fx_algebra.specs.Printed.{Word, fixed, variable, term, in_brackets, marked, separated, Printed, printed, condition, is_call, value_word, row_words, block, silence, part_word, pattern_words, element_step, group_step, element_words, group_words}
-use Rattle.fx_algebra.specs.Scopes.{is_among, with_name, all_of, part_names, pattern_names, mentions}
+use Rattle.fx_algebra.specs.Printed.{Word, fixed, variable, term, in_brackets, marked, printed, condition, is_call, value_word, row_words, block, silence, element_step, group_step, element_words, group_words}
+use Rattle.fx_algebra.specs.Scopes.{is_among, with_name, part_names, mentions}
 use Rattle.fx_algebra.specs.declared.expressions.Expr.{Expr}
 use Rattle.fx_algebra.specs.declared.queries.Inline.{Inline}
 use Rattle.fx_algebra.specs.declared.queries.Element.{Element, Element-F, fold-roll-Element, roll-Element}
 use Rattle.fx_algebra.specs.declared.queries.Element.TheVariants as element
-use Rattle.fx_algebra.specs.declared.queries.Group.{Group, Group-F, roll-Group, fold-roll-Group}
+use Rattle.fx_algebra.specs.declared.queries.Group.{Group, roll-Group, fold-roll-Group}
 use Rattle.fx_syntax.specs.Kinds.{is, kind_of}
-use Rattle.fx_syntax.specs.Rule.{Rule, Shape, shape_of, token, one, seq, after, before, either, opt, many, chain, made, nested, refusing, then_by, depth}
+use Rattle.fx_syntax.specs.Rule.{Rule, shape_of, token, seq, after, before, either, opt, many, made, nested, depth}
 use Rattle.fx_syntax.specs.Grammar as grammar
 use Rattle.fx_syntax.specs.Grammar.{Prefixes}
 use Rattle.fx_syntax.specs.Classified.{is_inside, behind}
 use Rattle.fx_syntax.specs.declared.classify.Context.{Context}
 use Rattle.fx_syntax.specs.declared.classify.Service.{Service}
 use Rattle.fx_syntax.specs.declared.classify.Service.TheVariants.{Outside, Named, Inside}
-use Rattle.fx_syntax.specs.Printable.{AreFine, IsFine, AreNames, IsPart, IsVerb, IsTriple, AreTriples, measured, is_some, are_new, are_wide, is_block, Held, all_held, any_serves, held_names, is_verb, not_bound, are_fresh, hold_element, hold_group, held, held_element}
+use Rattle.fx_syntax.specs.Printable.{AreFine, IsFine, AreNames, IsPart, IsVerb, IsTriple, AreTriples, are_new, are_wide, is_block, Held, all_held, any_serves, held_names, is_verb, not_bound, are_fresh, hold_element, hold_group, held, held_element}
 use Rattle.fx_syntax.specs.declared.kinds.Kind.{Kind}
 use Rattle.fx_syntax.specs.declared.kinds.Kind.TheVariants as k
 use Rattle.fx_syntax.specs.declared.kinds.SyntaxKind.{SyntaxKind}
@@ -34,12 +33,12 @@ use Rattle.fx_syntax.specs.declared.kinds.SyntaxKind.TheVariants.{RepeatedName, 
 use Rattle.fx_syntax.specs.declared.kinds.Token.{Token}
 use Rattle.fx_syntax.proofs.KindLaws.{apart_by, same_rank}
 use Rattle.fx_syntax.proofs.printing.Saying.{fine_both}
-use Rattle.fx_syntax.proofs.printing.Terms.{verb_part, fine_part, fine_triple}
+use Rattle.fx_syntax.proofs.printing.Terms.{verb_part, fine_triple}
 use Rattle.fx_syntax.proofs.printing.Columns.{names_both, fine_names}
 use Rattle.fx_syntax.proofs.printing.Groups.{mentioned, elements_from}
 use Rattle.fx_syntax.proofs.printing.Placing.{SteadyAt}
-use Rattle.fx_syntax.proofs.printing.Tracking.{GoodToken, is_bad, Track, is_turning, past_plain, Gives, Any, Maybe, Each, EachFrom, Some_of, each_of, served_within, Given, of_one, of_token, of_refusing, of_made, of_seq, of_after, of_before, of_either, of_opt, of_many, of_chain, of_some, of_parens, of_braces, of_then, of_from}
-use Rattle.fx_syntax.proofs.printing.Taken.{GoodPrefixes, named_is, name_is, type_iri, OfTerm, OfName, OfIri, GoodExpr, of_literal, of_variable, of_iri_name, of_datatype_in, of_expression, of_constraint}
+use Rattle.fx_syntax.proofs.printing.Tracking.{GoodToken, is_bad, Track, is_turning, past_plain, Any, Maybe, Each, EachFrom, Some_of, each_of, served_within, Given, of_one, of_token, of_refusing, of_made, of_seq, of_after, of_before, of_either, of_opt, of_many, of_chain, of_parens, of_braces, of_then, of_from}
+use Rattle.fx_syntax.proofs.printing.Taken.{GoodPrefixes, named_is, name_is, type_iri, OfIri, GoodExpr, of_literal, of_variable, of_iri_name, of_datatype_in, of_expression, of_constraint}
 
 -- ---- triples
 

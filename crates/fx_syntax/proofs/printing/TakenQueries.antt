@@ -1,31 +1,24 @@
 -- A query that a text spells is one that the grammar has.
-use Rattle.std.proofs.Common.{◌≡◌, ℕ, zero, suc, ◌+◌, ◌^◌, ◌<◌, ◌≤◌, Bool, true, false, cond, List, [], ◌∷◌, ◌++◌, length, map, Option, Some, None, Ok, Err, Result, refl, sym, ap, ◌∙◌, subst, arith, append_assoc, append-nil, inl, inr, ◌⊎◌, ◌&&◌, nat_le}
+use Rattle.std.proofs.Common.{◌≡◌, ℕ, ◌^◌, ◌<◌, Bool, true, false, cond, List, [], ◌∷◌, ◌++◌, Option, Some, None, Ok, refl, sym, subst, arith, append-nil, inl, inr, nat_le}
 use Rattle.std.specs.Prelude.{codes, ◌==◌, fold}
 use Rattle.std.specs.List.{flat_map}
 use Rattle.std.specs.Str.{IsUtf8}
 use Rattle.std.proofs.lemmas.Bool.{and_from, leb-true}
-use Rattle.fx_terms.specs.Names.{IsName}
-use Rattle.fx_terms.specs.Iris.{IsIri}
-use Rattle.fx_algebra.specs.Printed.{Word, fixed, variable, number, in_brackets, Printed, printed, is_call, is_variable, block, column_words, distinction, form_words, key_words, order_words, limit_words, offset_words, trailing_words, group_words, query_words}
+use Rattle.fx_algebra.specs.Printed.{fixed, number, in_brackets, printed, is_call, is_variable, column_words, distinction, form_words, key_words, order_words, limit_words, offset_words, trailing_words, group_words, query_words}
 use Rattle.fx_algebra.specs.Scopes.{is_among, with_name, once, scope, group_mentions}
-use Rattle.fx_algebra.specs.declared.expressions.Expr.{Expr}
 use Rattle.fx_algebra.specs.declared.expressions.Expr.TheVariants as expr
 use Rattle.fx_algebra.specs.declared.queries.Inline.{Inline}
 use Rattle.fx_algebra.specs.declared.queries.Order.{Order}
 use Rattle.fx_algebra.specs.declared.queries.Group.{Group}
-use Rattle.fx_algebra.specs.declared.queries.Form.{Form}
-use Rattle.fx_algebra.specs.declared.queries.Form.TheVariants as form
 use Rattle.fx_algebra.specs.declared.queries.Query.{Query}
 use Rattle.fx_syntax.specs.Kinds.{is}
-use Rattle.fx_syntax.specs.Rule.{Rule, shape_of, token, one, seq, after, before, either, opt, many, some, made, refusing, then_by}
+use Rattle.fx_syntax.specs.Rule.{shape_of, token, one, seq, after, either, opt, some, made, refusing}
 use Rattle.fx_syntax.specs.Grammar as grammar
 use Rattle.fx_syntax.specs.Grammar.{Prefixes}
-use Rattle.fx_syntax.specs.Accepted.{Accepted}
 use Rattle.fx_syntax.specs.Classified.{classified, outermost}
-use Rattle.fx_syntax.specs.Printable.{AreFine, IsFine, AreNames, measured, held, is_block, all_keys, is_inline, IsForm, IsPrintable, AcceptedIsPrintable, SpellableIsAccepted}
+use Rattle.fx_syntax.specs.Printable.{AreFine, AreNames, measured, all_keys, is_inline, IsForm, IsPrintable, AcceptedIsPrintable, SpellableIsAccepted}
 use Rattle.fx_syntax.specs.declared.kinds.Kind.TheVariants as k
-use Rattle.fx_syntax.specs.declared.kinds.SyntaxKind.{SyntaxKind}
-use Rattle.fx_syntax.specs.declared.kinds.SyntaxKind.TheVariants.{NumberTooWide, Unsupported, Unexpected}
+use Rattle.fx_syntax.specs.declared.kinds.SyntaxKind.TheVariants.{Unsupported}
 use Rattle.fx_syntax.specs.declared.kinds.Token.{Token}
 use Rattle.fx_syntax.specs.declared.kinds.Token.TheVariants as token_of
 use Rattle.fx_syntax.specs.declared.parts.Head.{Head}
@@ -38,8 +31,8 @@ use Rattle.fx_syntax.proofs.printing.Saying.{fine_both}
 use Rattle.fx_syntax.proofs.printing.Columns.{once_once, once_names, names_both, fine_columns}
 use Rattle.fx_syntax.proofs.printing.Groups.{group_law}
 use Rattle.fx_syntax.proofs.printing.Queries.{printed_is_accepted}
-use Rattle.fx_syntax.proofs.printing.Tracking.{GoodToken, AllGood, Track, placed_track, is_turning, Any, Maybe, Each, Some_of, each_of, Given, of_one, of_token, of_refusing, of_made, of_seq, of_after, of_before, of_either, of_opt, of_many, of_some, of_parens, of_then}
-use Rattle.fx_syntax.proofs.printing.Taken.{GoodPrefixes, OfName, GoodExpr, OfExpr, good_variable, of_variable, of_expression, of_constraint}
+use Rattle.fx_syntax.proofs.printing.Tracking.{GoodToken, Track, placed_track, is_turning, Any, Maybe, Each, Some_of, each_of, Given, of_one, of_token, of_refusing, of_made, of_seq, of_after, of_either, of_opt, of_many, of_some, of_parens, of_then}
+use Rattle.fx_syntax.proofs.printing.Taken.{GoodPrefixes, OfName, GoodExpr, good_variable, of_variable, of_expression, of_constraint}
 use Rattle.fx_syntax.proofs.printing.TakenGroups.{GoodGroup, OfBlock, of_block, of_group}
 use Rattle.fx_syntax.proofs.printing.Sayings.{lexed_good}
 

@@ -1,5 +1,5 @@
 -- Printed terms and triples are spelled by their tokens.
-use Rattle.std.proofs.Common.{◌≡◌, ℕ, ◌<◌, Bool, true, false, not, cond, List, [], ◌∷◌, ◌++◌, length, map, Option, Some, None, is_some, Ok, Err, refl, sym, ap, ◌∙◌, subst, arith, append_assoc, append-nil, inl, inr}
+use Rattle.std.proofs.Common.{◌≡◌, ℕ, ◌<◌, Bool, true, false, not, cond, List, [], ◌∷◌, ◌++◌, length, map, Option, Some, None, refl, sym, ap, ◌∙◌, arith, append_assoc, append-nil, inl, inr}
 use Rattle.std.specs.Prelude.{◌==◌}
 use Rattle.std.specs.List.{flat_map, list_all}
 use Rattle.std.specs.Str.{bytes_eq}
@@ -7,23 +7,22 @@ use Rattle.std.specs.Char.{to_ascii_lowercase}
 use Rattle.std.specs.Cmp.Lexicographic.{same_text}
 use Rattle.std.proofs.lemmas.Bool.{eqb-true, eqb-false}
 use Rattle.std.proofs.lemmas.List.{nil_from_length}
-use Rattle.fx_terms.specs.Literals.{LiteralParts, IsLiteral, xsd_string, lang_string, is_tag}
-use Rattle.fx_terms.specs.Terms.{IsTerm}
+use Rattle.fx_terms.specs.Literals.{LiteralParts, IsLiteral, xsd_string, lang_string}
 use Rattle.fx_terms.specs.declared.terms.Term.{Term}
 use Rattle.fx_terms.specs.declared.terms.Term.TheVariants.{Iri, Literal}
 use Rattle.fx_terms.specs.declared.patterns.Pattern.{Pattern}
 use Rattle.fx_terms.specs.declared.patterns.PatternTerm.{PatternTerm}
 use Rattle.fx_terms.specs.declared.patterns.PatternTerm.TheVariants.{Variable, Constant}
-use Rattle.fx_algebra.specs.Printed.{Word, fixed, part_word, pattern_words}
-use Rattle.fx_syntax.specs.Rule.{Rule, token}
-use Rattle.fx_syntax.specs.Grammar.{Prefixes, iri_name, datatype, datatype_in, no_call, no_path, literal, text_suffix, annotated, tagged, typed, variable, graph_term, part_literal, verb, verb_iri, objects, property, more_properties, properties, same_subject, dot, dot_triples, more_triples, triples, option_items, triples_of}
+use Rattle.fx_algebra.specs.Printed.{part_word, pattern_words}
+use Rattle.fx_syntax.specs.Rule.{Rule}
+use Rattle.fx_syntax.specs.Grammar.{Prefixes, iri_name, datatype, datatype_in, no_call, no_path, literal, text_suffix, variable, graph_term, part_literal, verb, verb_iri, objects, property, more_properties, properties, same_subject, dot_triples, more_triples, triples, option_items}
 use Rattle.fx_syntax.specs.Printable.{IsFine, AreFine, word_tokens, term_tokens, suffix_tokens, said, IsPart, IsVerb, IsTriple, AreTriples}
 use Rattle.fx_syntax.specs.declared.kinds.Kind.TheVariants as k
 use Rattle.fx_syntax.specs.declared.kinds.Token.{Token}
 use Rattle.fx_syntax.specs.declared.kinds.Token.TheVariants as token_of
 use Rattle.fx_syntax.specs.declared.parts.Annotation.TheVariants as annotation
 use Rattle.fx_syntax.proofs.printing.Placing.{is_calm, calm_both}
-use Rattle.fx_syntax.proofs.printing.Spelling.{mark_said, seq_said, after_said, before_said, alone_said}
+use Rattle.fx_syntax.proofs.printing.Spelling.{mark_said, after_said}
 
 -- ---- literals
 

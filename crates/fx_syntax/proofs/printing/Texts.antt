@@ -1,21 +1,19 @@
 -- Literals of a printed query read as their tokens.
-use Rattle.std.proofs.Common.{◌≡◌, ℕ, zero, suc, ◌+◌, ◌-◌, ◌<◌, ◌≤◌, Bool, true, false, cond, not, ltb, List, [], ◌∷◌, ◌++◌, length, map, drop, get_or, Option, Some, None, Ok, Err, Result, refl, sym, ap, ◌∙◌, subst, arith, append_assoc, append-nil, length-append, inl, inr, ◌⊎◌, ◌&&◌, ◌||◌, nat_le, nat_lt}
+use Rattle.std.proofs.Common.{◌≡◌, ℕ, zero, suc, ◌+◌, ◌<◌, ◌≤◌, Bool, true, false, cond, not, List, [], ◌∷◌, ◌++◌, length, get_or, Option, Some, None, refl, sym, ap, ◌∙◌, subst, arith, append_assoc, append-nil, length-append, inl, inr, nat_lt}
 use Rattle.std.specs.Prelude.{◌==◌, All, encode_utf8}
 use Rattle.std.specs.List.{list_all, flat_map, slice_split, join_with_byte}
-use Rattle.std.specs.Str.{chars, IsUtf8, encode_utf8_all, IsAscii, bytes_eq}
-use Rattle.std.proofs.lemmas.Bool.{and_from, not-true, eq-eqb, lt-ltb, le-ltb, eqb-true, ne_eqb, and_parts, cases_lt}
+use Rattle.std.specs.Str.{chars, IsUtf8, encode_utf8_all, IsAscii}
+use Rattle.std.proofs.lemmas.Bool.{and_from, eq-eqb, lt-ltb, eqb-true, ne_eqb, and_parts, cases_lt}
 use Rattle.std.proofs.lemmas.Bool.Decides.{nat_tests}
 use Rattle.std.proofs.lemmas.List.Elements.{All-head, All-tail, All-from_get_or}
 use Rattle.std.proofs.lemmas.List.Concat.{flat_map-append}
 use Rattle.std.proofs.lemmas.List.Splits.{join_with_byte-slice_split}
-use Rattle.std.proofs.lemmas.Str.{IsUtf8-append, IsUtf8-from_ascii, chars-append, chars-IsAscii, chars-encodes, encodes-chars, encodes-append, scalars-chars, encode_ascii, inside_one, encodes-IsAscii}
+use Rattle.std.proofs.lemmas.Str.{IsUtf8-append, IsUtf8-from_ascii, chars-IsAscii, chars-encodes, encodes-chars, encodes-append, scalars-chars, encode_ascii, inside_one, encodes-IsAscii}
 use lib.Utf8.{scalar, scalars}
-use Rattle.fx_terms.specs.Iris as iris
 use Rattle.fx_terms.specs.Literals.{is_dash, is_letters, is_letters_or_digits, are_tag_parts, is_tag}
-use Rattle.fx_terms.specs.Literals as literals
 use Rattle.fx_terms.specs.Writing.{written_byte, written_form}
 use Rattle.fx_tokens.specs.Classes as class
-use Rattle.fx_tokens.specs.Forms.{One, Then, Repeat, none, more, Either}
+use Rattle.fx_tokens.specs.Forms.{Repeat, none, more}
 use Rattle.fx_tokens.specs.Kinds as form
 use Rattle.fx_tokens.specs.Reads.{BeginsToken}
 use Rattle.fx_tokens.specs.Scan as scan
@@ -23,10 +21,9 @@ use Rattle.fx_tokens.specs.declared.TokenKind.TheVariants as kind
 use Rattle.fx_tokens.specs.declared.kinds.Part.TheVariants as part
 use Rattle.fx_tokens.proofs.Readers.{skip_step, skip_end, skip_exact}
 use Rattle.fx_tokens.proofs.KindLaws.{part_step, text_part_unit}
-use Rattle.fx_syntax.specs.Classified.{token_of, next, decoded, unescaped, escape, between_quotes, is_long, behind_first, first}
+use Rattle.fx_syntax.specs.Classified.{next, decoded, unescaped, escape, between_quotes, is_long, behind_first, first}
 use Rattle.fx_syntax.specs.declared.classify.Closing.TheVariants.{One as OneSign, Three}
 use Rattle.fx_syntax.specs.declared.kinds.Kind.TheVariants as k
-use Rattle.fx_syntax.specs.declared.kinds.Token.{Token}
 use Rattle.fx_syntax.specs.declared.kinds.Token.TheVariants as token
 use Rattle.fx_syntax.proofs.printing.Pieces.{Reading}
 use Rattle.fx_syntax.proofs.printing.Fixed.{is_ascii, longer_mark}

@@ -1,16 +1,15 @@
 -- What holds of the values that tokens spell, where each token says something and stands in its place.
-use Rattle.std.proofs.Common.{◌≡◌, ℕ, zero, suc, ◌+◌, ◌-◌, ◌<◌, ◌≤◌, Bool, true, false, cond, not, List, [], ◌∷◌, ◌++◌, Option, Some, None, Ok, Result, refl, sym, ap, ◌∙◌, subst, arith, append_assoc, inl, inr, ◌⊎◌, ◌&&◌, ◌||◌, nat_lt}
-use Rattle.std.specs.Prelude.{◌==◌}
+use Rattle.std.proofs.Common.{◌≡◌, ℕ, zero, suc, ◌+◌, ◌-◌, Bool, true, false, cond, List, [], ◌∷◌, ◌++◌, Option, Some, None, Ok, Result, refl, sym, ap, ◌∙◌, subst, arith, append_assoc, inl, inr, ◌&&◌, ◌||◌, nat_lt}
 use Rattle.std.specs.Str.{IsUtf8}
-use Rattle.std.proofs.lemmas.Bool.{eq-eqb, and_parts, or_parts, not-true}
+use Rattle.std.proofs.lemmas.Bool.{eq-eqb, or_parts}
 use Rattle.fx_terms.specs.Names.{IsName}
 use Rattle.fx_terms.specs.Iris.{IsIri}
 use Rattle.fx_algebra.specs.declared.expressions.Function.{Function}
 use Rattle.fx_algebra.specs.declared.expressions.Function.TheVariants as function
 use Rattle.fx_syntax.specs.Kinds.{is, kind_of}
-use Rattle.fx_syntax.specs.Rule.{Rule, Shape, Apart, one, token, refusing, made, then_by, seq, after, before, either, opt, many_from, many, chain, some, nested, depth, with_depth, shape_of, nothing, spells_from}
+use Rattle.fx_syntax.specs.Rule.{Rule, Shape, Apart, one, token, refusing, made, then_by, seq, after, before, either, opt, many_from, many, chain, some, nested, depth, shape_of}
 use Rattle.fx_syntax.specs.Grammar.{parens, braces}
-use Rattle.fx_syntax.specs.Classified.{kind_in, placed, behind, all_placed, one_more, opened, closed, is_inside, is_bracket}
+use Rattle.fx_syntax.specs.Classified.{kind_in, behind, all_placed, one_more, opened, closed, is_inside, is_bracket}
 use Rattle.fx_syntax.specs.declared.classify.Context.{Context}
 use Rattle.fx_syntax.specs.declared.classify.Service.{Service}
 use Rattle.fx_syntax.specs.declared.classify.Service.TheVariants.{Outside, Named, Inside}

@@ -1,35 +1,29 @@
 -- Names and terms of a printed query read as their tokens.
-use Rattle.std.proofs.Common.{◌≡◌, ℕ, zero, suc, ◌+◌, ◌-◌, ◌<◌, ◌≤◌, Bool, true, false, cond, not, ltb, List, [], ◌∷◌, ◌++◌, length, map, drop, Option, Some, None, Ok, Err, Result, refl, sym, ap, ◌∙◌, subst, arith, append_assoc, append-nil, length-append, inl, inr, ◌⊎◌, ◌&&◌, ◌||◌, nat_le, nat_lt}
+use Rattle.std.proofs.Common.{◌≡◌, ℕ, zero, suc, ◌<◌, ◌≤◌, Bool, true, false, cond, not, ltb, List, [], ◌∷◌, ◌++◌, length, drop, Option, Some, None, Ok, refl, sym, ap, ◌∙◌, subst, arith, append_assoc, length-append, inl, inr, ◌⊎◌, ◌&&◌}
 use Rattle.std.specs.Prelude.{◌==◌, All, encode_utf8}
-use Rattle.std.specs.List.{list_all, flat_map, slice_split, onto_first}
-use Rattle.std.specs.Str.{chars, IsUtf8, encode_utf8_all, IsAscii, bytes_eq}
-use Rattle.std.proofs.lemmas.Bool.{and_from, not-true, eq-eqb, lt-ltb, le-ltb, ltb-true, eqb-true, ne_eqb, and_parts, or_parts, cases_lt}
+use Rattle.std.specs.List.{list_all}
+use Rattle.std.specs.Str.{chars, IsUtf8, encode_utf8_all, IsAscii}
+use Rattle.std.proofs.lemmas.Bool.{and_from, not-true, eq-eqb, le-ltb, ltb-true, and_parts, cases_lt}
 use Rattle.std.proofs.lemmas.Bool.Decides.{nat_tests}
-use Rattle.std.proofs.lemmas.List.Elements.{All-head, All-tail, All-drop, All-cons, All-nil}
-use Rattle.std.proofs.lemmas.List.Concat.{flat_map-append}
+use Rattle.std.proofs.lemmas.List.Elements.{All-head, All-drop, All-cons, All-nil}
 use Rattle.std.proofs.Math.Seq.{drop-append_seam}
-use Rattle.std.proofs.lemmas.Str.{IsAscii-append, IsUtf8-append, IsUtf8-from_ascii, chars-append, chars-IsAscii, chars-encodes, encodes-chars, encodes-append, scalars-chars, encode_ascii, inside_one, length-le-encodes, encodes-IsAscii}
+use Rattle.std.proofs.lemmas.Str.{IsUtf8-append, IsUtf8-from_ascii, chars-append, chars-IsAscii, encodes-chars, encode_ascii, length-le-encodes}
 use Rattle.std.proofs.lemmas.Str.Ascii.{IsAscii-from_all, IsAscii-cons, IsAscii-nil}
 use Rattle.fx_terms.specs.Names as names
-use Rattle.fx_terms.specs.declared.names.NameError.{NameError}
-use Rattle.fx_terms.specs.Iris.{is_forbidden, read_iri, iri_after, has_scheme, IsIri}
+use Rattle.fx_terms.specs.Iris.{is_forbidden, read_iri, IsIri}
 use Rattle.fx_terms.proofs.IriLemmas.{iri_bytes}
-use Rattle.fx_terms.specs.Writing.{written_byte, written_form}
 use Rattle.fx_tokens.specs.Answers.{width}
 use Rattle.fx_tokens.specs.Classes as class
-use Rattle.fx_tokens.specs.Forms.{One, Then, Repeat, none, more, Either}
-use Rattle.fx_tokens.specs.Kinds as form
 use Rattle.fx_tokens.specs.Reads.{BeginsToken}
 use Rattle.fx_tokens.specs.Scan as scan
 use Rattle.fx_tokens.specs.declared.TokenKind.TheVariants as kind
 use Rattle.fx_tokens.specs.declared.TokenKind.{TokenKind}
 use Rattle.fx_tokens.specs.declared.kinds.Part.TheVariants as part
-use Rattle.fx_tokens.proofs.Readers.{IsStep, IsUnit, step, unit_one, skip_step, skip_end, skip_exact, width_append, width_behind}
-use Rattle.fx_tokens.proofs.KindLaws.{part_step, text_part_unit}
-use Rattle.fx_syntax.specs.Classified.{token_of, variable_of, next, iri_or, decoded, unescaped, escape, between_quotes, is_long, behind_first, first}
+use Rattle.fx_tokens.proofs.Readers.{IsStep, step, unit_one, skip_step, skip_end, width_behind}
+use Rattle.fx_tokens.proofs.KindLaws.{part_step}
+use Rattle.fx_syntax.specs.Classified.{variable_of, next, iri_or, decoded, unescaped, escape, behind_first}
 use Rattle.fx_syntax.specs.declared.classify.Closing.TheVariants.{One as OneSign}
 use Rattle.fx_syntax.specs.Printable.{fixed_token}
-use Rattle.fx_syntax.specs.declared.kinds.Token.{Token}
 use Rattle.fx_syntax.specs.declared.kinds.Token.TheVariants as token
 use Rattle.fx_syntax.proofs.printing.Pieces.{Reading, space_chars}
 use Rattle.fx_syntax.proofs.printing.Fixed.{Fixed, is_ascii}
