@@ -15,4 +15,4 @@ returns-in-Ok-answer_of_rows-clause-answer g c =
     let rows = c.in-Ok-join_all.rows.items in
     c.in-Ok-answer_of_rows.ensures
     ∙ ap (form_answer q q.form) c.as_slice-in-Ok-join_all.ensures.value
-    ∙ answer_from u q rows c.requires (subst (λ (ps : List Pattern). SameRows (bgp u ps) rows) (c.as_slice.ensures.value ∙ c.in-Ok.ensures) (c.in-Ok-join_all.ensures.rows graphs t))
+    ∙ answer_from u q rows c.requires.plain (subst (λ (ps : List Pattern). SameRows (bgp u ps) rows) (c.as_slice.ensures.value ∙ c.in-Ok.ensures) (c.in-Ok-join_all.ensures.rows graphs t))

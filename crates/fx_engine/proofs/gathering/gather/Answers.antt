@@ -10,10 +10,12 @@ use Rattle.fx_engine.proofs.GatherLemmas.{gathered}
 use Rattle.fx_engine.proofs.PatternLemmas.{no_rows}
 use Rattle.fx_engine.proofs.gathering.gather.Goals as goal
 
-pub returns-clause-rows : goal.returns-clause-rows
-returns-clause-rows g c =
+pub returns-then-is_literal-clause-rows : goal.returns-then-is_literal-clause-rows
+returns-then-is_literal-clause-rows g c =
     λ graphs t.
-    subst (λ (rows : List Bindings). SameRows rows c.new.result.items) (sym (no_rows (union graphs) c.args.pattern.now (sym c.is_literal.ensures ∙ c.if-is_literal.true))) (IsPermutation-refl [])
+    let empty : c.new.result.items ≡ [] = search rules in
+    let none = no_rows (union graphs) c.args.pattern.now (sym c.is_literal.ensures ∙ c.if-is_literal.true) in
+    subst (λ (rows : List Bindings). SameRows rows c.new.result.items) (sym none) (subst (λ (rows : List Bindings). SameRows [] rows) (sym empty) (IsPermutation-refl []))
 
 pub collect-requires-clause-asked : goal.collect-requires-clause-asked
 collect-requires-clause-asked g c =
