@@ -1,8 +1,7 @@
 -- What a refusal reports is its cause, for `query`.
-use Rattle.std.proofs.Common.{◌≡◌, ◌∙◌, ap, sym, subst, refl, ℕ, ◌<◌, ◌≤◌, false, List, [], Option, Some, None, Ok, Err, length, inl, inr, arith}
+use Rattle.std.proofs.Common.{◌≡◌, ◌∙◌, ap, sym, subst, refl, ℕ, ◌≤◌, false, List, Option, Some, None, Ok, Err, length, inl, inr, arith}
 use Rattle.std.specs.Prelude.{IfSome, slice_get, Result}
 use Rattle.fx_outside.specs.Endpoints.{EndpointParts}
-use Rattle.fx_outside.specs.Streams.{AppendsFront}
 use Rattle.fx_algebra.specs.Answers.{is_plain, IsPlain}
 use Rattle.fx_algebra.specs.declared.queries.Query.{Query}
 use Rattle.fx_syntax.specs.Accepted.{Accepted}
@@ -22,7 +21,7 @@ use Rattle.fedx.specs.declared.statuses.Status.{Status}
 use Rattle.fedx.specs.declared.statuses.Status.TheVariants as status
 use Rattle.fedx.specs.FedRefusals.{fed_status_of, fed_line, name_at, name_of}
 use Rattle.fedx.specs.Files.{FileRead, IsRegistryFile, IsQueryThat, IsMember, IsNoRegistry}
-use Rattle.fedx.specs.Lines.{not_built, member_failed, bad_reply, request_too_long, no_memory}
+use Rattle.fedx.specs.Lines.{not_built, member_failed, bad_reply, request_too_long}
 use Rattle.fedx.specs.LocalSteps.{GivesQuery, query_line}
 use Rattle.fedx.specs.Query.{IsOther, IsUnionDocument, IsUnionAnswer, IsUnionAnswerOf, IsQueryReported, IsQueryWritten}
 use Rattle.fedx.specs.QuerySteps.{GivesRegistry, registry_line, IsAskReported, IsAskWritten}

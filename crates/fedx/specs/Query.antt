@@ -1,5 +1,5 @@
 -- What `fedx query` does.
-use Rattle.std.specs.Prelude.{◌≡◌, ◌⊎◌, ℕ, ◌<◌, List, [], ◌++◌, IfSome, Ok, false, slice_get, Some}
+use Rattle.std.specs.Prelude.{◌≡◌, ◌⊎◌, ℕ, ◌<◌, List, [], ◌++◌, IfSome, Ok, false}
 use Rattle.fx_outside.specs.Endpoints.{EndpointParts}
 use Rattle.fx_outside.specs.Streams.{AppendsFront}
 use Rattle.fx_terms.specs.Graphs.{union}

@@ -1,5 +1,5 @@
 -- What a run does, by the command that its words are.
-use Rattle.std.specs.Prelude.{◌≡◌, ℕ, List, [], ◌∷◌, Option, Some, None}
+use Rattle.std.specs.Prelude.{◌≡◌, ℕ, List, ◌∷◌, Option, Some, None}
 use Rattle.fx_wire.specs.Exchanges.{Seen}
 use Rattle.fedx.specs.declared.statuses.Status.{Status}
 use Rattle.fedx.specs.declared.statuses.Status.TheVariants as status

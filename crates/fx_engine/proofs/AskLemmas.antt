@@ -1,26 +1,24 @@
 -- What the reply to a pattern's query gives.
-use Rattle.std.proofs.Common.{◌≡◌, ◌∙◌, ap, sym, subst, refl, ℕ, ◌<◌, ◌≤◌, Bool, true, false, ◌++◌, List, [], ◌∷◌, map, filter, length, ltb, cond, Option, Some, None, Ok, Err, IsTrue, IsPermutation, arith, is_some, ◌||◌}
-use Rattle.std.specs.Prelude.{IfSome, Contains, ◌⊎◌, T}
+use Rattle.std.proofs.Common.{◌≡◌, ◌∙◌, ap, sym, subst, refl, ℕ, ◌<◌, ◌≤◌, Bool, true, false, ◌++◌, List, [], ◌∷◌, map, filter, length, ltb, cond, Option, Some, None, Ok, IsPermutation, is_some, ◌||◌}
+use Rattle.std.specs.Prelude.{IfSome, ◌⊎◌}
 use Rattle.std.proofs.Common.{inl, inr, ltb-true, ltb-false}
 use Rattle.std.specs.Prelude.{Result}
 use Rattle.fx_results.specs.declared.faults.ResultsError.{ResultsError}
 use Rattle.std.specs.Ordering.{is_eq}
-use Rattle.std.specs.List.{list_any, AllByRecursion}
 use Rattle.std.proofs.lemmas.Cmp.{tied_itself}
 use Rattle.std.proofs.lemmas.List.Sorted.{IsPermutation-refl, IsPermutation-sym, IsPermutation-cons, IsPermutation-trans, IsPermutation-map, IsPermutation-middle, list_any-IsPermutation}
 use Rattle.std.specs.declared.cmp.Ordering.{Ordering}
 use Rattle.std.specs.Ordering.{is_le}
-use Rattle.std.specs.FinMap.Entries.{below_all}
 use Rattle.fx_terms.specs.Graphs.{IsGraph}
 use Rattle.fx_terms.specs.Texts.{text_cmp, texts_total}
 use Rattle.fx_terms.specs.declared.terms.Term.{Term}
 use Rattle.fx_terms.specs.declared.triples.Triple.{Triple}
 use Rattle.fx_terms.specs.declared.patterns.Pattern.{Pattern}
-use Rattle.fx_terms.proofs.SetLemmas.{Among, among_from, contains_from}
+use Rattle.fx_terms.proofs.SetLemmas.{Among, contains_from}
 use Rattle.fx_outside.specs.Endpoints.{EndpointParts}
 use Rattle.fx_algebra.specs.Answers.{answer_alone, form_answer, no_graphs}
-use Rattle.fx_algebra.specs.BasicGraphPatterns.{bgp, variables, IsSolutionOf}
-use Rattle.fx_algebra.specs.Scopes.{is_among, pattern_names, once}
+use Rattle.fx_algebra.specs.BasicGraphPatterns.{bgp}
+use Rattle.fx_algebra.specs.Scopes.{is_among, pattern_names}
 use Rattle.fx_algebra.specs.Sequences.{projected, sorted_by, insert_by}
 use Rattle.fx_algebra.specs.Occurrences.{Occurrence, all_of, element_occurrences, group_occurrences, of_element, services}
 use Rattle.fx_algebra.specs.OrderedRows.{keyed, keyed_cmp, in_order}
@@ -33,13 +31,13 @@ use Rattle.fx_algebra.specs.declared.queries.Group.{fold-roll-Group}
 use Rattle.fx_algebra.proofs.BgpLemmas.{solution_of}
 use Rattle.fx_algebra.proofs.PlainLemmas.{plain_rows}
 use Rattle.fx_http.specs.Requests.{IsRequest, request_of}
-use Rattle.fx_http.specs.Replies.{IsReply, Replies}
+use Rattle.fx_http.specs.Replies.{IsReply}
 use Rattle.fx_http.proofs.ReplyLaws.{reply_unique}
 use Rattle.fx_results.specs.Reading.{read_results}
-use Rattle.fx_results.specs.Meanings.{Denotes, SameAnswer}
+use Rattle.fx_results.specs.Meanings.{SameAnswer}
 use Rattle.fx_syntax.specs.Accepted.{Accepted}
 use Rattle.fx_syntax.specs.Printable.{pattern_query}
-use Rattle.fx_wire.specs.Exchanges.{Exchange, exchanged}
+use Rattle.fx_wire.specs.Exchanges.{exchanged}
 use Rattle.fx_wire.specs.Honest.{IsHonest}
 use Rattle.fx_engine.specs.MemberQueries.{columns_of, IsAsked}
 use Rattle.fx_engine.specs.Tables.{SameNames, HasTable, ReadsTable}

@@ -1,15 +1,13 @@
 -- The rows of patterns over a union of graphs, one pattern after another, and the answer that they are.
-use Rattle.std.proofs.Common.{◌≡◌, ◌∙◌, ap, sym, subst, refl, ℕ, List, [], ◌∷◌, ◌++◌, Bool, true, false, T, IsTrue, All, Option, Some, None, IsPermutation, inl, inr}
-use Rattle.std.specs.Prelude.{Contains, take}
-use Rattle.std.specs.List.{AllByRecursion, filter_map}
-use Rattle.std.proofs.lemmas.List.Elements.{All-from_recursion, recursion_from_All}
-use Rattle.std.proofs.lemmas.List.Sorted.{IsPermutation-refl, IsPermutation-sym, IsPermutation-trans, length_permutation, All-permutation}
-use Rattle.fx_terms.specs.Graphs.{union}
+use Rattle.std.proofs.Common.{◌≡◌, ◌∙◌, ap, sym, subst, refl, List, [], ◌∷◌, ◌++◌, Bool, true, false, T, IsTrue, All, IsPermutation, inl, inr}
+use Rattle.std.specs.List.{AllByRecursion}
+use Rattle.std.proofs.lemmas.List.Elements.{All-from_recursion}
+use Rattle.std.proofs.lemmas.List.Sorted.{IsPermutation-refl, IsPermutation-trans}
 use Rattle.fx_terms.specs.declared.triples.Triple.{Triple}
 use Rattle.fx_terms.specs.declared.patterns.Pattern.{Pattern}
-use Rattle.fx_terms.proofs.SetLemmas.{Among, among_from, contains_from}
+use Rattle.fx_terms.proofs.SetLemmas.{Among, contains_from}
 use Rattle.fx_algebra.specs.Answers.{answer_alone, form_answer, no_graphs, patterns_of, IsPlain}
-use Rattle.fx_algebra.specs.BasicGraphPatterns.{bgp, forced, parts_of}
+use Rattle.fx_algebra.specs.BasicGraphPatterns.{bgp}
 use Rattle.fx_algebra.specs.Evaluation.{extended, rows_from}
 use Rattle.fx_algebra.specs.Operators.{join}
 use Rattle.fx_algebra.specs.Solutions.{Bindings, SameRows, rises}

@@ -1,8 +1,6 @@
 -- The rows of all endpoints, one endpoint after another.
-use Rattle.std.proofs.Common.{◌≡◌, ◌∙◌, ap, sym, subst, refl, ℕ, ◌<◌, ◌≤◌, ◌+◌, zero, suc, List, [], ◌∷◌, ◌++◌, length, take, get_or, Option, Some, None, Err, IsTrue, inl, inr, arith, append_assoc, append-nil}
-use Rattle.std.specs.Prelude.{Contains, ◌⊎◌, reverse, slice_get, IsPermutation}
-use Rattle.std.specs.List.{AllByRecursion}
-use Rattle.std.proofs.lemmas.Option.{slice_get_read}
+use Rattle.std.proofs.Common.{◌≡◌, ◌∙◌, ap, sym, subst, refl, ℕ, List, [], ◌∷◌, ◌++◌, Option, Some, Err, IsTrue, inl, inr, arith, append_assoc, append-nil}
+use Rattle.std.specs.Prelude.{Contains, ◌⊎◌, reverse, slice_get}
 use Rattle.std.proofs.lemmas.List.Sorted.{Contains-permutation, IsPermutation-sym, IsPermutation-reverse}
 use Rattle.fx_terms.specs.Graphs.{union, set_of}
 use Rattle.fx_terms.specs.declared.triples.Triple.{Triple}
@@ -13,8 +11,8 @@ use Rattle.fx_algebra.specs.BasicGraphPatterns.{bgp}
 use Rattle.fx_algebra.specs.Solutions.{Bindings, SameRows, solution_cmp}
 use Rattle.fx_algebra.proofs.MemberLemmas.{among_left, among_right, among_cases}
 use Rattle.fx_algebra.proofs.UnionLemmas.{rows_of_union}
-use Rattle.fx_wire.specs.Exchanges.{Exchange, Seen, IsAfter}
-use Rattle.fx_engine.specs.Federation.{Tells, AreRowsOf, IsBadExchange, HasFailed, HasBadReply, At, IsRefused, GivesRows}
+use Rattle.fx_wire.specs.Exchanges.{Seen, IsAfter}
+use Rattle.fx_engine.specs.Federation.{Tells, AreRowsOf, IsBadExchange, HasBadReply, IsRefused, GivesRows}
 use Rattle.fx_engine.specs.Refusals.{refusal_at}
 use Rattle.fx_engine.specs.declared.errors.AskError.{AskError}
 use Rattle.fx_engine.specs.declared.errors.AskError.TheVariants as ask

@@ -1,11 +1,10 @@
 -- Lists of names that hold the same names.
-use Rattle.std.proofs.Common.{◌≡◌, ◌∙◌, ap, sym, subst, refl, ℕ, Bool, true, false, ◌&&◌, ◌||◌, T, List, [], ◌∷◌, ◌++◌}
-use Rattle.std.specs.List.{list_all, list_any}
-use Rattle.std.specs.Prelude.{fold, cond, if◌then◌else◌}
+use Rattle.std.proofs.Common.{◌≡◌, ◌∙◌, ap, sym, refl, ℕ, Bool, true, false, ◌&&◌, ◌||◌, List, [], ◌∷◌, ◌++◌}
+use Rattle.std.specs.List.{list_all}
+use Rattle.std.specs.Prelude.{fold, cond}
 use Rattle.std.specs.Ordering.{is_eq}
 use Rattle.std.proofs.lemmas.Cmp.{tied_itself}
 use Rattle.std.proofs.lemmas.List.Folds.{list_any-append}
-use Rattle.std.proofs.Common.{append_assoc, append-nil}
 use Rattle.fx_terms.specs.Texts.{text_cmp, texts_total}
 use Rattle.fx_algebra.specs.Scopes.{is_among, with_name, once}
 use Rattle.fx_algebra.proofs.ForcedLemmas.{name_from}

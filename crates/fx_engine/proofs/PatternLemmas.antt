@@ -1,8 +1,7 @@
 -- The query of one pattern, and a pattern whose predicate is a literal.
-use Rattle.std.proofs.Common.{◌≡◌, ◌∙◌, ap, sym, subst, refl, ℕ, Bool, true, false, ◌&&◌, List, [], ◌∷◌, map, Option, Some, None}
+use Rattle.std.proofs.Common.{◌≡◌, ◌∙◌, ap, sym, refl, ℕ, true, ◌&&◌, List, [], ◌∷◌, Option, Some, None}
 use Rattle.std.specs.Prelude.{is_some, option_and_then, ◌++◌}
 use Rattle.std.specs.List.{filter_map, cons_option}
-use Rattle.fx_terms.specs.declared.terms.Term.{Term}
 use Rattle.fx_terms.specs.declared.terms.Term.TheVariants.{Iri, Literal}
 use Rattle.fx_terms.specs.declared.triples.Triple.{Triple}
 use Rattle.fx_terms.specs.declared.patterns.Pattern.{Pattern}
@@ -10,7 +9,6 @@ use Rattle.fx_terms.specs.declared.patterns.PatternTerm.{PatternTerm}
 use Rattle.fx_terms.specs.declared.patterns.PatternTerm.TheVariants.{Variable, Constant}
 use Rattle.fx_algebra.specs.Answers.{element_pattern, group_patterns, pattern_in, patterns_of, IsPlain}
 use Rattle.fx_algebra.specs.BasicGraphPatterns.{bgp, forced, parts_of, with_part}
-use Rattle.fx_algebra.specs.Evaluation.{extended}
 use Rattle.fx_algebra.specs.Solutions.{Bindings}
 use Rattle.fx_algebra.specs.declared.queries.Element.{Element-F, fold-roll-Element}
 use Rattle.fx_algebra.specs.declared.queries.Element.TheVariants as element

@@ -1,9 +1,7 @@
 -- What refuses a reply or a document is no table.
-use Rattle.std.proofs.Common.{◌≡◌, ◌∙◌, sym, ap, List, ℕ, Ok, Err}
-use Rattle.std.specs.Prelude.{Result, IfOk}
-use Rattle.fx_algebra.specs.Solutions.{Bindings}
+use Rattle.std.proofs.Common.{◌≡◌, ◌∙◌, sym, List, ℕ, Ok, Err}
+use Rattle.std.specs.Prelude.{Result}
 use Rattle.fx_algebra.specs.declared.answers.Answer.{Answer}
-use Rattle.fx_algebra.specs.declared.answers.Answer.TheVariants.{Table}
 use Rattle.fx_http.specs.Answers.{IsOrMemory}
 use Rattle.fx_http.specs.declared.replies.ReplyError.{ReplyError}
 use Rattle.fx_http.specs.declared.replies.ReplyError.TheVariants as reply
@@ -11,7 +9,6 @@ use Rattle.fx_results.specs.Answers.{AnswersResults}
 use Rattle.fx_results.specs.declared.faults.ResultsError.{ResultsError}
 use Rattle.fx_results.specs.declared.faults.ResultsError.TheVariants as results
 use Rattle.fx_engine.specs.TableErrors.{reply_error, results_error}
-use Rattle.fx_engine.specs.declared.errors.TableError.{TableError}
 use Rattle.fx_engine.specs.declared.errors.TableError.TheVariants.{NotTable}
 
 pub not_replied : (e : ReplyError) (body : List ℕ) → reply_error e ≡ NotTable → IsOrMemory (Err e) (Ok body) → ⊥

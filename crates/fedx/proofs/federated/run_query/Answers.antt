@@ -1,7 +1,8 @@
-use Rattle.std.proofs.Common.{sym, subst, Ok, Err}
+use Rattle.std.proofs.Common.{◌∙◌, sym, subst, Ok, Err}
 use Rattle.fx_wire.specs.Exchanges.{seen}
 use Rattle.fedx.specs.declared.statuses.Status.{Status}
 use Rattle.fedx.specs.Files.{file_read}
+use Rattle.fedx.specs.Lines.{not_built}
 use Rattle.fedx.specs.LocalSteps.{query_line}
 use Rattle.fedx.specs.Query.{IsQueryReported}
 use Rattle.fedx.specs.QuerySteps.{registry_line}
@@ -35,6 +36,19 @@ returns-in-Err-load_query-clause-reported g c =
       c.write_query_refusal.ensures,
     )
 
+pub returns-then-not-is_plain-clause-reported : goal.returns-then-not-is_plain-clause-reported
+returns-then-not-is_plain-clause-reported g c =
+    let wire = seen g.W.Wire.tells_log g.W.Wire.log g.W.Wire.graph g.W.Wire.faults c.args.wire.now in
+    let read = file_read g.F.Files.content g.F.Files.faults c.args.files.now c.load_query.new.files in
+    let registry = read c.args.registry.now in
+    let query = read c.args.query.now in (
+      not_built,
+      other_reported wire wire registry query _ c.in-Ok-load_query.asked c.in-Ok.ensures.outcome
+          (query_since c.args.query.now _ _ (g.F.Files.faults c.args.files.now c.args.query.now) (g.F.Files.faults c.load_registry.new.files c.args.query.now) (g.F.Files.faults c.load_query.new.files c.args.query.now) (Ok c.in-Ok-load_query.asked) (c.load_registry.ensures.same c.args.query.now) (c.load_registry.ensures.kept c.args.query.now) c.in-Ok-load_query.ensures.outcome)
+          (sym c.is_plain.ensures ∙ c.if-not-is_plain.true),
+      c.write_not_built.ensures,
+    )
+
 pub returns-clause-reported : goal.returns-clause-reported
 returns-clause-reported g c =
     let of = seen g.W.Wire.tells_log g.W.Wire.log g.W.Wire.graph g.W.Wire.faults in
@@ -45,6 +59,7 @@ returns-clause-reported g c =
       ask_reported (of c.args.wire.now) (of c.ask_members.new.wire) registry query _ c.in-Ok-load_query.asked c.ask_members.result c.ask_members.ensures.reported.0
           (rw (← c.endpoints.ensures.value) at c.in-Ok.ensures.outcome)
           (query_since c.args.query.now _ _ (g.F.Files.faults c.args.files.now c.args.query.now) (g.F.Files.faults c.load_registry.new.files c.args.query.now) (g.F.Files.faults c.load_query.new.files c.args.query.now) (Ok c.in-Ok-load_query.asked) (c.load_registry.ensures.same c.args.query.now) (c.load_registry.ensures.kept c.args.query.now) c.in-Ok-load_query.ensures.outcome)
+          (sym c.is_plain.ensures ∙ c.if-not-is_plain.false)
           c.ask_members.ensures.reported.1,
       c.ask_members.ensures.reported.2,
     )

@@ -1,4 +1,3 @@
-use Rattle.std.proofs.Common.{sym}
 use Rattle.fedx.proofs.reports.write_graph_error.Goals as goal
 
 pub returns-in-BadUtf8 : goal.returns-in-BadUtf8

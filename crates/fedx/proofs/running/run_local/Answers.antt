@@ -3,11 +3,11 @@ use Rattle.fedx.specs.declared.statuses.Status.{Status}
 use Rattle.fedx.specs.Files.{file_read}
 use Rattle.fedx.specs.Local.{IsReported}
 use Rattle.fedx.specs.LocalSteps.{refusal_line}
-use Rattle.fedx.proofs.ReportLemmas.{reported}
+use Rattle.fedx.proofs.ReportLemmas.{reported, lines_reported, document_written}
 use Rattle.fedx.proofs.running.run_local.Goals as goal
 
-pub returns-clause-reported : goal.returns-clause-reported
-returns-clause-reported g c =
+pub returns-in-Err-clause-reported : goal.returns-in-Err-clause-reported
+returns-in-Err-clause-reported g c =
     let read = file_read g.F.Files.content g.F.Files.faults c.args.files.now c.local.new.files in
     let graph = c.args.graph.now in
     let query = c.args.query.now in (
@@ -15,3 +15,17 @@ returns-clause-reported g c =
       subst (λ (s : Status). IsReported (read graph) (read query) s (refusal_line c.in-Err.refusal graph query)) (sym c.status.ensures) (reported (read graph) (read query) c.in-Err.refusal c.in-Err.ensures.outcome),
       c.write_refusal.ensures,
     )
+
+pub returns-in-Ok-clause-reported : goal.returns-in-Ok-clause-reported
+returns-in-Ok-clause-reported g c =
+    let read = file_read g.F.Files.content g.F.Files.faults c.args.files.now c.local.new.files in
+    let text = c.write_report.ensures.reported.0 in (
+      text,
+      lines_reported (read c.args.graph.now) (read c.args.query.now) c.in-Ok.report c.write_report.result text c.in-Ok.ensures.outcome c.write_report.ensures.reported.1,
+      c.write_report.ensures.reported.2,
+    )
+
+pub returns-in-Ok-clause-written : goal.returns-in-Ok-clause-written
+returns-in-Ok-clause-written g c =
+    let read = file_read g.F.Files.content g.F.Files.faults c.args.files.now c.local.new.files in
+    λ told. document_written (read c.args.graph.now) (read c.args.query.now) c.in-Ok.report c.write_report.result _ _ c.in-Ok.ensures.outcome (c.write_report.ensures.written told)

@@ -1,4 +1,4 @@
-use Rattle.std.proofs.Common.{◌≡◌, ◌∙◌, ◌≤◌, ap, sym, subst, refl, List, [], ℕ, length, Err, arith}
+use Rattle.std.proofs.Common.{◌∙◌, ◌≤◌, ap, sym, subst, refl, List, [], ℕ, length, Err, arith}
 use Rattle.fx_http.specs.Requests.{IsRequest}
 use Rattle.fx_wire.specs.Exchanges.{exchanged}
 use Rattle.fx_engine.specs.Tables.{ReadsTable}

@@ -1,9 +1,9 @@
-use Rattle.std.proofs.Common.{◌≡◌, ◌∙◌, ap, sym, subst, List, All}
+use Rattle.std.proofs.Common.{◌∙◌, ap, subst, List}
 use Rattle.fx_terms.specs.declared.patterns.Pattern.{Pattern}
 use Rattle.fx_terms.specs.Graphs.{union}
 use Rattle.fx_algebra.specs.Answers.{form_answer}
 use Rattle.fx_algebra.specs.BasicGraphPatterns.{bgp}
-use Rattle.fx_algebra.specs.Solutions.{Bindings, SameRows}
+use Rattle.fx_algebra.specs.Solutions.{SameRows}
 use Rattle.fx_engine.proofs.FederationLemmas.{answer_from}
 use Rattle.fx_engine.proofs.federation.federate.Goals as goal
 

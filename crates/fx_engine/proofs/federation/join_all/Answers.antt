@@ -1,14 +1,11 @@
-use Rattle.std.proofs.Common.{◌≡◌, ◌∙◌, ◌+◌, ◌++◌, ◌∷◌, [], ap, sym, subst, refl, List, take, arith, IsPermutation}
+use Rattle.std.proofs.Common.{◌≡◌, ◌∙◌, ◌+◌, ◌++◌, ◌∷◌, [], ap, sym, subst, refl, List, take, IsPermutation}
 use Rattle.fx_algebra.specs.Operators.{join}
-use Rattle.std.specs.Prelude.{slice_get}
 use Rattle.std.proofs.lemmas.List.{take_more}
 use Rattle.fx_terms.specs.Graphs.{union}
-use Rattle.fx_terms.specs.declared.triples.Triple.{Triple}
 use Rattle.fx_terms.specs.declared.patterns.Pattern.{Pattern}
 use Rattle.fx_algebra.specs.BasicGraphPatterns.{bgp}
 use Rattle.fx_algebra.specs.Solutions.{Bindings, SameRows}
 use Rattle.fx_wire.specs.Exchanges.{seen}
-use Rattle.fx_engine.specs.Federation.{Tells}
 use Rattle.fx_engine.proofs.GatherLemmas.{after_both, refused_later, tells_same}
 use Rattle.fx_engine.proofs.FederationLemmas.{joined_more}
 use Rattle.fx_engine.proofs.federation.join_all.Goals as goal

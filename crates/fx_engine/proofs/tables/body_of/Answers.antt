@@ -1,4 +1,4 @@
-use Rattle.std.proofs.Common.{◌≡◌, ◌∙◌, sym, Ok}
+use Rattle.std.proofs.Common.{◌∙◌, sym, Ok}
 use Rattle.fx_engine.proofs.TableLemmas.{not_replied}
 use Rattle.fx_engine.proofs.tables.body_of.Goals as goal
 
