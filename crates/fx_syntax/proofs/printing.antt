@@ -19,3 +19,4 @@ pub mod Taken
 pub mod TakenGroups
 pub mod Sayings
 pub mod TakenQueries
+pub mod Depths

@@ -1,5 +1,5 @@
--- What the words of a printed query say, as tokens.
-use Rattle.std.specs.Prelude.{◌≡◌, ◌<◌, ◌^◌, ◌==◌, ◌⊎◌, ℕ, true, if◌then◌else◌, List, [], ◌∷◌, codes, length, None, false, Bool, not, ◌&&◌, ◌||◌, ◌++◌, ◌≤◌, max, suc, nat_le, map, fold, Option, Some}
+-- What the words of a printed query say, as tokens, and which queries are printed as texts that are accepted as them.
+use Rattle.std.specs.Prelude.{◌≡◌, ◌<◌, ◌^◌, ◌==◌, ◌⊎◌, ℕ, true, if◌then◌else◌, List, [], ◌∷◌, codes, length, None, false, Bool, not, ◌&&◌, ◌||◌, ◌++◌, ◌≤◌, max, suc, nat_le, map, fold, Option, Some, ◌-◌}
 use Rattle.std.specs.List.{flat_map, list_any}
 use Rattle.std.specs.Str.{bytes_eq}
 use Rattle.std.specs.Fmt.{decimal}
@@ -346,3 +346,30 @@ AcceptedIsPrintable = (text : List ℕ) (q : Query) → Accepted text q → IsPr
 -- the law: where some text is accepted as a query, what is printed of it is too, if at most 64 brackets are open at once
 abbrev pub SpellableIsAccepted : Type 0
 SpellableIsAccepted = (text : List ℕ) (q : Query) → Accepted text q → brackets q ≤ 64 → Accepted (printed_query q) q
+
+-- ---- the brackets of a text
+
+abbrev pub is_opening : Word → Bool
+is_opening (fixed text) = bytes_eq text (codes "{") || bytes_eq text (codes "(")
+is_opening (variable name) = false
+is_opening (term t) = false
+is_opening (number n) = false
+
+abbrev pub is_closing : Word → Bool
+is_closing (fixed text) = bytes_eq text (codes "}") || bytes_eq text (codes ")")
+is_closing (variable name) = false
+is_closing (term t) = false
+is_closing (number n) = false
+
+-- how many brackets are open behind a word
+abbrev pub behind_word : ℕ → Word → ℕ
+behind_word d word = if is_opening word then suc d else (if is_closing word then d - 1 else d)
+
+-- the most brackets that are open at once in words, where so many are open before them
+abbrev pub deepest : ℕ → List Word → ℕ
+deepest d [] = d
+deepest d (word ∷ words) = max d (deepest (behind_word d word) words)
+
+-- the law, by the brackets of the printed words
+abbrev pub PrintedTextIsAccepted : Type 0
+PrintedTextIsAccepted = (text : List ℕ) (q : Query) → Accepted text q → deepest 0 (query_words_of q) ≤ 64 → Accepted (printed_query q) q

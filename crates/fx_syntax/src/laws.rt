@@ -1,7 +1,7 @@
 //! Laws of the definitions, each the contract of a function that does nothing.
 ghost use Rattle.fx_syntax.specs.Accepted.{OneQuery};
 ghost use Rattle.fx_syntax.specs.Grammar as grammar;
-ghost use Rattle.fx_syntax.specs.Printable.{AcceptedIsPrintable, PatternQueryIsAccepted, PrintedIsAccepted, SpellableIsAccepted};
+ghost use Rattle.fx_syntax.specs.Printable.{AcceptedIsPrintable, PatternQueryIsAccepted, PrintedIsAccepted, PrintedTextIsAccepted, SpellableIsAccepted};
 ghost use Rattle.fx_syntax.specs.Rule.{ReadAsSpelled, RefusedForGood};
 
 /// A text is accepted as one query at most.
@@ -29,7 +29,8 @@ pub fn printed_is_accepted()
     ensures { PrintedIsAccepted }
 {}
 
-/// What is accepted as a query is one that the grammar has, in the sense of the law above.
+/// What is accepted as a query is one that the grammar has: its names, terms and numbers are those of their types, and its parts
+/// are as the grammar makes them.
 pub fn accepted_is_printable()
     ensures { AcceptedIsPrintable }
 {}
@@ -37,4 +38,9 @@ pub fn accepted_is_printable()
 /// Where some text is accepted as a query, its printed text is too, if at most 64 brackets are open at once in it.
 pub fn spellable_is_accepted()
     ensures { SpellableIsAccepted }
+{}
+
+/// The same by the brackets of the printed words: at most 64 of `{` and `(` are open at once.
+pub fn printed_text_is_accepted()
+    ensures { PrintedTextIsAccepted }
 {}

@@ -401,10 +401,6 @@ module _ (ps : Prefixes) where
   args_said es zero g f h = absurd (omega (arith, h))
   args_said es (suc n) g f h = all_nested n (map said (placed_words 0 es)) (values es) (parts_said 0 (omega arith) es n g (fine_separated (fixed (codes ",")) (placed_words 0 es) (fine_brackets (chained (fixed (codes ",")) 0 (map printed (values es))) f)) (omega (arith, h)))
 
-  among_tokens : Bool → List Token
-  among_tokens true = token_of.Plain k.Not ∷ token_of.Plain k.In ∷ []
-  among_tokens false = token_of.Plain k.In ∷ []
-
   -- IN or NOT IN, and a list
   among_relative : (a : Rule Expr) (b : Bool) (ts : List Token) (es : List Expr) → (grammar.list a).spells ts es → (grammar.among ps a).spells (said (among b) ++ ts) (relative.Among b es)
   unfolding grammar.among
@@ -613,9 +609,6 @@ module _ (ps : Prefixes) where
   call_bound a (e ∷ d ∷ es) h = absurd (cc (h))
 
   module _ (es : List Proved) where
-    ms : List Measured
-    ms = map measured (values es)
-
     ones : is_one (map measured (values es)) ≡ true → is_one (values es) ≡ true
     ones h = sym (one_map measured (values es)) ∙ h
 

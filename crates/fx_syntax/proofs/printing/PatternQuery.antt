@@ -27,12 +27,6 @@ use Rattle.fx_syntax.proofs.printing.Accepting.{accepted_so}
 use Rattle.fx_syntax.proofs.printing.Columns.{columns_read, once_once, once_names, names_both, fine_columns, calm_columns, named, selected_said}
 
 module _ (p : Pattern) where
-  columns : List (List ℕ)
-  columns = once (pattern_names p)
-
-  one_group : Group
-  one_group = roll-Group (record { elements = element.Triple p ∷ [] })
-
   words : List Word
   words = fixed (codes "SELECT") ∷ (column_words (once (pattern_names p)) ++ (fixed (codes "WHERE") ∷ fixed (codes "{") ∷ (pattern_words p ++ fixed (codes "}") ∷ [])))
 

@@ -31,7 +31,7 @@ use Rattle.fx_syntax.proofs.printing.Accepting.{accepted_so}
 use Rattle.fx_syntax.proofs.printing.Columns.{columns_read, calm_columns, named, selected_said}
 use Rattle.fx_syntax.proofs.printing.Expressions.{fine_split, said_brackets, fine_brackets, law}
 use Rattle.fx_syntax.proofs.printing.Blocks.{block_passes, block_said}
-use Rattle.fx_syntax.proofs.printing.Groups.{OfGroup, group_law, group_passes, serve_more, whole_said}
+use Rattle.fx_syntax.proofs.printing.Groups.{group_law, group_passes, serve_more, whole_said}
 
 -- ---- what is asked for
 
@@ -222,12 +222,6 @@ inline_passes (Some inline) = passes_behind false (block_nest inline) (token_of.
 -- ---- the query
 
 module _ (q : Query) (h : IsPrintable q) (b : brackets q ≤ 64) where
-  of_group : OfGroup [] (group_words q.group) (held q.group) q.group
-  of_group = group_law [] q.group
-
-  group_part : List Token
-  group_part = said (group_words q.group)
-
   parts_of : said (query_words q) ≡ said (form_words q.form) ++ (said (group_words q.group) ++ (said (order_words q.order) ++ (said (limit_words q.limit) ++ (said (offset_words q.offset) ++ said (trailing_words q.inline)))))
   unfolding query_words
   parts_of =
@@ -279,9 +273,6 @@ module _ (q : Query) (h : IsPrintable q) (b : brackets q ≤ 64) where
 
   main_of : Main
   main_of = record { head = head_of q.form; group = q.group; modifiers = record { order = q.order; limits = grammar.limits_or limited.value } }
-
-  behind_group : List Token
-  behind_group = said (order_words q.order) ++ (said (limit_words q.limit) ++ said (offset_words q.offset))
 
   modifiers_said : (grammar.modifiers []).spells (said (order_words q.order) ++ (said (limit_words q.limit) ++ said (offset_words q.offset))) (record { order = q.order; limits = grammar.limits_or limited.value })
   unfolding grammar.modifiers
