@@ -194,6 +194,30 @@ fn a_printed_query_is_read_as_it(rt: HostRuntime) -> Result<(), Fail> {
         let printed = printed_again(rt.alloc(), text).ok_or("no query")?;
         assert_eq!(rt; printed.as_str(), text);
     }
+    // Texts that are written otherwise.
+    for (text, want) in [
+        (
+            "SELECT ?a { ?a ?b ?c } OFFSET 0",
+            "SELECT ?a WHERE { ?a ?b ?c . }",
+        ),
+        (
+            "SELECT * { ?x a <http://e/C> ; <http://e/p> 1 , -2 }",
+            "SELECT ?x WHERE { ?x <http://www.w3.org/1999/02/22-rdf-syntax-ns#type> <http://e/C> . ?x <http://e/p> \"1\"^^<http://www.w3.org/2001/XMLSchema#integer> . ?x <http://e/p> \"-2\"^^<http://www.w3.org/2001/XMLSchema#integer> . }",
+        ),
+        (
+            "ASK { FILTER ( ?a -1 * ?b = ?c ) }",
+            "ASK WHERE { FILTER ( ?a + \"-1\"^^<http://www.w3.org/2001/XMLSchema#integer> * ?b = ?c ) }",
+        ),
+        (
+            "SELECT REDUCED ?a ?a { } LIMIT 007",
+            "SELECT ?a WHERE { } LIMIT 7",
+        ),
+    ] {
+        let printed = printed_again(rt.alloc(), text).ok_or("no query")?;
+        assert_eq!(rt; printed.as_str(), want);
+        let again = printed_again(rt.alloc(), want).ok_or("no query")?;
+        assert_eq!(rt; again.as_str(), want);
+    }
     Ok(())
 }
 
