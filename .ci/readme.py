@@ -4,6 +4,7 @@ A block of README.md that begins with ```console has lines "$ COMMAND", each wit
 and standard error below it, and perhaps "[status N]" as its last line; without that the status is 0."""
 import os
 import re
+import shutil
 import subprocess
 import sys
 
@@ -31,6 +32,9 @@ def main():
     # The program is built first, so that no command prints that it is being built.
     subprocess.run(["./fedx"], cwd=top, capture_output=True)
     failed = 0
+    if shutil.which("curl") is None:
+        print("README.md: examples/ask.sh isn't run, since curl isn't there")
+        wanted = [(command, lines) for command, lines in wanted if command != "examples/ask.sh"]
     for command, lines in wanted:
         status = 0
         if lines and (ended := re.fullmatch(r"\[status (\d+)\]", lines[-1])):

@@ -76,7 +76,7 @@ registry_written before r q (registry.Refused (error.RepeatedUrl n)) old new h =
 registry_written before r q (registry.Refused error.Memory) old new h = h
 registry_written before r q registry.Memory old new h = h
 
-a_registry : (r : FileRead) (es : List EndpointParts) → GivesRegistry r (Ok es) → IsRegistryFile r
+pub a_registry : (r : FileRead) (es : List EndpointParts) → GivesRegistry r (Ok es) → IsRegistryFile r
 a_registry r es h = pick r.content h
   where
     pick : (o : Option (List ℕ)) → IfSome o (λ all. (length all ≤ REGISTRY_LIMIT) × (read_registry all ≡ Ok es)) → IfSome o (λ all. (length all ≤ REGISTRY_LIMIT) × ((es : List EndpointParts) × (read_registry all ≡ Ok es)))
@@ -90,7 +90,7 @@ query_that q asked P p h = pick q.content h
     pick None h = tt
     pick (Some all) h = (h.0, (asked, h.1, p))
 
-a_member : (r : FileRead) (es : List EndpointParts) (e : EndpointParts) (at : ℕ) → GivesRegistry r (Ok es) → slice_get es at ≡ Some e → IsMember r e
+pub a_member : (r : FileRead) (es : List EndpointParts) (e : EndpointParts) (at : ℕ) → GivesRegistry r (Ok es) → slice_get es at ≡ Some e → IsMember r e
 a_member r es e at h k = pick r.content h
   where
     pick : (o : Option (List ℕ)) → IfSome o (λ all. (length all ≤ REGISTRY_LIMIT) × (read_registry all ≡ Ok es)) → IfSome o (λ all. (es : List EndpointParts) × (at : ℕ) × (read_registry all ≡ Ok es) × (slice_get es at ≡ Some e))
@@ -131,13 +131,13 @@ named es at e h = ap name_of h
 
 pub fed_reported : (before after : Seen) (es : List EndpointParts) (e : FedError) → IsRefused before after es e → IsAskReported before after es (fed_status_of e) (fed_line es e)
 fed_reported before after es (fed.Member at) h = (h.0, at, h.1, h.2, ap member_failed (named es at h.0 h.1))
-fed_reported before after es (fed.BadReply at) h = (h.0, at, h.1, h.2, ap bad_reply (named es at h.0 h.1))
+fed_reported before after es (fed.BadReply at why) h = (h.0, at, why, h.1, h.2, ap (λ n. bad_reply n why) (named es at h.0 h.1))
 fed_reported before after es (fed.RequestTooLong at size) h = (h.0, at, size, h.1, h.2, ap (λ n. request_too_long n size) (named es at h.0 h.1))
 fed_reported before after es fed.Memory h = refl
 
 pub fed_written : (before : Seen) (es : List EndpointParts) (q : Query) (e : FedError) (old new : List ℕ) → new ≡ old → IsAskWritten before es q (fed_status_of e) old new
 fed_written before es q (fed.Member at) old new h = h
-fed_written before es q (fed.BadReply at) old new h = h
+fed_written before es q (fed.BadReply at why) old new h = h
 fed_written before es q (fed.RequestTooLong at size) old new h = h
 fed_written before es q fed.Memory old new h = h
 
@@ -148,13 +148,14 @@ ask_reported before after r q es asked status.Done text g h p k = (a_registry r 
 ask_reported before after r q es asked status.WriteFault text g h p k = (a_registry r es g, query_that q asked IsPlain p h, k)
 ask_reported before after r q es asked status.NoMemory text g h p k = k
 ask_reported before after r q es asked status.EndpointFault text g h p k = (query_that q asked IsPlain p h, (k.0, a_member r es k.0 k.1 g k.2, k.3, k.4))
-ask_reported before after r q es asked status.BadReply text g h p k = (query_that q asked IsPlain p h, (k.0, a_member r es k.0 k.1 g k.2, k.3, k.4))
+ask_reported before after r q es asked status.BadReply text g h p k = (query_that q asked IsPlain p h, (k.0, k.2, a_member r es k.0 k.1 g k.3, k.4, k.5))
 ask_reported before after r q es asked status.RequestTooLong text g h p k = (query_that q asked IsPlain p h, (k.0, k.2, a_member r es k.0 k.1 g k.3, k.4, k.5))
 ask_reported before after r q es asked status.Usage text g h p k = absurd k
 ask_reported before after r q es asked status.GraphRefused text g h p k = absurd k
 ask_reported before after r q es asked status.RegistryRefused text g h p k = absurd k
 ask_reported before after r q es asked status.QueryRefused text g h p k = absurd k
 ask_reported before after r q es asked status.UnknownService text g h p k = absurd k
+ask_reported before after r q es asked status.DoorFault text g h p k = absurd k
 ask_reported before after r q es asked status.ReadFault text g h p k = absurd k
 ask_reported before after r q es asked status.FileTooLong text g h p k = absurd k
 
@@ -181,5 +182,6 @@ ask_written before r q es asked status.GraphRefused old new g h p k = k
 ask_written before r q es asked status.RegistryRefused old new g h p k = k
 ask_written before r q es asked status.QueryRefused old new g h p k = k
 ask_written before r q es asked status.UnknownService old new g h p k = k
+ask_written before r q es asked status.DoorFault old new g h p k = k
 ask_written before r q es asked status.ReadFault old new g h p k = k
 ask_written before r q es asked status.FileTooLong old new g h p k = k

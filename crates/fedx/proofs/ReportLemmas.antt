@@ -7,12 +7,14 @@ use Rattle.fedx.specs.declared.refusals.Refusal.{Refusal}
 use Rattle.fedx.specs.declared.refusals.Refusal.TheVariants as refusal
 use Rattle.fedx.specs.declared.statuses.Status.TheVariants as status
 use Rattle.fx_wire.specs.Exchanges.{Seen}
-use Rattle.fedx.specs.Commands.{Asked, over_file, over_members}
+use Rattle.fedx.specs.Commands.{Asked, over_file, over_members, planned, served}
+use Rattle.fedx.specs.Explain.{IsExplainReported, IsExplainWritten}
 use Rattle.fedx.specs.Files.{FileRead, IsQueryThat}
 use Rattle.fedx.specs.Lines.{usage_line, no_memory}
 use Rattle.fedx.specs.Local.{IsReported, IsWritten, HasLines}
 use Rattle.fedx.specs.declared.local.Report.{Report}
 use Rattle.fedx.specs.Query.{IsQueryReported, IsQueryWritten}
+use Rattle.fedx.specs.Serving.{DoorSeen, IsMemberReported}
 use Rattle.fedx.specs.Runs.{OnFirst, Reports, Writes}
 use Rattle.fedx.specs.declared.statuses.Status.{Status}
 use Rattle.fedx.specs.LocalSteps.{GivesAnswer, IsLineReported, IsDocumentWritten, refusal_line}
@@ -34,14 +36,16 @@ reported g q (refusal.Query query.Memory) h = refl
 reported g q (refusal.UnknownService iri) h = (h.0, (iri, h.1, refl))
 reported g q refusal.Memory h = refl
 
-pub usage_reported : (read : List ℕ → FileRead) (before after : Seen) (asked : Option Asked) → asked ≡ None → Reports read before after asked status.Usage usage_line
-usage_reported read before after None h = refl
-usage_reported read before after (Some a) h = cc
+pub usage_reported : (read : List ℕ → FileRead) (before after : Seen) (door later : DoorSeen) (asked : Option Asked) → asked ≡ None → Reports read before after door later asked status.Usage usage_line
+usage_reported read before after door later None h = refl
+usage_reported read before after door later (Some a) h = cc
 
-pub memory_reported : (read : List ℕ → FileRead) (before after : Seen) (asked : Option Asked) → Reports read before after asked status.NoMemory no_memory
-memory_reported read before after None = refl
-memory_reported read before after (Some (over_file g q)) = refl
-memory_reported read before after (Some (over_members r q)) = refl
+pub memory_reported : (read : List ℕ → FileRead) (before after : Seen) (door later : DoorSeen) (asked : Option Asked) → Reports read before after door later asked status.NoMemory no_memory
+memory_reported read before after door later None = refl
+memory_reported read before after door later (Some (over_file g q)) = refl
+memory_reported read before after door later (Some (over_members r q)) = refl
+memory_reported read before after door later (Some (planned r q)) = refl
+memory_reported read before after door later (Some (served g a n)) = inl refl
 
 -- ---- reports of `local`
 
@@ -55,6 +59,7 @@ lines_reported g q r status.EndpointFault text h k = absurd k
 lines_reported g q r status.BadReply text h k = absurd k
 lines_reported g q r status.UnknownService text h k = absurd k
 lines_reported g q r status.RequestTooLong text h k = absurd k
+lines_reported g q r status.DoorFault text h k = absurd k
 lines_reported g q r status.GraphRefused text h k = absurd k
 lines_reported g q r status.QueryRefused text h k = absurd k
 lines_reported g q r status.ReadFault text h k = absurd k
@@ -70,6 +75,7 @@ document_written g q r status.EndpointFault old new h k = absurd k
 document_written g q r status.BadReply old new h k = absurd k
 document_written g q r status.UnknownService old new h k = absurd k
 document_written g q r status.RequestTooLong old new h k = absurd k
+document_written g q r status.DoorFault old new h k = absurd k
 document_written g q r status.GraphRefused old new h k = absurd k
 document_written g q r status.QueryRefused old new h k = absurd k
 document_written g q r status.ReadFault old new h k = absurd k
@@ -77,11 +83,20 @@ document_written g q r status.FileTooLong old new h k = absurd k
 
 -- ---- over members
 
-pub members_reported : (read : List ℕ → FileRead) (before after : Seen) (asked : Option Asked) (r q : List ℕ) (s : Status) (text : List ℕ) → asked ≡ Some (over_members r q) → IsQueryReported before after (read r) (read q) s text → Reports read before after asked s text
-members_reported read before after asked r q s text is h = subst (λ o. Reports read before after o s text) (sym is) h
+pub members_reported : (read : List ℕ → FileRead) (before after : Seen) (door later : DoorSeen) (asked : Option Asked) (r q : List ℕ) (s : Status) (text : List ℕ) → asked ≡ Some (over_members r q) → IsQueryReported before after (read r) (read q) s text → Reports read before after door later asked s text
+members_reported read before after door later asked r q s text is h = subst (λ o. Reports read before after door later o s text) (sym is) h
+
+pub plan_reported : (read : List ℕ → FileRead) (before after : Seen) (door later : DoorSeen) (asked : Option Asked) (r q : List ℕ) (s : Status) (text : List ℕ) → asked ≡ Some (planned r q) → IsExplainReported before after (read r) (read q) s text → Reports read before after door later asked s text
+plan_reported read before after door later asked r q s text is h = subst (λ o. Reports read before after door later o s text) (sym is) h
+
+pub serving_reported : (read : List ℕ → FileRead) (before after : Seen) (door later : DoorSeen) (asked : Option Asked) (g a : List ℕ) (n : ℕ) (s : Status) (text : List ℕ) → asked ≡ Some (served g a n) → IsMemberReported (read g) door later a n s text → Reports read before after door later asked s text
+serving_reported read before after door later asked g a n s text is h = subst (λ o. Reports read before after door later o s text) (sym is) h
 
 pub members_written : (read : List ℕ → FileRead) (before : Seen) (asked : Option Asked) (r q : List ℕ) (s : Status) (old new : List ℕ) → asked ≡ Some (over_members r q) → IsQueryWritten before (read r) (read q) s old new → Writes read before asked s old new
 members_written read before asked r q s old new is h = subst (λ o. Writes read before o s old new) (sym is) h
+
+pub plan_written : (read : List ℕ → FileRead) (before : Seen) (asked : Option Asked) (r q : List ℕ) (s : Status) (old new : List ℕ) → asked ≡ Some (planned r q) → IsExplainWritten before (read r) (read q) s old new → Writes read before asked s old new
+plan_written read before asked r q s old new is h = subst (λ o. Writes read before o s old new) (sym is) h
 
 -- what holds of the item at the front holds of the first
 pub on_first : {W : Type 0} (P : W → W → Type 0) (wires : List W) (other later : W) → P (slice_index_or wires 0 other) later → OnFirst wires (slice_set wires 0 later) P

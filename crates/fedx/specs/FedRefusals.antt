@@ -9,7 +9,7 @@ use Rattle.fedx.specs.Lines.{member_failed, bad_reply, request_too_long, no_memo
 
 abbrev pub fed_status_of : FedError → Status
 fed_status_of (fed.Member at) = status.EndpointFault
-fed_status_of (fed.BadReply at) = status.BadReply
+fed_status_of (fed.BadReply at why) = status.BadReply
 fed_status_of (fed.RequestTooLong at size) = status.RequestTooLong
 fed_status_of fed.Memory = status.NoMemory
 
@@ -23,6 +23,6 @@ name_at endpoints at = name_of (slice_get endpoints at)
 
 abbrev pub fed_line : List EndpointParts → FedError → List ℕ
 fed_line endpoints (fed.Member at) = member_failed (name_at endpoints at)
-fed_line endpoints (fed.BadReply at) = bad_reply (name_at endpoints at)
+fed_line endpoints (fed.BadReply at why) = bad_reply (name_at endpoints at) why
 fed_line endpoints (fed.RequestTooLong at size) = request_too_long (name_at endpoints at) size
 fed_line endpoints fed.Memory = no_memory

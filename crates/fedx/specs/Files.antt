@@ -57,6 +57,14 @@ IsRegistryFile f = IfSome f.content (λ all. (length all ≤ REGISTRY_LIMIT) × 
 abbrev pub IsNoRegistry : FileRead → RegistryError → Type 0
 IsNoRegistry f e = IfSome f.content (λ all. (length all ≤ REGISTRY_LIMIT) × (read_registry all ≡ Err e))
 
+-- where the content is told, it is within its limit, and these are the registry's endpoints
+abbrev pub IsRegistryOf : FileRead → List EndpointParts → Type 0
+IsRegistryOf f es = IfSome f.content (λ all. (length all ≤ REGISTRY_LIMIT) × (read_registry all ≡ Ok es))
+
+-- where the content is told, it is within its limit and accepted as this query
+abbrev pub IsQueryOf : FileRead → Query → Type 0
+IsQueryOf f q = IfSome f.content (λ all. (length all ≤ QUERY_LIMIT) × Accepted all q)
+
 -- where the content is told, the registry has this endpoint
 abbrev pub IsMember : FileRead → EndpointParts → Type 0
 IsMember f e = IfSome f.content (λ all. (es : List EndpointParts) × (at : ℕ) × (read_registry all ≡ Ok es) × (slice_get es at ≡ Some e))

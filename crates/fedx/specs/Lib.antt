@@ -1,4 +1,6 @@
 pub mod Commands
+pub mod Explain
+pub mod ExplainSteps
 pub mod FedRefusals
 pub mod Files
 pub mod Lines
@@ -10,3 +12,5 @@ pub mod RefusalStatuses
 pub mod Runs
 pub mod Services
 pub mod Statuses
+pub mod Serving
+pub mod ServingSteps

@@ -1,5 +1,7 @@
 -- Lines on standard error.
 use Rattle.std.specs.Prelude.{◌≡◌, ℕ, List, [], ◌∷◌, ◌++◌, codes}
+use Rattle.std.specs.Borrow.{Bor}
+use Rattle.std.specs.List.{flat_map}
 use Rattle.std.specs.Fmt.{decimal}
 use Rattle.fx_outside.specs.Faults.{HasRisen}
 use Rattle.fx_outside.specs.Streams.{AppendsFront}
@@ -7,6 +9,8 @@ use Rattle.fx_ntriples.specs.declared.faults.NtError.{NtError}
 use Rattle.fx_ntriples.specs.declared.faults.NtError.TheVariants as graph
 use Rattle.fx_sources.specs.declared.errors.RegistryError.{RegistryError}
 use Rattle.fx_sources.specs.declared.errors.RegistryError.TheVariants as registry
+use Rattle.fx_engine.specs.FaultTexts.{fault_text}
+use Rattle.fx_engine.specs.declared.errors.ReplyFault.{ReplyFault}
 use Rattle.fx_syntax.specs.Refused.{kind_name}
 use Rattle.fx_syntax.specs.declared.kinds.SyntaxKind.{SyntaxKind}
 
@@ -63,7 +67,7 @@ graph_refused (graph.Blank row column) = codes "graph refused: Blank at " ++ pla
 graph_refused (graph.Relative row column) = codes "graph refused: Relative at " ++ place row column
 graph_refused graph.Memory = no_memory
 
--- ---- lines of `query`
+-- ---- lines of `query` and `explain`
 
 -- a refusal of the registry, and the line that it stands at
 abbrev pub refused_at : List ℕ → ℕ → List ℕ
@@ -82,8 +86,18 @@ registry_too_long name = query_too_long name
 abbrev pub member_failed : List ℕ → List ℕ
 member_failed name = codes "member " ++ (name ++ line (codes " failed"))
 
-abbrev pub bad_reply : List ℕ → List ℕ
-bad_reply name = codes "bad reply from " ++ (name ++ line (codes ": NotFirst"))
+-- why a reply isn't read
+abbrev pub bad_reply : List ℕ → ReplyFault → List ℕ
+bad_reply name why = codes "bad reply from " ++ (name ++ (codes ": " ++ line (fault_text why)))
 
 abbrev pub request_too_long : List ℕ → ℕ → List ℕ
 request_too_long name size = codes "request for " ++ (name ++ (codes " has " ++ (decimal size ++ line (codes " bytes"))))
+
+-- ---- lines of `member`
+
+abbrev pub cannot_serve : List ℕ
+cannot_serve = line (codes "cannot serve")
+
+-- pieces, one behind the other
+abbrev pub all_pieces : List (Bor (List ℕ)) → List ℕ
+all_pieces pieces = flat_map (λ (piece : Bor (List ℕ)). piece.now) pieces

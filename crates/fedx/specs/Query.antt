@@ -14,6 +14,7 @@ use Rattle.fx_sources.specs.declared.errors.RegistryError.{RegistryError}
 use Rattle.fx_wire.specs.Exchanges.{Seen}
 use Rattle.fx_engine.specs.Federation.{Tells}
 use Rattle.fx_engine.specs.Federation as member
+use Rattle.fx_engine.specs.declared.errors.ReplyFault.{ReplyFault}
 use Rattle.fedx.specs.declared.limits.TheConstants.{QUERY_LIMIT, REGISTRY_LIMIT}
 use Rattle.fedx.specs.declared.statuses.Status.{Status}
 use Rattle.fedx.specs.declared.statuses.Status.TheVariants as status
@@ -56,10 +57,11 @@ IsQueryReported before after r q status.GraphRefused text = ⊥
 IsQueryReported before after r q status.RegistryRefused text = (e : RegistryError) × IsNoRegistry r e × (text ≡ registry_refused e)
 IsQueryReported before after r q status.QueryRefused text = IsRegistryFile r × (((kind : SyntaxKind) × (at : ℕ) × IsNoQuery q kind at × (text ≡ query_refused kind at)) ⊎ (IsQueryThat q IsOther × (text ≡ not_built)))
 IsQueryReported before after r q status.UnknownService text = ⊥
+IsQueryReported before after r q status.DoorFault text = ⊥
 IsQueryReported before after r q status.ReadFault text = (HasFailed r × (text ≡ cannot_read r.name)) ⊎ (IsRegistryFile r × HasFailed q × (text ≡ cannot_read q.name))
 IsQueryReported before after r q status.FileTooLong text = (IsTooLong REGISTRY_LIMIT r × (text ≡ registry_too_long r.name)) ⊎ (IsRegistryFile r × IsTooLong QUERY_LIMIT q × (text ≡ query_too_long q.name))
 IsQueryReported before after r q status.EndpointFault text = IsQueryThat q IsPlain × ((e : EndpointParts) × IsMember r e × member.HasFailed before after e × (text ≡ member_failed e.name))
-IsQueryReported before after r q status.BadReply text = IsQueryThat q IsPlain × ((e : EndpointParts) × IsMember r e × member.HasBadReply before after e × (text ≡ bad_reply e.name))
+IsQueryReported before after r q status.BadReply text = IsQueryThat q IsPlain × ((e : EndpointParts) × (why : ReplyFault) × IsMember r e × member.HasBadReply before after why e × (text ≡ bad_reply e.name why))
 IsQueryReported before after r q status.RequestTooLong text = IsQueryThat q IsPlain × ((e : EndpointParts) × (size : ℕ) × IsMember r e × (67108864 < size) × (text ≡ request_too_long e.name size))
 
 -- what each status leaves on standard output: the document, a front of it where a write failed, and else nothing new
@@ -72,6 +74,7 @@ IsQueryWritten before r q status.GraphRefused old new = new ≡ old
 IsQueryWritten before r q status.RegistryRefused old new = new ≡ old
 IsQueryWritten before r q status.QueryRefused old new = new ≡ old
 IsQueryWritten before r q status.UnknownService old new = new ≡ old
+IsQueryWritten before r q status.DoorFault old new = new ≡ old
 IsQueryWritten before r q status.ReadFault old new = new ≡ old
 IsQueryWritten before r q status.FileTooLong old new = new ≡ old
 IsQueryWritten before r q status.EndpointFault old new = new ≡ old

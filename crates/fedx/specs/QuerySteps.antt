@@ -11,6 +11,7 @@ use Rattle.fx_wire.specs.Exchanges.{Seen}
 use Rattle.fx_engine.specs.Federation.{IsRefused}
 use Rattle.fx_engine.specs.Federation as member
 use Rattle.fx_engine.specs.declared.errors.FedError.{FedError}
+use Rattle.fx_engine.specs.declared.errors.ReplyFault.{ReplyFault}
 use Rattle.fedx.specs.declared.limits.TheConstants.{REGISTRY_LIMIT}
 use Rattle.fedx.specs.declared.refusals.RegistryRefusal.{RegistryRefusal}
 use Rattle.fedx.specs.declared.refusals.RegistryRefusal.TheVariants as refusal
@@ -47,7 +48,7 @@ IsAskReported before after endpoints status.Done text = text ≡ []
 IsAskReported before after endpoints status.WriteFault text = text ≡ []
 IsAskReported before after endpoints status.NoMemory text = text ≡ no_memory
 IsAskReported before after endpoints status.EndpointFault text = (e : EndpointParts) × (at : ℕ) × (slice_get endpoints at ≡ Some e) × member.HasFailed before after e × (text ≡ member_failed e.name)
-IsAskReported before after endpoints status.BadReply text = (e : EndpointParts) × (at : ℕ) × (slice_get endpoints at ≡ Some e) × member.HasBadReply before after e × (text ≡ bad_reply e.name)
+IsAskReported before after endpoints status.BadReply text = (e : EndpointParts) × (at : ℕ) × (why : ReplyFault) × (slice_get endpoints at ≡ Some e) × member.HasBadReply before after why e × (text ≡ bad_reply e.name why)
 IsAskReported before after endpoints status.RequestTooLong text = (e : EndpointParts) × (at : ℕ) × (size : ℕ) × (slice_get endpoints at ≡ Some e) × (67108864 < size) × (text ≡ request_too_long e.name size)
 IsAskReported before after endpoints s text = ⊥
 

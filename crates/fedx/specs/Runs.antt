@@ -3,11 +3,13 @@ use Rattle.std.specs.Prelude.{◌≡◌, ℕ, List, ◌∷◌, Option, Some, Non
 use Rattle.fx_wire.specs.Exchanges.{Seen}
 use Rattle.fedx.specs.declared.statuses.Status.{Status}
 use Rattle.fedx.specs.declared.statuses.Status.TheVariants as status
-use Rattle.fedx.specs.Commands.{Asked, over_file, over_members}
+use Rattle.fedx.specs.Commands.{Asked, over_file, over_members, planned, served}
+use Rattle.fedx.specs.Explain.{IsExplainReported, IsExplainWritten}
 use Rattle.fedx.specs.Files.{FileRead}
 use Rattle.fedx.specs.Lines.{usage_line, no_memory}
 use Rattle.fedx.specs.Local.{IsReported, IsWritten}
 use Rattle.fedx.specs.Query.{IsQueryReported, IsQueryWritten}
+use Rattle.fedx.specs.Serving.{DoorSeen, IsMemberReported}
 
 -- words that are no command give the usage line, unless memory ran out
 abbrev pub IsRefused : Status → List ℕ → Type 0
@@ -16,16 +18,20 @@ IsRefused status.NoMemory text = text ≡ no_memory
 IsRefused s text = ⊥
 
 -- what a run reports, by the files that its words name, if they are a command
-abbrev pub Reports : (List ℕ → FileRead) → Seen → Seen → Option Asked → Status → List ℕ → Type 0
-Reports read before after None s text = IsRefused s text
-Reports read before after (Some (over_file graph query)) s text = IsReported (read graph) (read query) s text
-Reports read before after (Some (over_members registry query)) s text = IsQueryReported before after (read registry) (read query) s text
+abbrev pub Reports : (List ℕ → FileRead) → Seen → Seen → DoorSeen → DoorSeen → Option Asked → Status → List ℕ → Type 0
+Reports read before after door later None s text = IsRefused s text
+Reports read before after door later (Some (over_file graph query)) s text = IsReported (read graph) (read query) s text
+Reports read before after door later (Some (over_members registry query)) s text = IsQueryReported before after (read registry) (read query) s text
+Reports read before after door later (Some (planned registry query)) s text = IsExplainReported before after (read registry) (read query) s text
+Reports read before after door later (Some (served graph address count)) s text = IsMemberReported (read graph) door later address count s text
 
 -- what a run leaves on standard output
 abbrev pub Writes : (List ℕ → FileRead) → Seen → Option Asked → Status → List ℕ → List ℕ → Type 0
 Writes read before None s old new = new ≡ old
 Writes read before (Some (over_file graph query)) s old new = IsWritten (read graph) (read query) s old new
 Writes read before (Some (over_members registry query)) s old new = IsQueryWritten before (read registry) (read query) s old new
+Writes read before (Some (planned registry query)) s old new = IsExplainWritten before (read registry) (read query) s old new
+Writes read before (Some (served graph address count)) s old new = new ≡ old
 
 -- the first wire alone is used: what it is before and after
 abbrev pub OnFirst : {W : Type 0} → List W → List W → (W → W → Type 0) → Type 0

@@ -1,6 +1,6 @@
 //! Command lines.
 ghost use Rattle.std.specs.Prelude.{◌≡◌, ◌∷◌, ℕ, List, None, IfOk, IsErrOf, map, option_and_then, string_bytes};
-ghost use Rattle.std.specs.Str.{bytes_eq};
+ghost use Rattle.std.specs.Str.{all_ascii_digits, bytes_eq};
 ghost use Rattle.fedx.specs.Commands.{behind};
 ghost use Rattle.fedx.specs.Commands as spec;
 
@@ -10,9 +10,26 @@ use std::alloc::{AllocFailed, Global};
 #[derive(Clone, Copy, Debug)]
 pub enum Command<'a> {
     /// Answers the query of a file over the graph of a file.
-    Local { graph: &'a str, query: &'a str },
+    Local {
+        graph: &'a str,
+        query: &'a str,
+    },
     /// Answers the query of a file over the members of the registry of a file.
-    Query { registry: &'a str, query: &'a str },
+    Query {
+        registry: &'a str,
+        query: &'a str,
+    },
+    /// Prints the plan of the query of a file over the members of the registry of a file.
+    Explain {
+        registry: &'a str,
+        query: &'a str,
+    },
+    /// Serves the graph of a file at an address, for so many connections.
+    Member {
+        graph: &'a str,
+        address: &'a str,
+        count: u64,
+    },
 }
 
 /// Why words are no command.
@@ -55,7 +72,89 @@ pub fn read_command(alloc: Global, words: &[String]) -> Result<Command<'_>, Comm
             Err(error) => Err(error),
         };
     }
+    if is_explain(command.as_str()) {
+        return match files_of(alloc, rest) {
+            Ok((registry, query)) => Ok(Command::Explain { registry, query }),
+            Err(error) => Err(error),
+        };
+    }
+    if is_member(command.as_str()) {
+        return member_of(alloc, rest);
+    }
     Err(CommandError::Usage)
+}
+
+// The serving that words ask for: a graph's file, an address, and a count, without which there is no end.
+fn member_of(alloc: Global, words: &[String]) -> Result<Command<'_>, CommandError>
+    ensures { spec.GivesCommand result (option_and_then spec.member_asked (spec.positionals (map (λ w. string_bytes w) words.now))) }
+{
+    let parts = positionals(alloc, words)?;
+    member_parts(parts.as_slice())
+}
+
+fn member_parts<'a>(words: &[&'a str]) -> Result<Command<'a>, CommandError>
+    ensures { spec.GivesCommand result (spec.member_asked (spec.texts words.now)) }
+{
+    let Some((graph, rest)) = words.split_first() else {
+        return Err(CommandError::Usage);
+    };
+    let Some((address, rest)) = rest.split_first() else {
+        return Err(CommandError::Usage);
+    };
+    let Some((count, rest)) = rest.split_first() else {
+        return Ok(Command::Member {
+            graph,
+            address,
+            count: u64::MAX,
+        });
+    };
+    if let Some(_) = rest.split_first() {
+        return Err(CommandError::Usage);
+    }
+    match count_of(count) {
+        Some(count) => Ok(Command::Member {
+            graph,
+            address,
+            count,
+        }),
+        None => Err(CommandError::Usage),
+    }
+}
+
+// The number that a word is: 1 to 20 digits, at least 1 and within `u64`.
+fn count_of(word: &str) -> Option<u64>
+    ensures { result ≡ spec.count_of word.now }
+{
+    if !is_digits(word) {
+        return None;
+    }
+    match word.parse::<u64>() {
+        Ok(count) => nonzero(count),
+        Err(_) => None,
+    }
+}
+
+fn nonzero(count: u64) -> Option<u64>
+    ensures { result ≡ spec.in_range count }
+{
+    if count == 0 { None } else { Some(count) }
+}
+
+fn is_digits(word: &str) -> bool
+    ensures { result ≡ spec.is_digits word.now }
+{
+    !word.is_empty() && word.len() <= 20 && has_digits(word.as_bytes())
+}
+
+fn has_digits(bytes: &[u8]) -> bool
+    ensures { result ≡ all_ascii_digits bytes.now }
+{
+    for b in bytes {
+        if !b.is_ascii_digit() {
+            return false;
+        }
+    }
+    true
 }
 
 // The two files that words name.
@@ -76,6 +175,18 @@ fn is_query(word: &str) -> bool
     ensures { result ≡ bytes_eq word.now (spec.query_word) }
 {
     word == "query"
+}
+
+fn is_explain(word: &str) -> bool
+    ensures { result ≡ bytes_eq word.now (spec.explain_word) }
+{
+    word == "explain"
+}
+
+fn is_member(word: &str) -> bool
+    ensures { result ≡ bytes_eq word.now (spec.member_word) }
+{
+    word == "member"
 }
 
 fn two_files<'a>(words: &[&'a str]) -> Result<(&'a str, &'a str), CommandError>

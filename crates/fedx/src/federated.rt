@@ -1,7 +1,7 @@
 //! The command `query`.
-ghost use Rattle.std.specs.Prelude.{◌≡◌, ◌≤◌, true, All, IsTrue, List, ℕ};
+ghost use Rattle.std.specs.Prelude.{◌≡◌, ◌≤◌, [], IsTrue, List, ℕ};
 ghost use Rattle.fx_algebra.specs.Answers.{IsPlain};
-ghost use Rattle.fx_outside.specs.Endpoints.{is_sendable};
+ghost use Rattle.fx_engine.specs.Federation.{Federates};
 ghost use Rattle.fx_outside.specs.Faults.{HasRisen};
 ghost use Rattle.fx_wire.specs.Exchanges.{IsAfter, seen};
 ghost use Rattle.fedx.specs.Files.{file_read};
@@ -15,15 +15,17 @@ use crate::reports::{
     write_fed_error, write_not_built, write_query_refusal, write_registry_refusal,
 };
 use crate::statuses::Status;
-use fx_algebra::{Query, is_plain};
+use fx_algebra::{Answer, Query, is_plain};
 use fx_engine::{FedError, federate};
-use fx_outside::{Endpoint, Files, Sink, write_all};
+use fx_outside::{Files, Sink, write_all};
 use fx_results::write;
+use fx_sources::{AskCache, Registry};
 use fx_wire::Wire;
 use std::alloc::Global;
 
 /// Answers the query of a file over the members of the registry of a file, and writes the document on `out`, or the line of
-/// the refusal on `err`. The registry's file is read first. A query that isn't plain can't be answered over members yet, and
+/// the refusal on `err`. The registry's file is read first. Each member is asked first for which patterns it has anything, and then
+/// for the patterns for which it has. A query that isn't plain can't be answered over members yet, and
 /// is refused as `NotBuilt`.
 pub fn run_query<F: Files, W: Wire, O: Sink, E: Sink>(
     alloc: Global,
@@ -57,58 +59,73 @@ pub fn run_query<F: Files, W: Wire, O: Sink, E: Sink>(
                     write_not_built(err);
                     return Status::QueryRefused;
                 }
-                ask_members(alloc, members.endpoints(), &asked, wire, out, err)
+                ask_members(alloc, &members, &asked, wire, out, err)
             }
         },
     }
 }
 
-// Answers a query over endpoints, and writes the document, or the line of the refusal.
+// Answers a query over the members of a registry, and writes the document, or the line of the refusal.
 fn ask_members<W: Wire, O: Sink, E: Sink>(
     alloc: Global,
-    endpoints: &[Endpoint],
+    members: &Registry,
     query: &Query,
     wire: &mut W,
     out: &mut O,
     err: &mut E,
 ) -> Status
-    requires plain { IsPlain query.now }
-    requires sendable { All (λ e. is_sendable e ≡ true) endpoints.now }
-    ensures reported { (text : List ℕ) × IsAskReported (seen W.tells_log W.log W.graph W.faults wire.old) (seen W.tells_log W.log W.graph W.faults wire.new) endpoints.now result text × (IsTrue E.tells_held → Gains (E.held err.old) (E.held err.new) (E.write_faults err.old) (E.write_faults err.new) text) }
-    ensures written { IsTrue O.tells_held → IsAskWritten (seen W.tells_log W.log W.graph W.faults wire.old) endpoints.now query.now result (O.held out.old) (O.held out.new) }
+    requires { IsPlain query.now }
+    ensures reported { (text : List ℕ) × IsAskReported (seen W.tells_log W.log W.graph W.faults wire.old) (seen W.tells_log W.log W.graph W.faults wire.new) members.now result text × (IsTrue E.tells_held → Gains (E.held err.old) (E.held err.new) (E.write_faults err.old) (E.write_faults err.new) text) }
+    ensures written { IsTrue O.tells_held → IsAskWritten (seen W.tells_log W.log W.graph W.faults wire.old) members.now query.now result (O.held out.old) (O.held out.new) }
     ensures wired { IsAfter (seen W.tells_log W.log W.graph W.faults wire.old) (seen W.tells_log W.log W.graph W.faults wire.new) }
     ensures write_fault { result ≡ Status.WriteFault → HasRisen (O.write_faults out.old) (O.write_faults out.new) }
     ensures unfailed { ¬ (result ≡ Status.WriteFault) → O.write_faults out.new ≡ O.write_faults out.old }
 {
-    match union_document(alloc, endpoints, query, wire) {
+    match union_document(alloc, members, query, wire) {
         Ok(text) => match write_all(out, text.as_slice()) {
             Ok(()) => Status::Done,
             Err(_) => Status::WriteFault,
         },
         Err(error) => {
-            write_fed_error(err, endpoints, error);
+            write_fed_error(err, members.endpoints(), error);
             fed_status(error)
         }
     }
 }
 
-// The document of a query's answer over the union of the endpoints' graphs.
+// The document of a query's answer over the union of the members' graphs. The members are asked with a new cache.
 fn union_document<W: Wire>(
     alloc: Global,
-    endpoints: &[Endpoint],
+    members: &Registry,
     query: &Query,
     wire: &mut W,
 ) -> Result<Vec<u8>, FedError>
-    requires plain { IsPlain query.now }
-    requires sendable { All (λ e. is_sendable e ≡ true) endpoints.now }
-    ensures document { GivesUnionDocument (seen W.tells_log W.log W.graph W.faults wire.old) (seen W.tells_log W.log W.graph W.faults wire.new) endpoints.now query.now result }
+    requires { IsPlain query.now }
+    ensures document { GivesUnionDocument (seen W.tells_log W.log W.graph W.faults wire.old) (seen W.tells_log W.log W.graph W.faults wire.new) members.now query.now result }
     ensures wired { IsAfter (seen W.tells_log W.log W.graph W.faults wire.old) (seen W.tells_log W.log W.graph W.faults wire.new) }
 {
-    match federate(alloc, query, endpoints, wire) {
+    match union_answer(alloc, members, query, wire) {
         Err(error) => Err(error),
         Ok(answer) => match write(alloc, &answer) {
             Ok(text) => Ok(text),
             Err(_) => Err(FedError::Memory),
         },
+    }
+}
+
+// The answer of a query over the union of the members' graphs.
+fn union_answer<W: Wire>(
+    alloc: Global,
+    members: &Registry,
+    query: &Query,
+    wire: &mut W,
+) -> Result<Answer, FedError>
+    requires { IsPlain query.now }
+    ensures answer { Federates (seen W.tells_log W.log W.graph W.faults wire.old) (seen W.tells_log W.log W.graph W.faults wire.new) members.now query.now [] result }
+    ensures wired { IsAfter (seen W.tells_log W.log W.graph W.faults wire.old) (seen W.tells_log W.log W.graph W.faults wire.new) }
+{
+    match AskCache::new(alloc) {
+        Ok(mut cache) => federate(alloc, query, members, &mut cache, wire),
+        Err(_) => Err(FedError::Memory),
     }
 }

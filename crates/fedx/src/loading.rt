@@ -1,5 +1,5 @@
 //! Files, and the graph and the query that they hold.
-ghost use Rattle.std.specs.Prelude.{◌≡◌, ◌≤◌, ℕ, List};
+ghost use Rattle.std.specs.Prelude.{◌≡◌, ◌≤◌, ℕ, List, Ok};
 ghost use Rattle.fedx.specs.Files.{file_read};
 ghost use Rattle.fedx.specs.LocalSteps.{GivesFile, GivesGraph, GivesQuery};
 ghost use Rattle.fedx.specs.QuerySteps.{GivesRegistry};
@@ -10,12 +10,13 @@ use fx_algebra::Query;
 use fx_ntriples::read_graph;
 use fx_outside::{FileError, Files};
 use fx_sources::Registry;
+use fx_store::Store;
 use fx_syntax::{SyntaxError, parse};
 use fx_terms::Graph;
 use std::alloc::Global;
 
-/// The graph of a file.
-pub fn load_graph<F: Files>(alloc: Global, files: &mut F, name: &str) -> Result<Graph, GraphRefusal>
+// The graph of a file.
+fn load_graph<F: Files>(alloc: Global, files: &mut F, name: &str) -> Result<Graph, GraphRefusal>
     ensures outcome { GivesGraph (file_read F.content F.faults files.old files.new name.now) result }
     ensures kept { (other : List ℕ) → F.faults files.old other ≤ F.faults files.new other }
     ensures same { (other : List ℕ) → F.content files.new other ≡ F.content files.old other }
@@ -28,6 +29,28 @@ pub fn load_graph<F: Files>(alloc: Global, files: &mut F, name: &str) -> Result<
             Ok(graph) => Ok(graph),
             Err(error) => Err(GraphRefusal::Refused(error)),
         },
+    }
+}
+
+/// The graph of a file, in a store.
+pub fn load_store<F: Files>(alloc: Global, files: &mut F, name: &str) -> Result<Store, GraphRefusal>
+    ensures outcome { GivesGraph (file_read F.content F.faults files.old files.new name.now) result }
+    ensures kept { (other : List ℕ) → F.faults files.old other ≤ F.faults files.new other }
+    ensures same { (other : List ℕ) → F.content files.new other ≡ F.content files.old other }
+{
+    match load_graph(alloc, files, name) {
+        Err(refusal) => Err(refusal),
+        Ok(graph) => in_store(graph),
+    }
+}
+
+// A store of a graph, which takes no memory.
+fn in_store(graph: Graph) -> Result<Store, GraphRefusal>
+    ensures { result ≡ Ok graph }
+{
+    match Store::load(graph) {
+        Ok(store) => Ok(store),
+        Err(_) => unreachable!(),
     }
 }
 

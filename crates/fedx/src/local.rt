@@ -9,13 +9,14 @@ ghost use Rattle.fedx.specs.LocalSteps.{GivesAnswer, GivesDocument, GivesReport}
 ghost use Rattle.fedx.specs.Services as spec;
 ghost use Rattle.std.specs.Option.{option_copied};
 
-use crate::loading::{load_graph, load_query};
+use crate::loading::{load_query, load_store};
 use crate::refusals::Refusal;
 use fx_algebra::{Query, services};
 use fx_member::{MemberError, answer};
 use fx_outside::Files;
 use fx_results::write;
-use fx_terms::{Graph, Iri, Memory};
+use fx_store::Store;
+use fx_terms::{Iri, Memory};
 use std::alloc::Global;
 
 /// What a command writes where nothing is refused.
@@ -40,53 +41,53 @@ pub fn local<F: Files>(
     ensures kept { (other : List ℕ) → F.faults files.old other ≤ F.faults files.new other }
     ensures same { (other : List ℕ) → F.content files.new other ≡ F.content files.old other }
 {
-    match load_graph(alloc, files, graph) {
+    match load_store(alloc, files, graph) {
         Err(refusal) => Err(Refusal::Graph(refusal)),
-        Ok(graph) => answer_over(alloc, files, &graph, query),
+        Ok(store) => answer_over(alloc, files, &store, query),
     }
 }
 
 fn answer_over<F: Files>(
     alloc: Global,
     files: &mut F,
-    graph: &Graph,
+    store: &Store,
     query: &str,
 ) -> Result<Report, Refusal>
-    ensures outcome { GivesDocument graph.now (file_read F.content F.faults files.old files.new query.now) result }
+    ensures outcome { GivesDocument store.now (file_read F.content F.faults files.old files.new query.now) result }
     ensures kept { (other : List ℕ) → F.faults files.old other ≤ F.faults files.new other }
     ensures same { (other : List ℕ) → F.content files.new other ≡ F.content files.old other }
 {
     match load_query(alloc, files, query) {
         Err(refusal) => Err(Refusal::Query(refusal)),
-        Ok(query) => report_over(alloc, graph, &query),
+        Ok(query) => report_over(alloc, store, &query),
     }
 }
 
-// The document of a query's answer over a graph, and the lines behind it.
-fn report_over(alloc: Global, graph: &Graph, query: &Query) -> Result<Report, Refusal>
-    ensures { GivesReport graph.now query.now result }
+// The document of a query's answer over a store's graph, and the lines behind it.
+fn report_over(alloc: Global, store: &Store, query: &Query) -> Result<Report, Refusal>
+    ensures { GivesReport store.now query.now result }
 {
     let occurrences = services(alloc, query)?;
     if let Some(iri) = first_plain(occurrences.as_slice()) {
         return Err(Refusal::UnknownService(iri.copy()?));
     }
-    let document = document(alloc, graph, query, occurrences.as_slice())?;
+    let document = document(alloc, store, query, occurrences.as_slice())?;
     let lines = silent_lines(alloc, occurrences.as_slice())?;
     Ok(Report { document, lines })
 }
 
-// The document of a query's answer over a graph, where all its occurrences of SERVICE are down.
+// The document of a query's answer over a store's graph, where all its occurrences of SERVICE are down.
 fn document(
     alloc: Global,
-    graph: &Graph,
+    store: &Store,
     query: &Query,
     occurrences: &[(Iri, bool)],
 ) -> Result<Vec<u8>, Memory>
     requires { occurrences.now ≡ services_of query.now }
-    ensures { IfOk result (λ text. text.items ≡ document_of (answer_of query.now graph.now no_graphs (spec.all_numbers occurrences.now))) }
+    ensures { IfOk result (λ text. text.items ≡ document_of (answer_of query.now store.now no_graphs (spec.all_numbers occurrences.now))) }
 {
     let down = numbers(alloc, occurrences)?;
-    match answer(alloc, graph, query, down.as_slice()) {
+    match answer(alloc, store, query, down.as_slice()) {
         Ok(answer) => write(alloc, &answer),
         Err(MemberError::ServiceHere { place: _ }) => unreachable!(),
         Err(MemberError::Memory) => Err(Memory),

@@ -1,7 +1,9 @@
-//! `fedx`: answers a SPARQL query over a file of triples, or over several endpoints as if their graphs were one.
+//! `fedx`: answers a SPARQL query over a file of triples, or over several endpoints as if their graphs were one, prints the plan of
+//! the latter, and serves a file of triples as such an endpoint.
 #![tactic(auto)]
 
 mod commands;
+mod explained;
 mod federated;
 mod limits;
 mod loading;
@@ -9,10 +11,11 @@ mod local;
 mod refusals;
 mod reports;
 mod running;
+mod serving;
 mod statuses;
 
 use commands::CommandError;
-use fx_outside::{Folder, StdSink};
+use fx_outside::{Folder, Listener, StdSink};
 use fx_wire::TcpWire;
 use refusals::Refusal;
 use reports::write_refusal;
@@ -24,6 +27,7 @@ use std::{env, io};
 fn main(rt: HostRuntime) -> io::Result<ExitCode> {
     let mut files = Folder::new(rt.alloc(), rt.clone()?);
     let mut wires = [TcpWire::new(rt.alloc(), rt.clone()?)];
+    let mut door = Listener::new(rt.clone()?);
     let mut out = StdSink::new(rt.stdout());
     let mut err = StdSink::new(rt.stderr());
     let status = match words(&rt) {
@@ -32,6 +36,7 @@ fn main(rt: HostRuntime) -> io::Result<ExitCode> {
             words.as_slice(),
             &mut files,
             &mut wires,
+            &mut door,
             &mut out,
             &mut err,
         ),
@@ -41,6 +46,7 @@ fn main(rt: HostRuntime) -> io::Result<ExitCode> {
             &[],
             &mut files,
             &mut wires,
+            &mut door,
             &mut out,
             &mut err,
         ),

@@ -155,7 +155,7 @@ pub fn fed_status(error: FedError) -> Status
 {
     match error {
         FedError::Member { at: _ } => Status::EndpointFault,
-        FedError::BadReply { at: _ } => Status::BadReply,
+        FedError::BadReply { at: _, why: _ } => Status::BadReply,
         FedError::RequestTooLong { at: _, length: _ } => Status::RequestTooLong,
         FedError::Memory => Status::NoMemory,
     }

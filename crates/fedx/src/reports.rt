@@ -1,18 +1,22 @@
 //! Lines on standard error.
-ghost use Rattle.std.specs.Prelude.{◌≡◌, ◌∷◌, ◌++◌, ◌≤◌, ℕ, [], codes, IsTrue, IsOk, length};
+ghost use Rattle.std.specs.Prelude.{◌≡◌, ◌∷◌, ◌++◌, ◌≤◌, ℕ, [], Some, codes, IsTrue, IsErr, IsOk, OnOk, length};
 ghost use Rattle.std.specs.Fmt.{decimal};
 ghost use Rattle.fedx.specs.FedRefusals.{fed_line, name_at};
-ghost use Rattle.fedx.specs.Lines.{Gains, graph_refused, line, not_built, place, query_refused, registry_refused, request_too_long, usage_line};
+ghost use Rattle.fx_outside.specs.Faults.{HasRisen};
+ghost use Rattle.fx_outside.specs.Streams.{AppendsFront};
+ghost use Rattle.fx_engine.specs.FaultTexts.{fault_text, with_code};
+ghost use Rattle.fedx.specs.Lines.{all_pieces, bad_reply, cannot_serve, Gains, graph_refused, line, no_memory, not_built, place, query_refused, registry_refused, request_too_long, unknown_service, usage_line};
 ghost use Rattle.fx_syntax.specs.Refused.{kind_name};
 ghost use Rattle.fedx.specs.LocalSteps.{refusal_line, graph_line, query_line};
 ghost use Rattle.fedx.specs.QuerySteps.{registry_line};
 
 use crate::refusals::{GraphRefusal, QueryRefusal, Refusal, RegistryRefusal};
-use fx_engine::FedError;
+use fx_engine::{FedError, ReplyFault};
 use fx_ntriples::NtError;
-use fx_outside::{Endpoint, Sink, write_all};
+use fx_outside::{Endpoint, Sink, WriteFailed, write_all};
 use fx_sources::RegistryError;
 use fx_syntax::SyntaxKind;
+use fx_terms::Iri;
 use itoa::Buffer;
 
 /// Writes the usage line.
@@ -32,12 +36,20 @@ pub fn write_refusal<E: Sink>(err: &mut E, refusal: &Refusal, graph: &str, query
     match refusal {
         Refusal::Graph(refusal) => write_graph_refusal(err, *refusal, graph),
         Refusal::Query(refusal) => write_query_refusal(err, *refusal, query),
-        Refusal::UnknownService(iri) => write_named(err, b"unknown service ", iri.text(), b"\n"),
+        Refusal::UnknownService(iri) => write_unknown_service(err, iri),
         Refusal::Memory => write_line(err, b"no memory\n"),
     }
 }
 
-fn write_graph_refusal<E: Sink>(err: &mut E, refusal: GraphRefusal, name: &str)
+/// Writes the line of a SERVICE without SILENT whose IRI is no endpoint's.
+pub fn write_unknown_service<E: Sink>(err: &mut E, iri: &Iri)
+    ensures { IsTrue E.tells_held → Gains (E.held err.old) (E.held err.new) (E.write_faults err.old) (E.write_faults err.new) (unknown_service iri.now) }
+{
+    write_named(err, b"unknown service ", iri.text(), b"\n");
+}
+
+/// Writes the line of a refusal of the graph's file, where it has this name.
+pub fn write_graph_refusal<E: Sink>(err: &mut E, refusal: GraphRefusal, name: &str)
     ensures { IsTrue E.tells_held → Gains (E.held err.old) (E.held err.new) (E.write_faults err.old) (E.write_faults err.new) (graph_line refusal name.now) }
 {
     match refusal {
@@ -152,12 +164,7 @@ pub fn write_fed_error<E: Sink>(err: &mut E, endpoints: &[Endpoint], error: FedE
         FedError::Member { at } => {
             write_named(err, b"member ", name_at(endpoints, at), b" failed\n")
         }
-        FedError::BadReply { at } => write_named(
-            err,
-            b"bad reply from ",
-            name_at(endpoints, at),
-            b": NotFirst\n",
-        ),
+        FedError::BadReply { at, why } => write_bad_reply(err, name_at(endpoints, at), why),
         FedError::RequestTooLong { at, length } => {
             write_request_too_long(err, name_at(endpoints, at), length)
         }
@@ -175,6 +182,47 @@ fn name_at(endpoints: &[Endpoint], at: usize) -> &str
     }
 }
 
+fn write_bad_reply<E: Sink>(err: &mut E, name: &str, why: ReplyFault)
+    ensures { IsTrue E.tells_held → Gains (E.held err.old) (E.held err.new) (E.write_faults err.old) (E.write_faults err.new) (bad_reply name.now why) }
+{
+    if let Ok(()) = write_all(err, b"bad reply from ") {
+        write_name_and_fault(err, name, why);
+    }
+}
+
+fn write_name_and_fault<E: Sink>(err: &mut E, name: &str, why: ReplyFault)
+    ensures { IsTrue E.tells_held → Gains (E.held err.old) (E.held err.new) (E.write_faults err.old) (E.write_faults err.new) (name.now ++ (codes ": " ++ line (fault_text why))) }
+{
+    if let Ok(()) = write_all(err, name.as_bytes()) {
+        write_fault(err, why);
+    }
+}
+
+fn write_fault<E: Sink>(err: &mut E, why: ReplyFault)
+    ensures { IsTrue E.tells_held → Gains (E.held err.old) (E.held err.new) (E.write_faults err.old) (E.write_faults err.new) (codes ": " ++ line (fault_text why)) }
+{
+    match why.code() {
+        None => write_named(err, b": ", why.words(), b"\n"),
+        Some(code) => write_words_and_code(err, why.words(), code),
+    }
+}
+
+fn write_words_and_code<E: Sink>(err: &mut E, words: &str, code: u16)
+    ensures { IsTrue E.tells_held → Gains (E.held err.old) (E.held err.new) (E.write_faults err.old) (E.write_faults err.new) (codes ": " ++ line (with_code words.now (Some code))) }
+{
+    if let Ok(()) = write_all(err, b": ") {
+        write_words_before_code(err, words, code);
+    }
+}
+
+fn write_words_before_code<E: Sink>(err: &mut E, words: &str, code: u16)
+    ensures { IsTrue E.tells_held → Gains (E.held err.old) (E.held err.new) (E.write_faults err.old) (E.write_faults err.new) (words.now ++ (codes " " ++ line (decimal code))) }
+{
+    if let Ok(()) = write_all(err, words.as_bytes()) {
+        write_number(err, b" ", code as u64, b"\n");
+    }
+}
+
 fn write_request_too_long<E: Sink>(err: &mut E, name: &str, length: u64)
     ensures { IsTrue E.tells_held → Gains (E.held err.old) (E.held err.new) (E.write_faults err.old) (E.write_faults err.new) (request_too_long name.now length) }
 {
@@ -189,6 +237,34 @@ fn write_name_and_length<E: Sink>(err: &mut E, name: &str, length: u64)
     if let Ok(()) = write_all(err, name.as_bytes()) {
         write_number(err, b" has ", length, b" bytes\n");
     }
+}
+
+/// Writes the line of a door that failed.
+pub fn write_cannot_serve<E: Sink>(err: &mut E)
+    ensures { IsTrue E.tells_held → Gains (E.held err.old) (E.held err.new) (E.write_faults err.old) (E.write_faults err.new) cannot_serve }
+{
+    write_line(err, b"cannot serve\n");
+}
+
+/// Writes the line of want of memory.
+pub fn write_no_memory<E: Sink>(err: &mut E)
+    ensures { IsTrue E.tells_held → Gains (E.held err.old) (E.held err.new) (E.write_faults err.old) (E.write_faults err.new) no_memory }
+{
+    write_line(err, b"no memory\n");
+}
+
+/// Writes pieces, one behind the other. `WriteFailed` comes where a write failed, and a front of them is written then.
+pub fn write_pieces<E: Sink>(err: &mut E, pieces: &[&[u8]]) -> Result<(), WriteFailed>
+    ensures whole { IsTrue E.tells_held → OnOk result (E.held err.new ≡ E.held err.old ++ all_pieces pieces.now) }
+    ensures front { IsTrue E.tells_held → AppendsFront (E.held err.old) (E.held err.new) (all_pieces pieces.now) }
+    ensures kept { E.write_faults err.old ≤ E.write_faults err.new }
+    ensures failed { IsErr result → HasRisen (E.write_faults err.old) (E.write_faults err.new) }
+    ensures faultless { OnOk result (E.write_faults err.new ≡ E.write_faults err.old) }
+{
+    for piece in pieces {
+        write_all(err, piece)?;
+    }
+    Ok(())
 }
 
 fn write_place<E: Sink>(err: &mut E, before: &[u8], line: u64, column: u64)

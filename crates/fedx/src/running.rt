@@ -8,38 +8,43 @@ ghost use Rattle.fedx.specs.Lines.{Gains};
 ghost use Rattle.fedx.specs.Local.{IsReported, IsWritten};
 ghost use Rattle.fedx.specs.LocalSteps.{IsDocumentWritten, IsLineReported};
 ghost use Rattle.fedx.specs.Runs.{OnFirst, Reports, Writes};
+ghost use Rattle.fedx.specs.Serving.{door_seen};
 
 use crate::commands::{Command, CommandError, read_command};
+use crate::explained::run_explain;
 use crate::federated::run_query;
 use crate::local::{Report, local};
 use crate::refusals::Refusal;
 use crate::reports::{write_refusal, write_usage};
+use crate::serving::run_member;
 use crate::statuses::Status;
-use fx_outside::{Files, Sink, write_all};
+use fx_outside::{Door, Files, Sink, write_all};
 use fx_wire::Wire;
 use std::alloc::Global;
 
-/// Runs the command that the words behind the program's name are, over these files and, of the wires, the first. It writes the
-/// command's document on `out`, and the line of any other end on `err`.
+/// Runs the command that the words behind the program's name are, over these files, of the wires the first, and this door. It
+/// writes the command's document or text on `out`, and the line of any other end on `err`, as well as a line for each connection that it
+/// serves.
 ///
-/// The document and the lines behind it are whole before the first byte is written, so that on every status but `Done` and
-/// `WriteFault` nothing is written on `out`, and with `WriteFault` a front of the document. A fault of `err` while a refusal's
+/// The document or text and the lines behind it are whole before the first byte is written, so that on every status but `Done` and
+/// `WriteFault` nothing is written on `out`, and with `WriteFault` a front of it. A fault of `err` while a refusal's
 /// line is written leaves the status as it is; one while the lines behind a document are written is a `WriteFault`.
-pub fn run<F: Files, W: Wire, O: Sink, E: Sink>(
+pub fn run<F: Files, W: Wire, D: Door, O: Sink, E: Sink>(
     alloc: Global,
     words: &[String],
     files: &mut F,
     wires: &mut [W],
+    door: &mut D,
     out: &mut O,
     err: &mut E,
 ) -> Status
     requires { 0 < length wires.old }
 
     // Each status comes with its cause alone, and with its line on `err`.
-    ensures reported { OnFirst wires.old wires.new (λ wire later. (text : List ℕ) × Reports (file_read F.content F.faults files.old files.new) (seen W.tells_log W.log W.graph W.faults wire) (seen W.tells_log W.log W.graph W.faults later) (asked (map (λ w. string_bytes w) words.now)) result text × (IsTrue E.tells_held → Gains (E.held err.old) (E.held err.new) (E.write_faults err.old) (E.write_faults err.new) text)) }
+    ensures reported { OnFirst wires.old wires.new (λ wire later. (text : List ℕ) × Reports (file_read F.content F.faults files.old files.new) (seen W.tells_log W.log W.graph W.faults wire) (seen W.tells_log W.log W.graph W.faults later) (door_seen D.tells D.started D.inputs D.outputs D.faults door.old) (door_seen D.tells D.started D.inputs D.outputs D.faults door.new) (asked (map (λ w. string_bytes w) words.now)) result text × (IsTrue E.tells_held → Gains (E.held err.old) (E.held err.new) (E.write_faults err.old) (E.write_faults err.new) text)) }
 
-    // With `Done`, `out` gained exactly the document of the query's answer: over the file's graph, or over the union of the
-    // members' graphs; with `WriteFault` a front of it; else nothing.
+    // With `Done`, `out` gained exactly the document of the query's answer, over the file's graph or over the union of the
+    // members' graphs, or the text of the query's plan over these graphs; with `WriteFault` a front of it; else nothing.
     ensures written { OnFirst wires.old wires.new (λ wire _. IsTrue O.tells_held → Writes (file_read F.content F.faults files.old files.new) (seen W.tells_log W.log W.graph W.faults wire) (asked (map (λ w. string_bytes w) words.now)) result (O.held out.old) (O.held out.new)) }
     ensures wired { OnFirst wires.old wires.new (λ wire later. IsAfter (seen W.tells_log W.log W.graph W.faults wire) (seen W.tells_log W.log W.graph W.faults later)) }
     ensures write_fault { result ≡ Status.WriteFault → HasRisen (O.write_faults out.old) (O.write_faults out.new) ⊎ HasRisen (E.write_faults err.old) (E.write_faults err.new) }
@@ -60,6 +65,16 @@ pub fn run<F: Files, W: Wire, O: Sink, E: Sink>(
         Ok(Command::Query { registry, query }) => {
             run_query(alloc, files, &mut wires[0], registry, query, out, err)
         }
+        Ok(Command::Explain { registry, query }) => {
+            run_explain(alloc, files, &mut wires[0], registry, query, out, err)
+        }
+        Ok(
+            Command::Member {
+                graph,
+                address,
+                count,
+            },
+        ) => run_member(alloc, files, door, graph, address, count, err),
     }
 }
 

@@ -5,7 +5,7 @@ ghost use Rattle.fedx.specs.Statuses.{code_of};
 /// How a run ends.
 #[derive(Clone, Copy, Debug, PartialEq, Eq)]
 pub enum Status {
-    /// The answer stands on standard output.
+    /// The answer, or the plan, stands on standard output.
     Done,
     /// The words are no command.
     Usage,
@@ -27,6 +27,8 @@ pub enum Status {
     RequestTooLong,
     /// The graph's text is not accepted.
     GraphRefused,
+    /// The door can't be opened, gives no connection, or can't end one.
+    DoorFault,
     /// Memory ran out.
     NoMemory,
     /// A file has more bytes than its limit.
@@ -50,6 +52,7 @@ impl Status {
             Status::WriteFault => 9,
             Status::RequestTooLong => 10,
             Status::GraphRefused => 11,
+            Status::DoorFault => 12,
             Status::NoMemory => 13,
             Status::FileTooLong => 14,
         }

@@ -5,10 +5,12 @@ use crate::running::run;
 use crate::statuses::Status;
 use fx_member::{FaultWire, GraphWire};
 use fx_ntriples::read_graph;
-use fx_outside::{MemoryFiles, MemorySink};
-use fx_terms::{Graph, Iri};
+use fx_outside::{MemoryDoor, MemoryFiles, MemorySink};
+use fx_terms::{Graph, Iri, Memory};
 use fx_wire::{ScriptWire, Wire};
 use std::alloc::Global;
+use std::process::Abort;
+use std::str;
 use std::test::Fail;
 
 const USAGE: &str =
@@ -80,11 +82,13 @@ fn run_over<W: Wire>(
     let mut files = memory_files(alloc, files, fails.files)?;
     let mut out = MemorySink::new(alloc, 4096, step, Vec::from_slice(alloc, fails.out)?)?;
     let mut err = MemorySink::new(alloc, 4096, step, Vec::from_slice(alloc, fails.err)?)?;
+    let mut door = closed_door(alloc)?;
     let status = run(
         alloc,
         words.as_slice(),
         &mut files,
         wires,
+        &mut door,
         &mut out,
         &mut err,
     );
@@ -93,6 +97,19 @@ fn run_over<W: Wire>(
         out: Vec::from_slice(alloc, out.bytes())?,
         err: Vec::from_slice(alloc, err.bytes())?,
     })
+}
+
+// A door at which nobody comes in.
+fn closed_door(alloc: Global) -> Result<MemoryDoor, Memory> {
+    MemoryDoor::new(
+        alloc,
+        Vec::new(alloc),
+        0,
+        1,
+        Vec::new(alloc),
+        Vec::new(alloc),
+        Vec::new(alloc),
+    )
 }
 
 fn texts(alloc: Global, words: &[&str]) -> Result<Vec<String>, Fail> {
@@ -265,11 +282,18 @@ fn refuses_words_graphs_and_queries(rt: HostRuntime) -> Result<(), Fail> {
             USAGE,
         ),
         (
-            ["explain", "g.nt", "q.rq"].as_slice(),
+            ["explain", "g.nt"].as_slice(),
             GRAPH,
             QUERY,
             Status::Usage,
             USAGE,
+        ),
+        (
+            ["explain", "g.nt", "q.rq"].as_slice(),
+            GRAPH,
+            "{",
+            Status::RegistryRefused,
+            "registry refused: Bad at line 1\n",
         ),
         (
             ["local", "--", "-x", "q.rq"].as_slice(),
@@ -507,11 +531,19 @@ const SECOND: &str =
 
 // The wire of the two members.
 fn members(alloc: Global) -> Result<GraphWire, Fail> {
+    wire_of(
+        alloc,
+        &[
+            ("http://a.org/sparql", FIRST),
+            ("http://b.org/sparql", SECOND),
+        ],
+    )
+}
+
+// A wire of graphs at addresses.
+fn wire_of(alloc: Global, members: &[(&str, &str)]) -> Result<GraphWire, Fail> {
     let mut graphs = Vec::new(alloc);
-    for (address, text) in [
-        ("http://a.org/sparql", FIRST),
-        ("http://b.org/sparql", SECOND),
-    ] {
+    for (address, text) in members {
         let address = Iri::read(alloc, address)?;
         let graph: Graph = read_graph(alloc, text.as_bytes())?;
         graphs.push((address, graph))?;
@@ -605,10 +637,73 @@ fn a_wire_that_fails_is_named(rt: HostRuntime) -> Result<(), Fail> {
 
 #[test]
 fn a_reply_that_is_none_is_named(rt: HostRuntime) -> Result<(), Fail> {
-    for reply in ["", "HTTP/1.1 200 OK\r\n\r\n", "HTTP/1.1 500 No\r\n\r\n"] {
+    // Of the first exchange with A, and the line.
+    for (reply, line) in [
+        ("", "bad reply from A: Head\n"),
+        ("HTTP/1.1 500 No\r\n\r\n", "bad reply from A: Status 500\n"),
+        ("HTTP/1.1 200 OK\r\n\r\n", "bad reply from A: ContentType\n"),
+        (
+            "HTTP/1.1 200 OK\r\nContent-Type: application/json\r\nContent-Encoding: gzip\r\n\r\n",
+            "bad reply from A: Coding\n",
+        ),
+        (
+            "HTTP/1.1 200 OK\r\nContent-Type: application/json\r\nContent-Length: 1\r\n\r\n",
+            "bad reply from A: Length\n",
+        ),
+        (
+            "HTTP/1.1 200 OK\r\nContent-Type: application/json\r\nTransfer-Encoding: chunked\r\n\r\n2\r\n{",
+            "bad reply from A: Chunk\n",
+        ),
+        (
+            "HTTP/1.1 200 OK\r\nContent-Type: application/json\r\n\r\n{",
+            "bad reply from A: BadJson\n",
+        ),
+        (
+            "HTTP/1.1 200 OK\r\nContent-Type: application/json\r\n\r\n{\"head\":{},\"results\":{\"bindings\":[]}}",
+            "bad reply from A: Shape Columns\n",
+        ),
+        (
+            "HTTP/1.1 200 OK\r\nContent-Type: application/json\r\n\r\n{\"head\":{\"vars\":[\"x\",\"y\"]},\"results\":{\"bindings\":[{\"x\":{\"type\":\"bnode\",\"value\":\"b\"}}]}}",
+            "bad reply from A: Blank\n",
+        ),
+        (
+            "HTTP/1.1 200 OK\r\nContent-Type: application/json\r\n\r\n{\"head\":{\"vars\":[\"x\",\"y\"]},\"results\":{\"bindings\":[{\"x\":{\"type\":\"uri\",\"value\":\"b\"}}]}}",
+            "bad reply from A: BadTerm\n",
+        ),
+        (
+            "HTTP/1.1 200 OK\r\nContent-Type: application/json\r\n\r\n{\"head\":{\"vars\":[\"x\"]},\"results\":{\"bindings\":[]}}",
+            "bad reply from A: NotTruth\n",
+        ),
+    ] {
         let address = Iri::read(rt.alloc(), "http://a.org/sparql")?;
         let reply = Vec::from_slice(rt.alloc(), reply.as_bytes())?;
         let replies = vec![in rt.alloc(); (address, reply)]?;
+        let mut wires = [ScriptWire::new(rt.alloc(), replies)?];
+        let ran = run_query_over(rt.alloc(), REGISTRY, QUERY, &mut wires, NONE)?;
+        assert_eq!(rt; ran.status, Status::BadReply, "{line}");
+        assert_eq!(rt; ran.out.len(), 0, "{line}");
+        assert_eq!(rt; ran.err.as_slice(), line.as_bytes(), "{line}");
+    }
+    Ok(())
+}
+
+#[test]
+fn a_table_of_other_columns_is_named(rt: HostRuntime) -> Result<(), Fail> {
+    // A has something for the pattern and B has nothing; then A answers the pattern's query by a truth value, or by one column.
+    for reply in [
+        "{\"head\":{},\"boolean\":true}",
+        "{\"head\":{\"vars\":[\"x\"]},\"results\":{\"bindings\":[]}}",
+    ] {
+        let mut replies = Vec::new(rt.alloc());
+        for (address, body) in [
+            ("http://a.org/sparql", "{\"head\":{},\"boolean\":true}"),
+            ("http://b.org/sparql", "{\"head\":{},\"boolean\":false}"),
+            ("http://a.org/sparql", reply),
+        ] {
+            let head = "HTTP/1.1 200 OK\r\nContent-Type: application/json\r\n\r\n";
+            let reply = format!(in rt.alloc(); "{head}{body}")?;
+            replies.push((Iri::read(rt.alloc(), address)?, reply.into_bytes()))?;
+        }
         let mut wires = [ScriptWire::new(rt.alloc(), replies)?];
         let ran = run_query_over(rt.alloc(), REGISTRY, QUERY, &mut wires, NONE)?;
         assert_eq!(rt; ran.status, Status::BadReply);
@@ -675,6 +770,346 @@ fn refuses_registries_and_then_queries(rt: HostRuntime) -> Result<(), Fail> {
         assert_eq!(rt; ran.status, Status::ReadFault);
         assert_eq!(rt; ran.out.len(), 0);
         assert_eq!(rt; ran.err.as_slice(), line.as_bytes());
+    }
+    Ok(())
+}
+
+// ---- the command `explain`
+
+const THREE: &str = "M1 http://m1.org/sparql\nM2 http://m2.org/sparql\nM3 http://m3.org/sparql\n";
+
+// People and where they work, places, and people with their mail addresses and years of birth.
+const PEOPLE: &str =
+    "<http://example.org/ann> <http://xmlns.com/foaf/0.1/name> \"Ann\" .\n<http://example.org/ann> <http://example.org/worksAt> <http://example.org/lab> .\n<http://example.org/bob> <http://xmlns.com/foaf/0.1/name> \"Bob\" .\n<http://example.org/bob> <http://example.org/worksAt> <http://example.org/lab> .\n";
+
+const PLACES: &str = "<http://example.org/lab> <http://example.org/city> \"Kiel\" .\n";
+
+const BIRTHS: &str =
+    "<http://example.org/ann> <http://xmlns.com/foaf/0.1/mbox> <mailto:ann@example.org> .\n<http://example.org/bob> <http://xmlns.com/foaf/0.1/name> \"Bob\" .\n<http://example.org/ann> <http://example.org/born> \"1990\"^^<http://www.w3.org/2001/XMLSchema#integer> .\n<http://example.org/bob> <http://example.org/born> \"1970\"^^<http://www.w3.org/2001/XMLSchema#integer> .\n";
+
+const STAFF: &str =
+    "PREFIX ex: <http://example.org/> PREFIX foaf: <http://xmlns.com/foaf/0.1/> SELECT ?name ?city ?mail WHERE { ?p foaf:name ?name . ?p ex:worksAt ?w . ?w ex:city ?city . ?p ex:born ?b . FILTER ( ?b > 1960 ) OPTIONAL { ?p foaf:mbox ?mail } } ORDER BY ?name";
+
+const STAFF_PLAN: &str =
+    "run 0\ngroup M1 2 free\n  ?p <http://example.org/worksAt> ?w .\ngroup M2 1 free\n  ?w <http://example.org/city> ?city .\ngroup M3 1 free\n  ?p <http://example.org/born> ?b .\n  FILTER ( ?b > \"1960\"^^<http://www.w3.org/2001/XMLSchema#integer> )\nsingle M1,M3 1 free\n  ?p <http://xmlns.com/foaf/0.1/name> ?name .\nrun 1\ngroup M3 1 free\n  ?p <http://xmlns.com/foaf/0.1/mbox> ?mail .\n";
+
+// A query over the three members, the addresses at which the first exchange fails, and what comes of it: the status, what stands on
+// standard output and what on standard error.
+const EXPLAINED: [(&str, &[&str], Status, &str, &str); 6] = [
+    (STAFF, &[], Status::Done, STAFF_PLAN, ""),
+    (
+        "SELECT * WHERE { ?x <http://example.org/none> ?y }",
+        &[],
+        Status::Done,
+        "run 0 empty\n",
+        "",
+    ),
+    // An IRI that is no member's may stand behind SILENT, and nothing is asked of a SERVICE.
+    (
+        "ASK { SERVICE SILENT <http://x/> { ?x ?y ?z } SERVICE <http://m2.org/sparql> { ?x ?y ?z } }",
+        &[
+            "http://m1.org/sparql",
+            "http://m2.org/sparql",
+            "http://m3.org/sparql",
+        ],
+        Status::Done,
+        "service http://x/\nservice http://m2.org/sparql\n",
+        "",
+    ),
+    // Of two that are unknown the first is named, before any member is asked.
+    (
+        "SELECT * WHERE { ?x ?y ?z SERVICE SILENT <http://x/> {} MINUS { SERVICE <http://y/> {} } SERVICE <http://z/> {} }",
+        &["http://m1.org/sparql"],
+        Status::UnknownService,
+        "",
+        "unknown service http://y/\n",
+    ),
+    (
+        STAFF,
+        &["http://m2.org/sparql"],
+        Status::EndpointFault,
+        "",
+        "member M2 failed\n",
+    ),
+    (
+        "{",
+        &[],
+        Status::QueryRefused,
+        "",
+        "query refused: Unexpected at 0\n",
+    ),
+];
+
+// Runs `explain` over the files r.txt and q.rq and the three members, of which the first exchanges with some fail.
+fn run_explain_over(alloc: Global, query: &str, failing: &[&str]) -> Result<Ran, Fail> {
+    let graphs = wire_of(
+        alloc,
+        &[
+            ("http://m1.org/sparql", PEOPLE),
+            ("http://m2.org/sparql", PLACES),
+            ("http://m3.org/sparql", BIRTHS),
+        ],
+    )?;
+    let mut fails_at = Vec::new(alloc);
+    for address in failing {
+        fails_at.push((Iri::read(alloc, address)?, 1))?;
+    }
+    let mut wires = [FaultWire::new(alloc, graphs, Vec::new(alloc), fails_at)?];
+    let files = [("r.txt", THREE.as_bytes()), ("q.rq", query.as_bytes())];
+    let words = ["explain", "r.txt", "q.rq"];
+    run_over(alloc, &words, &files, &mut wires, 4096, NONE)
+}
+
+#[test]
+fn explains_queries_over_members(rt: HostRuntime) -> Result<(), Fail> {
+    for (query, failing, status, out, err) in EXPLAINED {
+        let ran = run_explain_over(rt.alloc(), query, failing)?;
+        assert_eq!(rt; ran.status, status, "{query}");
+        assert_eq!(rt; ran.out.as_slice(), out.as_bytes(), "{query}");
+        assert_eq!(rt; ran.err.as_slice(), err.as_bytes(), "{query}");
+    }
+    Ok(())
+}
+
+// ---- the command `member`
+
+// The calls of a door and of its connections that are to fail, and the writes to standard error.
+#[derive(Clone, Copy)]
+struct DoorFails<'a> {
+    calls: &'a [u64],
+    reads: &'a [(u64, u64)],
+    writes: &'a [(u64, u64)],
+    err: &'a [u64],
+}
+
+const OPEN: DoorFails<'static> = DoorFails {
+    calls: &[],
+    reads: &[],
+    writes: &[],
+    err: &[],
+};
+
+const ASK: &str = "GET /sparql?query=ASK%20%7B%7D HTTP/1.1\r\nHost: b\r\n\r\n";
+
+const TRUE: &str =
+    "HTTP/1.1 200 OK\r\nContent-Type: application/sparql-results+json\r\nContent-Length: 26\r\nConnection: close\r\n\r\n{\"boolean\":true,\"head\":{}}";
+
+const METHOD: &str =
+    "HTTP/1.1 405 Method Not Allowed\r\nAllow: GET, POST\r\nContent-Type: text/plain; charset=utf-8\r\nContent-Length: 7\r\nConnection: close\r\n\r\nMethod\n";
+
+// Runs words over the file g.nt and a door with these inputs, where one read or write of a connection moves so many bytes. It
+// gives the exit status, what standard error gained, and each output behind a `|`: TRUE and METHOD stand for
+// the replies of these names.
+fn served(
+    alloc: Global,
+    words: &[&str],
+    inputs: &[&str],
+    step: u64,
+    fails: DoorFails<'_>,
+) -> Result<String, Fail>
+    requires { 0 < step }
+{
+    let words = texts(alloc, words)?;
+    let mut files = memory_files(alloc, &[("g.nt", GRAPH.as_bytes())], &[])?;
+    let mut wires = [ScriptWire::new(alloc, Vec::new(alloc))?];
+    let mut door = door_with(alloc, inputs, step, fails)?;
+    let mut out = MemorySink::new(alloc, 4096, 1, Vec::new(alloc))?;
+    let mut err = MemorySink::new(alloc, 4096, 4096, Vec::from_slice(alloc, fails.err)?)?;
+    let status = run(
+        alloc,
+        words.as_slice(),
+        &mut files,
+        &mut wires,
+        &mut door,
+        &mut out,
+        &mut err,
+    );
+    let code = status.code();
+    let lines = str::from_utf8(err.bytes())?;
+    let mut text = format!(in alloc; "{code} {lines}")?;
+    if !out.bytes().is_empty() {
+        text.push_str("and a document")?;
+    }
+    for link in door.finished() {
+        text.push_str("|")?;
+        text.push_str(reply_name(str::from_utf8(link.written())?))?;
+    }
+    Ok(text)
+}
+
+// A reply by its name, where it has one.
+fn reply_name(reply: &str) -> &str {
+    if reply == TRUE {
+        "TRUE"
+    } else if reply == METHOD {
+        "METHOD"
+    } else {
+        reply
+    }
+}
+
+fn door_with(
+    alloc: Global,
+    inputs: &[&str],
+    step: u64,
+    fails: DoorFails<'_>,
+) -> Result<MemoryDoor, Memory>
+    requires { 0 < step }
+{
+    let mut all = Vec::new(alloc);
+    for input in inputs {
+        all.push(Vec::from_slice(alloc, input.as_bytes())?)?;
+    }
+    MemoryDoor::new(
+        alloc,
+        all,
+        4096,
+        step,
+        Vec::from_slice(alloc, fails.calls)?,
+        Vec::from_slice(alloc, fails.reads)?,
+        Vec::from_slice(alloc, fails.writes)?,
+    )
+}
+
+// The count of a member, what comes in, what fails, and what comes of it.
+const SERVED: [(&str, &[&str], DoorFails<'static>, &str); 14] = [
+    (
+        "2",
+        &[ASK, ASK],
+        OPEN,
+        "0 connection 1: 200\nconnection 2: 200\n|TRUE|TRUE",
+    ),
+    (
+        "02",
+        &[ASK, "PUT / HTTP/1.1\r\n\r\n"],
+        OPEN,
+        "0 connection 1: 200\nconnection 2: 405\n|TRUE|METHOD",
+    ),
+    ("1", &[ASK, ASK], OPEN, "0 connection 1: 200\n|TRUE"),
+    // The door gives no third connection.
+    (
+        "3",
+        &[ASK, ASK],
+        OPEN,
+        "12 connection 1: 200\nconnection 2: 200\ncannot serve\n|TRUE|TRUE",
+    ),
+    // It can't be opened, or gives no second connection, or can't end the first.
+    (
+        "2",
+        &[ASK, ASK],
+        DoorFails {
+            calls: &[1],
+            ..OPEN
+        },
+        "12 cannot serve\n",
+    ),
+    (
+        "2",
+        &[ASK, ASK],
+        DoorFails {
+            calls: &[4],
+            ..OPEN
+        },
+        "12 connection 1: 200\ncannot serve\n|TRUE",
+    ),
+    (
+        "2",
+        &[ASK, ASK],
+        DoorFails {
+            calls: &[3],
+            ..OPEN
+        },
+        "12 cannot serve\n",
+    ),
+    // A fault of a connection ends it alone.
+    (
+        "2",
+        &[ASK, ASK],
+        DoorFails {
+            reads: &[(1, 1)],
+            ..OPEN
+        },
+        "0 connection 1: read fault\nconnection 2: 200\n||TRUE",
+    ),
+    (
+        "2",
+        &[ASK, ASK],
+        DoorFails {
+            writes: &[(1, 1)],
+            ..OPEN
+        },
+        "0 connection 1: write fault\nconnection 2: 200\n||TRUE",
+    ),
+    // A line can't be written.
+    ("2", &[ASK, ASK], DoorFails { err: &[1], ..OPEN }, "9 |TRUE"),
+    (
+        "2",
+        &[ASK, ASK],
+        DoorFails { err: &[6], ..OPEN },
+        "9 connection 1: 200\n|TRUE|TRUE",
+    ),
+    // What is no count.
+    ("0", &[ASK, ASK], OPEN, USAGE_TEXT),
+    ("2x", &[ASK, ASK], OPEN, USAGE_TEXT),
+    ("18446744073709551616", &[ASK, ASK], OPEN, USAGE_TEXT),
+];
+
+const USAGE_TEXT: &str =
+    "2 usage: fedx local GRAPH QUERY | query REGISTRY QUERY [--workers N] [--block B] | explain REGISTRY QUERY | member GRAPH ADDRESS [COUNT] | generate N\n";
+
+#[test]
+fn a_member_serves_one_connection_after_another(rt: HostRuntime) -> Result<(), Fail> {
+    for (count, inputs, fails, want) in SERVED {
+        is_served(&rt, count, inputs, fails, want)?;
+    }
+    Ok(())
+}
+
+// A row of SERVED; byte by byte too, unless a write is to fail, which is named by its number.
+fn is_served<R: Abort + Alloc<A = Global>>(
+    rt: &R,
+    count: &str,
+    inputs: &[&str],
+    fails: DoorFails<'_>,
+    want: &str,
+) -> Result<(), Fail> {
+    let words = ["member", "g.nt", "here:1", count];
+    let text = served(rt.alloc(), &words, inputs, 4096, fails)?;
+    assert_eq!(*rt; text.as_str(), want, "at {count}");
+    if fails.writes.is_empty() {
+        let text = served(rt.alloc(), &words, inputs, 1, fails)?;
+        assert_eq!(*rt; text.as_str(), want, "at {count} byte by byte");
+    }
+    Ok(())
+}
+
+#[test]
+fn a_member_without_a_graph_or_a_count(rt: HostRuntime) -> Result<(), Fail> {
+    for (words, want) in [
+        (
+            ["member", "g.nt", "here:1"].as_slice(),
+            "12 connection 1: 200\ncannot serve\n|TRUE",
+        ),
+        (
+            ["member", "h.nt", "here:1", "1"].as_slice(),
+            "8 cannot read h.nt\n",
+        ),
+        (["member", "g.nt"].as_slice(), USAGE_TEXT),
+        (
+            ["member", "g.nt", "here:1", "1", "1"].as_slice(),
+            USAGE_TEXT,
+        ),
+        (
+            ["member", "g.nt", "here:1", "--workers=1"].as_slice(),
+            USAGE_TEXT,
+        ),
+        (
+            ["member", "--", "g.nt", "here:1", "1"].as_slice(),
+            "0 connection 1: 200\n|TRUE",
+        ),
+    ] {
+        let text = served(rt.alloc(), words, &[ASK], 4096, OPEN)?;
+        assert_eq!(rt; text.as_str(), want);
     }
     Ok(())
 }

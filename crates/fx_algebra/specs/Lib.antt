@@ -4,6 +4,7 @@ pub mod Conditions
 pub mod Evaluation
 pub mod Groups
 pub mod Keys
+pub mod Measures
 pub mod Occurrences
 pub mod Operators
 pub mod OrderedRows
@@ -11,6 +12,7 @@ pub mod Printed
 pub mod Scopes
 pub mod Sequences
 pub mod Solutions
+pub mod Units
 pub mod Values
 pub mod Words
 pub mod Worths

@@ -11,6 +11,7 @@ pub mod plain;
 pub mod queries;
 pub mod scopes;
 pub mod solutions;
+pub mod units;
 pub mod worths;
 
 pub use answers::Answer;
@@ -23,6 +24,7 @@ pub use plain::is_plain;
 pub use queries::{Element, Form, Group, Inline, Order, Query};
 pub use scopes::scope;
 pub use solutions::Solution;
+pub use units::{Row, Unit};
 pub use worths::{Kind, Worth};
 
 /// Every type of this crate may be shared between threads and sent to them.
@@ -39,6 +41,8 @@ pub fn all_shareable() {
     shareable::<Order>();
     shareable::<Query>();
     shareable::<Solution>();
+    shareable::<Row>();
+    shareable::<Unit>();
     shareable::<Keyed>();
     shareable::<Kind>();
     shareable::<Worth>();

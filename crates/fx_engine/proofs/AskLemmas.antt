@@ -41,7 +41,12 @@ use Rattle.fx_wire.specs.Exchanges.{exchanged}
 use Rattle.fx_wire.specs.Honest.{IsHonest}
 use Rattle.fx_engine.specs.MemberQueries.{columns_of, IsAsked}
 use Rattle.fx_engine.specs.Tables.{SameNames, HasTable, ReadsTable}
-use Rattle.fx_engine.specs.Federation.{IsBadExchange}
+use Rattle.fx_engine.specs.Federation.{Question, rows_of, query_of, wanted_of, IsBadExchange}
+use Rattle.fx_engine.specs.ReplyChecks.{Wanted, table_of, HasFault}
+use Rattle.fx_engine.specs.declared.errors.ReplyFault.{ReplyFault}
+use Rattle.fx_engine.specs.declared.errors.ReplyFault.TheVariants.{Http}
+use Rattle.fx_http.specs.declared.replies.ReplyError.TheVariants.{TooLong}
+use Rattle.fx_engine.proofs.TableLemmas.{fault_unread, long_fault}
 use Rattle.fx_engine.proofs.NameLemmas.{among_once}
 use Rattle.fx_engine.proofs.PatternLemmas.{alone, is_plain_query}
 
@@ -157,7 +162,7 @@ equal_tables r names others rows more e f = cc
 abbrev pub IsToldHonest : Option (List Triple) → List ℕ → List ℕ → Type 0
 IsToldHonest graph request reply = IfSome graph (λ told. IsGraph told × (length reply ≤ 67108864 → IsHonest told request reply))
 
-at_graph : (o : Option (List Triple)) (graph : List Triple) (request reply : List ℕ) → o ≡ Some graph → IsToldHonest o request reply → length reply ≤ 67108864 → IsHonest graph request reply
+pub at_graph : (o : Option (List Triple)) (graph : List Triple) (request reply : List ℕ) → o ≡ Some graph → IsToldHonest o request reply → length reply ≤ 67108864 → IsHonest graph request reply
 at_graph o graph request reply e h = let at : IsToldHonest (Some graph) request reply = subst (λ (v : Option (List Triple)). IsToldHonest v request reply) e h in at.1
 
 -- the rows that are read are the pattern's over the graph
@@ -173,28 +178,31 @@ long_or_short : (n : ℕ) (b : Bool) → ltb 67108864 n ≡ b → (67108864 < n)
 long_or_short n true h = inl (ltb-true 67108864 n h)
 long_or_short n false h = inr (ltb-false 67108864 n h)
 
-too_long : (o : Option (List Triple)) (request text reply : List ℕ) (columns : List (List ℕ)) (p : Pattern) → IsToldHonest o request reply → IsRequest request text → length text ≤ 67108864 → IsAsked p columns text
-    → ((rows : List Bindings) → ReadsTable reply columns rows → ⊥) → IfSome o (λ _. 67108864 < length reply)
-too_long None request text reply columns p h r l a unread = tt
-too_long (Some graph) request text reply columns p h r l a unread = pick (long_or_short (length reply) (ltb 67108864 (length reply)) refl)
+too_long : (o : Option (List Triple)) (request reply : List ℕ) (wanted : Wanted) (why : ReplyFault) → IsToldHonest o request reply → ((graph : List Triple) → IsHonest graph request reply → length reply ≤ 67108864 → ⊥)
+    → HasFault reply wanted why → IfSome o (λ _. (why ≡ Http TooLong) × (67108864 < length reply))
+too_long None request reply wanted why h refutes fault = tt
+too_long (Some graph) request reply wanted why h refutes fault = pick (long_or_short (length reply) (ltb 67108864 (length reply)) refl)
   where
-    short : length reply ≤ 67108864 → ⊥
-    short s =
-        let x = honest_told request text reply graph p (h.1 s) r l a.accepted in
-        unread x.rows (record { body = x.body; replied = (s, x.replied); table = record { told = x.table.told; read = x.table.read; same = λ name. x.table.same name ∙ ap (λ c. is_among c name) (sym a.named) } })
+    pick : (67108864 < length reply) ⊎ (length reply ≤ 67108864) → (why ≡ Http TooLong) × (67108864 < length reply)
+    pick (inl k) = (long_fault reply wanted why k fault, k)
+    pick (inr k) = absurd (refutes graph (h.1 k) k)
 
-    pick : (67108864 < length reply) ⊎ (length reply ≤ 67108864) → 67108864 < length reply
-    pick (inl k) = k
-    pick (inr k) = absurd (short k)
-
--- a reply that isn't read as a table of the columns
-pub bad_exchange : (o : Option (List Triple)) (at : EndpointParts) (request text reply : List ℕ) (columns : List (List ℕ)) (p : Pattern) → IsToldHonest o request reply → IsRequest request text → request ≡ request_of at text → length text ≤ 67108864 → IsAsked p columns text
-    → ((rows : List Bindings) → ReadsTable reply columns rows → ⊥) → IsBadExchange o (exchanged at request reply)
-bad_exchange o at request text reply columns p h r e l a unread = record {
+-- a reply with a fault, which an honest one hasn't
+pub bad_exchange : (o : Option (List Triple)) (at : EndpointParts) (request text reply : List ℕ) (question : Question) (why : ReplyFault) → IsToldHonest o request reply → request ≡ request_of at text → Accepted text (query_of question)
+    → HasFault reply (wanted_of question) why → ((graph : List Triple) → IsHonest graph request reply → length reply ≤ 67108864 → ⊥) → IsBadExchange o why (exchanged at request reply)
+bad_exchange o at request text reply question why h e a fault refutes = record {
+  question = question;
   text = text;
-  pattern = p;
   requested = e;
-  accepted = a.accepted;
-  unread = λ rows t. unread rows (subst (λ (c : List (List ℕ)). ReadsTable reply c rows) (sym a.named) t);
-  long = too_long o request text reply columns p h r l a unread;
+  accepted = a;
+  checked = fault;
+  long = too_long o request reply (wanted_of question) why h refutes fault;
 }
+
+pub bad_rows : (o : Option (List Triple)) (at : EndpointParts) (request text reply : List ℕ) (columns : List (List ℕ)) (p : Pattern) (why : ReplyFault) → IsToldHonest o request reply → IsRequest request text → request ≡ request_of at text → length text ≤ 67108864 → IsAsked p columns text
+    → HasFault reply (table_of columns) why → IsBadExchange o why (exchanged at request reply)
+bad_rows o at request text reply columns p why h r e l a fault =
+    bad_exchange o at request text reply (rows_of p) why h e a.accepted (subst (λ (c : List (List ℕ)). HasFault reply (table_of c) why) a.named fault)
+    (λ graph honest s.
+    let x = honest_told request text reply graph p honest r l a.accepted in
+    fault_unread reply columns why fault x.rows (record { body = x.body; replied = (s, x.replied); table = record { told = x.table.told; read = x.table.read; same = λ name. x.table.same name ∙ ap (λ c. is_among c name) (sym a.named) } }))

@@ -12,8 +12,9 @@ use Rattle.fx_algebra.specs.Solutions.{Bindings, SameRows, solution_cmp}
 use Rattle.fx_algebra.proofs.MemberLemmas.{among_left, among_right, among_cases}
 use Rattle.fx_algebra.proofs.UnionLemmas.{rows_of_union}
 use Rattle.fx_wire.specs.Exchanges.{Seen, IsAfter}
-use Rattle.fx_engine.specs.Federation.{Tells, AreRowsOf, IsBadExchange, HasBadReply, IsRefused, GivesRows}
+use Rattle.fx_engine.specs.Federation.{Tells, AreRowsOf, IsBadExchange, HasBadReply, IsRefused, GivesRows, GivesFit}
 use Rattle.fx_engine.specs.Refusals.{refusal_at}
+use Rattle.fx_engine.specs.declared.errors.ReplyFault.{ReplyFault}
 use Rattle.fx_engine.specs.declared.errors.AskError.{AskError}
 use Rattle.fx_engine.specs.declared.errors.AskError.TheVariants as ask
 use Rattle.fx_engine.specs.declared.errors.FedError.{FedError}
@@ -34,11 +35,11 @@ after_both s t u e h k = record {
   kept = λ a. omega (arith, h.kept a, k.kept a);
 }
 
-bad_later : (s t u : Seen) (e : EndpointParts) → s.tells_log ≡ t.tells_log → IsAfter s t → HasBadReply t u e → HasBadReply s u e
-bad_later s t u e same h k = record {
+bad_later : (s t u : Seen) (why : ReplyFault) (e : EndpointParts) → s.tells_log ≡ t.tells_log → IsAfter s t → HasBadReply t u why e → HasBadReply s u why e
+bad_later s t u why e same h k = record {
   exchange = k.exchange;
   at = k.at;
-  bad = subst (λ (g : Option (List Triple)). IsBadExchange g k.exchange) (h.same e.iri) k.bad;
+  bad = subst (λ (g : Option (List Triple)). IsBadExchange g why k.exchange) (h.same e.iri) k.bad;
   logged = λ told.
       let a = h.logged told in
       let b = k.logged (subst IsTrue same told) in
@@ -48,21 +49,9 @@ bad_later s t u e same h k = record {
 -- a refusal after other exchanges is a refusal of all
 pub refused_later : (s t u : Seen) (es : List EndpointParts) (r : FedError) → s.tells_log ≡ t.tells_log → IsAfter s t → IsRefused t u es r → IsRefused s u es r
 refused_later s t u es (fed.Member at) same h k = (k.0, k.1, omega (arith, h.kept k.0.iri, k.2))
-refused_later s t u es (fed.BadReply at) same h k = (k.0, k.1, bad_later s t u k.0 same h k.2)
+refused_later s t u es (fed.BadReply at why) same h k = (k.0, k.1, bad_later s t u why k.0 same h k.2)
 refused_later s t u es (fed.RequestTooLong at size) same h k = k
 refused_later s t u es fed.Memory same h k = tt
-
--- ---- the endpoints in front
-
-tells_front : (graph : List ℕ → Option (List Triple)) (es : List EndpointParts) (e : EndpointParts) (gs : List (List Triple)) → Tells graph (es ++ e ∷ []) gs
-    → (front : List (List Triple)) × (last : List Triple) × (gs ≡ front ++ last ∷ []) × Tells graph es front × (graph e.iri ≡ Some last)
-tells_front graph [] e [] h = absurd h
-tells_front graph [] e (g ∷ []) h = ([], g, refl, tt, h.0)
-tells_front graph [] e (g ∷ k ∷ gs) h = absurd h.1
-tells_front graph (d ∷ es) e [] h = absurd h
-tells_front graph (d ∷ es) e (g ∷ gs) h =
-    let r = tells_front graph es e gs h.1 in
-    (g ∷ r.0, r.1, ap (λ v. g ∷ v) r.2, (h.0, r.3), r.4)
 
 -- ---- the rows of one more graph
 
@@ -94,14 +83,6 @@ more_rows front g p all rows h k =
 pub no_rows : (p : Pattern) → AreRowsOf [] p []
 no_rows p = record { only = λ s m. absurd (among_from [] s m); all = λ s g m n. absurd (among_from [] g m) }
 
-pub rows_step : (graph : List ℕ → Option (List Triple)) (es : List EndpointParts) (e : EndpointParts) (p : Pattern) (all rows : List Bindings)
-    → ((gs : List (List Triple)) → Tells graph es gs → AreRowsOf gs p all)
-    → ((g : List Triple) → graph e.iri ≡ Some g → SameRows rows (bgp g (p ∷ [])))
-    → (gs : List (List Triple)) → Tells graph (es ++ e ∷ []) gs → AreRowsOf gs p (all ++ reverse rows)
-rows_step graph es e p all rows h k gs t =
-    let f = tells_front graph es e gs t in
-    subst (λ (v : List (List Triple)). AreRowsOf v p (all ++ reverse rows)) (sym f.2) (more_rows f.0 f.1 p all rows (h f.0 f.3) (k f.1 f.4))
-
 -- ---- the rows of the union
 
 pub gathered : (graphs : List (List Triple)) (p : Pattern) (rows all : List Bindings) → AreRowsOf graphs p rows → all ≡ set_of solution_cmp rows → SameRows (bgp (union graphs) (p ∷ [])) all
@@ -114,9 +95,15 @@ gathered graphs p rows all h e =
 -- the refusal of one endpoint, by its number
 pub refused_at : (t u : Seen) (es : List EndpointParts) (at : ℕ) (e : EndpointParts) (columns : List (List ℕ)) (text : List ℕ) (r : AskError) → slice_get es at ≡ Some e → GivesRows t u e columns text (Err r) → IsRefused t u es (refusal_at at r)
 refused_at t u es at e columns text ask.Failed s h = (e, s, h)
-refused_at t u es at e columns text ask.Bad s h = (e, s, h)
+refused_at t u es at e columns text (ask.Bad why) s h = (e, s, h)
 refused_at t u es at e columns text (ask.TooLong size) s h = (e, s, h.1)
 refused_at t u es at e columns text ask.Memory s h = tt
+
+pub refused_fit : (t u : Seen) (es : List EndpointParts) (at : ℕ) (e : EndpointParts) (p : Pattern) (r : AskError) → slice_get es at ≡ Some e → GivesFit t u e p (Err r) → IsRefused t u es (refusal_at at r)
+refused_fit t u es at e p ask.Failed s h = (e, s, h)
+refused_fit t u es at e p (ask.Bad why) s h = (e, s, h)
+refused_fit t u es at e p (ask.TooLong size) s h = (e, s, h.1)
+refused_fit t u es at e p ask.Memory s h = tt
 
 -- graphs that no exchange changed are told as before
 pub tells_same : (f g : List ℕ → Option (List Triple)) → ((address : List ℕ) → g address ≡ f address) → (es : List EndpointParts) (gs : List (List Triple)) → Tells f es gs → Tells g es gs

@@ -4,3 +4,11 @@ pub mod AskLemmas
 pub mod TableLemmas
 pub mod GatherLemmas
 pub mod FederationLemmas
+pub mod FitLemmas
+pub mod SourceLemmas
+pub mod LearnLemmas
+pub mod SectionLemmas
+pub mod PartLemmas
+pub mod GainLemmas
+pub mod PlanLemmas
+pub mod UnitLemmas

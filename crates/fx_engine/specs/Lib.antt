@@ -1,5 +1,10 @@
-pub mod MemberQueries
-pub mod Tables
+pub mod FaultTexts
 pub mod Federation
+pub mod Laws
+pub mod MemberQueries
+pub mod Planning
 pub mod Refusals
+pub mod ReplyChecks
+pub mod Sections
 pub mod TableErrors
+pub mod Tables

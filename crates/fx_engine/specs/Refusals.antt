@@ -7,6 +7,6 @@ use Rattle.fx_engine.specs.declared.errors.FedError.TheVariants as fed
 
 abbrev pub refusal_at : ℕ → AskError → FedError
 refusal_at at ask.Failed = fed.Member at
-refusal_at at ask.Bad = fed.BadReply at
+refusal_at at (ask.Bad why) = fed.BadReply at why
 refusal_at at (ask.TooLong size) = fed.RequestTooLong at size
 refusal_at at ask.Memory = fed.Memory

@@ -1,8 +1,8 @@
--- Which replies are tables of the columns that were asked for.
-use Rattle.std.specs.Prelude.{◌≡◌, ℕ, List, Ok}
+-- Which replies are tables of the columns that were asked for, and which are truth values.
+use Rattle.std.specs.Prelude.{◌≡◌, ℕ, Bool, List, Ok}
 use Rattle.fx_algebra.specs.Scopes.{is_among}
 use Rattle.fx_algebra.specs.Solutions.{Bindings}
-use Rattle.fx_algebra.specs.declared.answers.Answer.TheVariants.{Table}
+use Rattle.fx_algebra.specs.declared.answers.Answer.TheVariants.{Table, Truth}
 use Rattle.fx_http.specs.Replies.{Replies}
 use Rattle.fx_results.specs.Reading.{read_results}
 
@@ -21,3 +21,9 @@ pub record ReadsTable (reply : List ℕ) (columns : List (List ℕ)) (rows : Lis
   pub body : List ℕ
   pub replied : Replies reply (Ok body)
   pub table : HasTable body columns rows
+
+-- the reply is read, and its body as this truth value
+pub record ReadsTruth (reply : List ℕ) (truth : Bool) : Type 0 where
+  pub body : List ℕ
+  pub replied : Replies reply (Ok body)
+  pub read : read_results body ≡ Ok (Truth truth)

@@ -3,14 +3,16 @@ ghost use Rattle.std.specs.Prelude.{◌≡◌, true};
 ghost use Rattle.fx_terms.specs.declared.patterns.Pattern.{Pattern as PatternTree};
 ghost use Rattle.fx_outside.specs.Endpoints.{is_sendable};
 ghost use Rattle.fx_wire.specs.Exchanges.{IsAfter, seen};
-ghost use Rattle.fx_engine.specs.Federation.{GivesRows};
+ghost use Rattle.fx_syntax.specs.Printable.{IsTriple};
+ghost use Rattle.fx_engine.specs.Federation.{GainsOnly, GivesFit, GivesRows, IsPosted};
 ghost use Rattle.fx_engine.specs.MemberQueries.{IsAsked};
 
 use crate::errors::{AskError, TableError};
-use crate::tables::read_table;
+use crate::tables::{read_table, read_truth};
 use fx_algebra::Solution;
 use fx_http::request_bytes;
 use fx_outside::Endpoint;
+use fx_sources::{AskKey, ask_text};
 use fx_terms::{Items, Name};
 use fx_wire::{Wire, WireError};
 use std::alloc::Global;
@@ -29,6 +31,7 @@ pub fn ask<W: Wire>(
     requires sendable { is_sendable at.now ≡ true }
     requires asked { (p : PatternTree) × IsAsked p columns.now text.now }
     ensures rows { GivesRows (seen W.tells_log W.log W.graph W.faults wire.old) (seen W.tells_log W.log W.graph W.faults wire.new) at.now columns.now text.now result }
+    ensures alone { GainsOnly (IsPosted at.now text.now) (seen W.tells_log W.log W.graph W.faults wire.old) (seen W.tells_log W.log W.graph W.faults wire.new) result }
     ensures after { IsAfter (seen W.tells_log W.log W.graph W.faults wire.old) (seen W.tells_log W.log W.graph W.faults wire.new) }
 {
     let length = text.len() as u64;
@@ -43,7 +46,41 @@ pub fn ask<W: Wire>(
         Err(WireError::Memory) => Err(AskError::Memory),
         Ok(reply) => match read_table(alloc, reply.as_slice(), columns) {
             Ok(rows) => Ok(rows),
-            Err(TableError::NotTable) => Err(AskError::Bad),
+            Err(TableError::Bad { why }) => Err(AskError::Bad { why }),
+            Err(TableError::Memory) => Err(AskError::Memory),
+        },
+    }
+}
+
+/// Whether a key fits the graph of an endpoint, as it answers to the query that asks for it.
+pub fn ask_fit<W: Wire>(
+    alloc: Global,
+    wire: &mut W,
+    at: &Endpoint,
+    key: &AskKey,
+) -> Result<bool, AskError>
+    requires sendable { is_sendable at.now ≡ true }
+    requires triple { IsTriple key.now.pattern }
+    ensures fit { GivesFit (seen W.tells_log W.log W.graph W.faults wire.old) (seen W.tells_log W.log W.graph W.faults wire.new) at.now key.now.pattern result }
+    ensures after { IsAfter (seen W.tells_log W.log W.graph W.faults wire.old) (seen W.tells_log W.log W.graph W.faults wire.new) }
+{
+    let Ok(text) = ask_text(alloc, key) else {
+        return Err(AskError::Memory);
+    };
+    let asked = text.as_str();
+    let length = asked.len() as u64;
+    if length > LONGEST {
+        return Err(AskError::TooLong { length });
+    }
+    let Ok(request) = request_bytes(alloc, at, asked) else {
+        return Err(AskError::Memory);
+    };
+    match wire.exchange(alloc, at, request.as_slice(), LONGEST) {
+        Err(WireError::Failed) => Err(AskError::Failed),
+        Err(WireError::Memory) => Err(AskError::Memory),
+        Ok(reply) => match read_truth(alloc, reply.as_slice()) {
+            Ok(truth) => Ok(truth),
+            Err(TableError::Bad { why: fault }) => Err(AskError::Bad { why: fault }),
             Err(TableError::Memory) => Err(AskError::Memory),
         },
     }

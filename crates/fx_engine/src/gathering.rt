@@ -1,11 +1,11 @@
-//! The rows of one pattern over all endpoints.
-ghost use Rattle.std.specs.Prelude.{◌≡◌, ◌++◌, ◌∷◌, [], true, All, IfOk, OnOk, reverse};
+//! The rows of one pattern over its sources.
+ghost use Rattle.std.specs.Prelude.{◌≡◌, ◌<◌, ◌++◌, ◌∷◌, [], true, All, IfOk, OnOk, length, reverse};
 ghost use Rattle.fx_terms.specs.Graphs.{set_of};
 ghost use Rattle.fx_terms.specs.declared.patterns.Pattern.{Pattern as PatternTree};
 ghost use Rattle.fx_outside.specs.Endpoints.{is_sendable};
 ghost use Rattle.fx_algebra.specs.Solutions.{solution_cmp};
 ghost use Rattle.fx_wire.specs.Exchanges.{IsAfter, seen};
-ghost use Rattle.fx_engine.specs.Federation.{CollectsRows, GathersRows};
+ghost use Rattle.fx_engine.specs.Federation.{AsksMember, AsksSource, CollectsRows, GainsOnly, GathersRows};
 ghost use Rattle.fx_engine.specs.MemberQueries.{IsAsked};
 
 use crate::asking::ask;
@@ -17,16 +17,20 @@ use fx_terms::{Items, Memory, Name, Pattern};
 use fx_wire::Wire;
 use std::alloc::Global;
 
-/// The rows of a pattern over the union of the endpoints' graphs: each endpoint is asked in turn, their rows are united, and
-/// each is kept once. A pattern with a literal as its predicate has no rows, and no endpoint is asked for it.
+/// The rows of a pattern over the union of the endpoints' graphs, where its sources are these endpoints, by their numbers: each
+/// of them is asked in turn, their rows are united, and each is kept once. A pattern with a literal as its predicate has no rows,
+/// and no endpoint is asked for it.
 pub fn gather<W: Wire>(
     alloc: Global,
     wire: &mut W,
     endpoints: &[Endpoint],
     pattern: &Pattern,
+    members: &[u32],
 ) -> Result<Vec<Solution>, FedError>
     requires sendable { All (λ e. is_sendable e ≡ true) endpoints.now }
-    ensures rows { GathersRows (seen W.tells_log W.log W.graph W.faults wire.old) (seen W.tells_log W.log W.graph W.faults wire.new) endpoints.now (pattern.now ∷ []) result }
+    requires within { All (λ at. at < length endpoints.now) members.now }
+    ensures rows { GathersRows (seen W.tells_log W.log W.graph W.faults wire.old) (seen W.tells_log W.log W.graph W.faults wire.new) endpoints.now (pattern.now ∷ []) (members.now ∷ []) result }
+    ensures alone { GainsOnly (AsksSource endpoints.now ((pattern.now, members.now) ∷ [])) (seen W.tells_log W.log W.graph W.faults wire.old) (seen W.tells_log W.log W.graph W.faults wire.new) result }
     ensures after { IsAfter (seen W.tells_log W.log W.graph W.faults wire.old) (seen W.tells_log W.log W.graph W.faults wire.new) }
 {
     if is_literal(&pattern.predicate) {
@@ -39,7 +43,14 @@ pub fn gather<W: Wire>(
     let Ok(text) = text_of(alloc, pattern) else {
         return Err(FedError::Memory);
     };
-    match collect(alloc, wire, endpoints, text.as_str(), columns.as_slice()) {
+    match collect(
+        alloc,
+        wire,
+        endpoints,
+        members,
+        text.as_str(),
+        columns.as_slice(),
+    ) {
         Err(error) => Err(error),
         Ok(rows) => match each_once(rows) {
             Ok(rows) => Ok(rows),
@@ -48,22 +59,26 @@ pub fn gather<W: Wire>(
     }
 }
 
-// The rows that the endpoints give for a text, one endpoint after another.
+// The rows that some of the endpoints, by their numbers, give for a text, one after another.
 fn collect<W: Wire>(
     alloc: Global,
     wire: &mut W,
     endpoints: &[Endpoint],
+    members: &[u32],
     text: &str,
     columns: &[Name],
 ) -> Result<Vec<Solution>, FedError>
     requires sendable { All (λ e. is_sendable e ≡ true) endpoints.now }
+    requires within { All (λ at. at < length endpoints.now) members.now }
     requires asked { (p : PatternTree) × IsAsked p columns.now text.now }
-    ensures rows { CollectsRows (seen W.tells_log W.log W.graph W.faults wire.old) (seen W.tells_log W.log W.graph W.faults wire.new) endpoints.now columns.now text.now result }
+    ensures rows { CollectsRows (seen W.tells_log W.log W.graph W.faults wire.old) (seen W.tells_log W.log W.graph W.faults wire.new) endpoints.now members.now columns.now text.now result }
+    ensures alone { GainsOnly (AsksMember endpoints.now members.now text.now) (seen W.tells_log W.log W.graph W.faults wire.old) (seen W.tells_log W.log W.graph W.faults wire.new) result }
     ensures after { IsAfter (seen W.tells_log W.log W.graph W.faults wire.old) (seen W.tells_log W.log W.graph W.faults wire.new) }
 {
     let mut all = Vec::new(alloc);
-    for (at, endpoint) in endpoints.iter().enumerate() {
-        match ask(alloc, wire, endpoint, text, columns) {
+    for member in members {
+        let at = *member as usize;
+        match ask(alloc, wire, &endpoints[at], text, columns) {
             Err(error) => return Err(error.of(at)),
             Ok(rows) => {
                 if let Err(Memory) = take_rows(&mut all, rows) {

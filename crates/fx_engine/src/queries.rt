@@ -1,7 +1,7 @@
 //! The query that a member is asked for a pattern.
 ghost use Rattle.std.specs.Prelude.{◌≡◌, ◌++◌, false, IfOk, OnOk, string_bytes};
 ghost use Rattle.fx_algebra.specs.Printed.{printed_query};
-ghost use Rattle.fx_algebra.specs.Scopes.{part_names};
+ghost use Rattle.fx_algebra.specs.Scopes.{part_names, pattern_names};
 ghost use Rattle.fx_syntax.specs.Printable.{IsPart, IsTriple, pattern_query};
 ghost use Rattle.fx_engine.specs.MemberQueries as spec;
 
@@ -16,10 +16,17 @@ pub fn columns_of(alloc: Global, pattern: &Pattern) -> Result<Vec<Name>, Memory>
     ensures { IfOk result (λ names. names.items ≡ spec.columns_of pattern.now) }
 {
     let mut names = Vec::new(alloc);
-    push_name(&mut names, &pattern.subject)?;
-    push_name(&mut names, &pattern.predicate)?;
-    push_name(&mut names, &pattern.object)?;
+    push_names(&mut names, pattern)?;
     once(alloc, names.as_slice())
+}
+
+/// The variables of a pattern, behind the names that were there, with repeats.
+pub fn push_names(names: &mut Vec<Name>, pattern: &Pattern) -> Result<(), Memory>
+    ensures { OnOk result (names.new.items ≡ names.old.items ++ pattern_names pattern.now) }
+{
+    push_name(names, &pattern.subject)?;
+    push_name(names, &pattern.predicate)?;
+    push_name(names, &pattern.object)
 }
 
 fn push_name(names: &mut Vec<Name>, part: &PatternTerm) -> Result<(), Memory>

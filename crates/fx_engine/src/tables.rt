@@ -1,42 +1,43 @@
-//! Replies that are tables of the columns that were asked for.
-ghost use Rattle.std.specs.Prelude.{◌≡◌, ◌↔◌, ℕ, List, Ok, Err, IfOk, IsTrue};
+//! Replies that are tables of the columns that were asked for, or truth values.
+ghost use Rattle.std.specs.Prelude.{◌≡◌, ◌↔◌, IsTrue};
 ghost use Rattle.std.specs.List.{list_all};
 ghost use Rattle.fx_algebra.specs.Scopes.{is_among as is_among_names};
-ghost use Rattle.fx_algebra.specs.Solutions.{Bindings};
-ghost use Rattle.fx_http.specs.Replies.{Replies};
+ghost use Rattle.fx_engine.specs.ReplyChecks.{GivesBody, GivesBodyTruth, GivesTable, GivesTruth};
 ghost use Rattle.fx_engine.specs.TableErrors as errors;
 ghost use Rattle.fx_engine.specs.Tables as spec;
 
-use crate::errors::TableError;
+use crate::errors::{ReplyFault, TableError};
 use fx_algebra::scopes::is_among;
 use fx_algebra::{Answer, Solution};
-use fx_http::{Reply, ReplyError, read_reply};
+use fx_http::{ReplyError, read_reply};
 use fx_results::{ResultsError, read};
 use fx_terms::{Items, Name};
 use std::alloc::Global;
 
-/// The rows of a reply that is a table with just these columns.
+const NOT_TRUTH: TableError = TableError::Bad {
+    why: ReplyFault::NotTruth,
+};
+
+/// The rows of a reply that is a table with just these columns, or its first fault.
 pub fn read_table(
     alloc: Global,
     reply: &[u8],
     columns: &[Name],
 ) -> Result<Items<Solution>, TableError>
-    ensures found { IfOk result (spec.ReadsTable reply.now columns.now) }
-    ensures only { result ≡ Err TableError.NotTable → (rows : List Bindings) → spec.ReadsTable reply.now columns.now rows → ⊥ }
+    ensures { GivesTable reply.now columns.now result }
 {
-    match body_of(alloc, reply) {
+    match read_reply(alloc, reply) {
         Ok(body) => rows_of(alloc, body.body(), columns),
-        Err(error) => Err(error),
+        Err(error) => Err(reply_error(error)),
     }
 }
 
-// The body of a reply.
-fn body_of(alloc: Global, reply: &[u8]) -> Result<Reply, TableError>
-    ensures found { IfOk result (λ body. Replies reply.now (Ok body)) }
-    ensures only { result ≡ Err TableError.NotTable → (body : List ℕ) → Replies reply.now (Ok body) → ⊥ }
+/// The truth value that a reply is, or its first fault.
+pub fn read_truth(alloc: Global, reply: &[u8]) -> Result<bool, TableError>
+    ensures { GivesTruth reply.now result }
 {
     match read_reply(alloc, reply) {
-        Ok(reply) => Ok(reply),
+        Ok(body) => truth_of(alloc, body.body()),
         Err(error) => Err(reply_error(error)),
     }
 }
@@ -46,7 +47,9 @@ fn reply_error(error: ReplyError) -> TableError
 {
     match error {
         ReplyError::Memory => TableError::Memory,
-        _ => TableError::NotTable,
+        why => TableError::Bad {
+            why: ReplyFault::Http(why),
+        },
     }
 }
 
@@ -55,14 +58,15 @@ fn results_error(error: ResultsError) -> TableError
 {
     match error {
         ResultsError::Memory => TableError::Memory,
-        _ => TableError::NotTable,
+        why => TableError::Bad {
+            why: ReplyFault::Results(why),
+        },
     }
 }
 
-// The rows of a body that is a table with just these columns.
+// The rows of a body that is a table with just these columns, or its first fault.
 fn rows_of(alloc: Global, body: &[u8], columns: &[Name]) -> Result<Items<Solution>, TableError>
-    ensures found { IfOk result (spec.HasTable body.now columns.now) }
-    ensures only { result ≡ Err TableError.NotTable → (rows : List Bindings) → spec.HasTable body.now columns.now rows → ⊥ }
+    ensures { GivesBody body.now columns.now result }
 {
     match read(alloc, body) {
         Ok(
@@ -74,10 +78,25 @@ fn rows_of(alloc: Global, body: &[u8], columns: &[Name]) -> Result<Items<Solutio
             if have_same(told.as_slice(), columns) {
                 Ok(rows)
             } else {
-                Err(TableError::NotTable)
+                Err(TableError::Bad {
+                    why: ReplyFault::NotFirst,
+                })
             }
         }
-        Ok(Answer::Truth(_)) => Err(TableError::NotTable),
+        Ok(Answer::Truth(_)) => Err(TableError::Bad {
+            why: ReplyFault::NotFirst,
+        }),
+        Err(error) => Err(results_error(error)),
+    }
+}
+
+// The truth value that a body is, or its first fault.
+fn truth_of(alloc: Global, body: &[u8]) -> Result<bool, TableError>
+    ensures { GivesBodyTruth body.now result }
+{
+    match read(alloc, body) {
+        Ok(Answer::Truth(truth)) => Ok(truth),
+        Ok(Answer::Table { .. }) => Err(NOT_TRUTH),
         Err(error) => Err(results_error(error)),
     }
 }

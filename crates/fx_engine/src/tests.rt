@@ -1,14 +1,16 @@
 //! What a federation answers over endpoints that answer by a script. Lists of rows are written with a `;` behind each row, and
 //! a row as names with their IRIs.
 use crate::queries::text_of;
-use crate::{FedError, federate};
+use crate::{FedError, federate, plan_parts};
 use fx_algebra::{Answer, Solution, is_plain, patterns_of};
-use fx_outside::Endpoint;
+use fx_plan::explain;
 use fx_print::print;
+use fx_sources::{AskCache, Registry};
 use fx_syntax::parse;
 use fx_terms::{Iri, Memory, Term};
 use fx_wire::ScriptWire;
 use std::alloc::Global;
+use std::str::from_utf8;
 use std::test::Fail;
 
 const PATTERN: &str = "SELECT ?x WHERE { ?x <http://e/p> ?y }";
@@ -20,42 +22,70 @@ fn rows_of_all_endpoints_are_one_answer(rt: HostRuntime) -> Result<(), Fail> {
         // A row that both endpoints give counts once; a row of the answer counts for each row that it comes from.
         (
             PATTERN,
-            "x y/x=a:1 y=b:1;x=a:2 y=b:1;",
-            "y x/x=a:1 y=b:2;x=a:1 y=b:1;",
-            2usize,
+            "yes|x y/x=a:1 y=b:1;x=a:2 y=b:1;",
+            "yes|y x/x=a:1 y=b:2;x=a:1 y=b:1;",
+            4usize,
             "x",
             "x=a:1;x=a:1;x=a:2;",
         ),
-        (PATTERN, "x y/", "x y/", 2, "x", ""),
-        (PATTERN, "x y/", "x y/x=a:1 y=b:2;", 2, "x", "x=a:1;"),
+        (PATTERN, "yes|x y/", "yes|x y/", 4, "x", ""),
+        // An endpoint that has nothing for a pattern isn't asked for it.
+        (PATTERN, "no", "yes|x y/x=a:1 y=b:2;", 3, "x", "x=a:1;"),
+        (PATTERN, "no", "no", 2, "x", ""),
         // The rows of two patterns are joined over the endpoints.
         (
             "SELECT * WHERE { ?x <http://e/p> ?y . ?y <http://e/q> ?z }",
-            "x y/x=a:1 y=b:1;x=a:2 y=b:2;|y z/y=b:3 z=c:3;",
-            "x y/x=a:3 y=b:3;x=a:4 y=b:4;|y z/y=b:1 z=c:1;y=b:5 z=c:5;",
-            4,
+            "yes|yes|x y/x=a:1 y=b:1;x=a:2 y=b:2;|y z/y=b:3 z=c:3;",
+            "yes|yes|x y/x=a:3 y=b:3;x=a:4 y=b:4;|y z/y=b:1 z=c:1;y=b:5 z=c:5;",
+            8,
             "x y z",
             "x=a:1 y=b:1 z=c:1;x=a:3 y=b:3 z=c:3;",
+        ),
+        (
+            "SELECT * WHERE { ?x <http://e/p> ?y . ?y <http://e/q> ?z }",
+            "yes|no|x y/x=a:1 y=b:1;x=a:2 y=b:2;",
+            "no|yes|y z/y=b:1 z=c:1;y=b:5 z=c:5;",
+            6,
+            "x y z",
+            "x=a:1 y=b:1 z=c:1;",
+        ),
+        // Where one pattern has no source, no rows are asked for.
+        (
+            "SELECT * WHERE { ?x <http://e/p> ?y . ?y <http://e/q> ?z }",
+            "yes|no",
+            "yes|no",
+            4,
+            "x y z",
+            "",
+        ),
+        // Patterns with one key are asked for once.
+        (
+            "SELECT * WHERE { ?x <http://e/p> ?y . ?y <http://e/p> ?z }",
+            "yes|x y/x=a:1 y=b:1;|y z/y=a:1 z=b:1;",
+            "yes|x y/x=b:1 y=c:1;|y z/y=b:1 z=c:1;",
+            6,
+            "x y z",
+            "x=a:1 y=b:1 z=c:1;",
         ),
         // A triple with no variable has a row that binds nothing, once, or none.
         (
             "SELECT * WHERE { <a:1> <http://e/p> <b:1> }",
-            "/;",
-            "/;",
-            2,
+            "yes|/;",
+            "yes|/;",
+            4,
             "",
             ";",
         ),
         (
             "SELECT * WHERE { <a:1> <http://e/p> <b:1> }",
-            "/",
-            "/",
+            "no",
+            "no",
             2,
             "",
             "",
         ),
         // With no triple nothing is sent.
-        ("SELECT * WHERE { }", "x y/", "x y/", 0, "", ";"),
+        ("SELECT * WHERE { }", "no", "no", 0, "", ";"),
     ] {
         let mut script = Vec::new(rt.alloc());
         push_tables(rt.alloc(), &mut script, 8001, first)?;
@@ -72,50 +102,259 @@ fn rows_of_all_endpoints_are_one_answer(rt: HostRuntime) -> Result<(), Fail> {
 #[test]
 fn a_refusal_names_its_endpoint(rt: HostRuntime) -> Result<(), Fail> {
     let rows = "200 OK/{\"head\":{\"vars\":[\"x\",\"y\"]},\"results\":{\"bindings\":[]}}";
-    let less = "200 OK/{\"head\":{\"vars\":[\"x\"]},\"results\":{\"bindings\":[]}}";
-    let more = "200 OK/{\"head\":{\"vars\":[\"x\",\"y\",\"z\"]},\"results\":{\"bindings\":[]}}";
-    let truth = "200 OK/{\"head\":{},\"boolean\":true}";
     let fault = "500 Error/{\"head\":{\"vars\":[\"x\",\"y\"]},\"results\":{\"bindings\":[]}}";
-    // The status and the body that each endpoint replies, or no reply, and the refusal.
+    let yes = "200 OK/{\"head\":{},\"boolean\":true}";
+    // The status and the body that each endpoint replies to ASK, or no reply, and the refusal.
     for (first, second, want) in [
-        ("", "", FedError::Member { at: 0 }),
-        (rows, "", FedError::Member { at: 1 }),
-        ("", rows, FedError::Member { at: 0 }),
-        (rows, less, FedError::BadReply { at: 1 }),
-        (rows, more, FedError::BadReply { at: 1 }),
-        (rows, "200 OK/{", FedError::BadReply { at: 1 }),
-        (truth, rows, FedError::BadReply { at: 0 }),
-        (fault, rows, FedError::BadReply { at: 0 }),
-        (fault, "", FedError::BadReply { at: 0 }),
+        ("", "", "member 0 failed"),
+        (yes, "", "member 1 failed"),
+        ("", yes, "member 0 failed"),
+        (yes, yes, "member 0 failed"),
+        (yes, fault, "bad reply from 1: Status 500"),
+        (fault, yes, "bad reply from 0: Status 500"),
+        (fault, "", "bad reply from 0: Status 500"),
+        (yes, rows, "bad reply from 1: NotTruth"),
+        (rows, yes, "bad reply from 0: NotTruth"),
+        (yes, "200 OK/{", "bad reply from 1: BadJson"),
     ] {
         let mut script = Vec::new(rt.alloc());
         push_reply(rt.alloc(), &mut script, 8001, first)?;
         push_reply(rt.alloc(), &mut script, 8002, second)?;
         let mut wire = ScriptWire::new(rt.alloc(), script)?;
         let answer = ask(rt.alloc(), PATTERN, &mut wire).ok_or("not asked")?;
-        assert_eq!(rt; answer.err(), Some(want), "at {first} and {second}");
+        let refusal = refusal_text(rt.alloc(), answer.err())?;
+        assert_eq!(rt; refusal.as_str(), want, "at {first} and {second}");
     }
     Ok(())
 }
 
 #[test]
-fn each_endpoint_is_asked_for_the_pattern(rt: HostRuntime) -> Result<(), Fail> {
-    let mut script = Vec::new(rt.alloc());
-    for port in [8002, 8001] {
-        let address = address(rt.alloc(), port).ok_or("no address")?;
-        script.push((address, table(rt.alloc(), "x y", "")?))?;
+fn a_bad_reply_has_the_first_fault(rt: HostRuntime) -> Result<(), Fail> {
+    // What a reply has behind its status, and the fault: its fields, and its body.
+    for (status, rest, want) in [
+        ("HTTP/1.1 200 OK", "", "Head"),
+        ("404 Not Found", "\r\n\r\n", "Status 404"),
+        (
+            "500 Error",
+            "\r\nContent-Encoding: gzip\r\n\r\n",
+            "Status 500",
+        ),
+        ("200 OK", "\r\nContent-Encoding: gzip\r\n\r\n{", "Coding"),
+        (
+            "200 OK",
+            "\r\nContent-Type: text/plain\r\nContent-Length: 9\r\n\r\n{",
+            "ContentType",
+        ),
+        (
+            "200 OK",
+            "\r\nContent-Type: application/json\r\nContent-Length: 9\r\n\r\n{",
+            "Length",
+        ),
+        (
+            "200 OK",
+            "\r\nContent-Type: application/json\r\nTransfer-Encoding: chunked\r\n\r\n9\r\n{\"head\":",
+            "Chunk",
+        ),
+        (
+            "200 OK",
+            "\r\nContent-Type: application/json\r\n\r\n{",
+            "BadJson",
+        ),
+        (
+            "200 OK",
+            "\r\nContent-Type: application/json\r\n\r\n[]",
+            "Shape Root",
+        ),
+        (
+            "200 OK",
+            "\r\nContent-Type: application/json\r\n\r\n{\"results\":{}}",
+            "Shape Head",
+        ),
+        (
+            "200 OK",
+            "\r\nContent-Type: application/json\r\n\r\n{\"head\":{},\"results\":{\"bindings\":[]}}",
+            "Shape Columns",
+        ),
+        (
+            "200 OK",
+            "\r\nContent-Type: application/json\r\n\r\n{\"head\":{\"vars\":[\"x\"]}}",
+            "Shape Results",
+        ),
+        (
+            "200 OK",
+            "\r\nContent-Type: application/json\r\n\r\n{\"head\":{\"vars\":[\"x\"]},\"results\":{}}",
+            "Shape Bindings",
+        ),
+        (
+            "200 OK",
+            "\r\nContent-Type: application/json\r\n\r\n{\"head\":{\"vars\":[\"x\"]},\"results\":{\"bindings\":[1]}}",
+            "Shape Row",
+        ),
+        (
+            "200 OK",
+            "\r\nContent-Type: application/json\r\n\r\n{\"head\":{},\"boolean\":1}",
+            "Shape Truth",
+        ),
+        (
+            "200 OK",
+            "\r\nContent-Type: application/json\r\n\r\n{\"head\":{\"vars\":[\"x\",\"y\"]},\"results\":{\"bindings\":[{\"x\":{\"type\":\"bnode\",\"value\":\"b\"}}]}}",
+            "Blank",
+        ),
+        (
+            "200 OK",
+            "\r\nContent-Type: application/json\r\n\r\n{\"head\":{\"vars\":[\"x\",\"y\"]},\"results\":{\"bindings\":[{\"x\":{\"type\":\"uri\",\"value\":\"b\"}}]}}",
+            "BadTerm",
+        ),
+        (
+            "200 OK",
+            "\r\nContent-Type: application/json\r\n\r\n{\"head\":{\"vars\":[\"x\"]},\"results\":{\"bindings\":[]}}",
+            "NotFirst",
+        ),
+        (
+            "200 OK",
+            "\r\nContent-Type: application/json\r\n\r\n{\"head\":{\"vars\":[\"x\",\"y\",\"z\"]},\"results\":{\"bindings\":[]}}",
+            "NotFirst",
+        ),
+        (
+            "200 OK",
+            "\r\nContent-Type: application/json\r\n\r\n{\"head\":{},\"boolean\":true}",
+            "NotFirst",
+        ),
+    ] {
+        let mut bytes = Vec::new(rt.alloc());
+        for part in ["HTTP/1.1 ", status, rest] {
+            bytes.extend_from_slice(part.as_bytes())?;
+        }
+        let mut script = Vec::new(rt.alloc());
+        push_tables(rt.alloc(), &mut script, 8001, "yes")?;
+        push_tables(rt.alloc(), &mut script, 8002, "yes")?;
+        script.push((address(rt.alloc(), 8001).ok_or("no address")?, bytes))?;
+        let mut wire = ScriptWire::new(rt.alloc(), script)?;
+        let answer = ask(rt.alloc(), PATTERN, &mut wire).ok_or("not asked")?;
+        let refusal = refusal_text(rt.alloc(), answer.err())?;
+        let want = format!(in rt.alloc(); "bad reply from 0: {want}")?;
+        assert_eq!(rt; refusal.as_str(), want.as_str(), "at {status}{rest}");
     }
-    let mut wire = ScriptWire::new(rt.alloc(), script)?;
-    let answer = ask(rt.alloc(), PATTERN, &mut wire).ok_or("not asked")?;
-    assert_eq!(rt; answer?.as_str(), "x/");
-    let mut log = wire.log().iter();
-    for port in [8001, 8002] {
-        let exchange = log.next().ok_or("no exchange")?;
-        assert_eq!(rt; exchange.at.port(), port);
-        let text = b"\r\n\r\nSELECT ?x ?y WHERE { ?x <http://e/p> ?y . }";
-        assert!(rt; exchange.request.as_slice().ends_with(text));
+    Ok(())
+}
+
+#[test]
+fn each_pattern_is_asked_of_its_sources(rt: HostRuntime) -> Result<(), Fail> {
+    // Queries that are answered one after the other with one cache: what each endpoint replies, the answer, and what is sent.
+    let mut cache = AskCache::new(rt.alloc())?;
+    for (text, first, second, want, sent) in [
+        (
+            "SELECT * WHERE { ?x <http://e/none> ?y }",
+            "no",
+            "no",
+            "x y/",
+            "8001 ASK WHERE { ?v0 <http://e/none> ?v1 . };8002 ASK WHERE { ?v0 <http://e/none> ?v1 . };",
+        ),
+        (
+            "SELECT * WHERE { ?x ?p ?x }",
+            "no",
+            "no",
+            "x p/",
+            "8001 ASK WHERE { ?v0 ?v1 ?v0 . };8002 ASK WHERE { ?v0 ?v1 ?v0 . };",
+        ),
+        (
+            "SELECT * WHERE { ?x ?p ?y }",
+            "no",
+            "yes|x p y/x=a:1 p=b:1 y=c:1;",
+            "x p y/p=b:1 x=a:1 y=c:1;",
+            "8001 ASK WHERE { ?v0 ?v1 ?v2 . };8002 ASK WHERE { ?v0 ?v1 ?v2 . };8002 SELECT ?x ?p ?y WHERE { ?x ?p ?y . };",
+        ),
+        ("SELECT * WHERE { ?s ?q ?s }", "", "", "s q/", ""),
+        (
+            "SELECT * WHERE { ?y <http://e/p> ?x . ?a ?b ?c . ?x <http://e/none> ?y }",
+            "yes",
+            "no",
+            "y x a b c/",
+            "8001 ASK WHERE { ?v0 <http://e/p> ?v1 . };8002 ASK WHERE { ?v0 <http://e/p> ?v1 . };",
+        ),
+    ] {
+        let mut script = Vec::new(rt.alloc());
+        push_tables(rt.alloc(), &mut script, 8001, first)?;
+        push_tables(rt.alloc(), &mut script, 8002, second)?;
+        let mut wire = ScriptWire::new(rt.alloc(), script)?;
+        let answer = ask_with(rt.alloc(), text, &mut cache, &mut wire).ok_or("not asked")?;
+        assert_eq!(rt; answer?.as_str(), want, "at {text}");
+        let log = sent_texts(rt.alloc(), &wire).ok_or("no texts")?;
+        assert_eq!(rt; log.as_str(), sent, "at {text}");
     }
-    assert!(rt; log.next().is_none());
+    assert_eq!(rt; cache.len(), 8);
+    Ok(())
+}
+
+#[test]
+fn a_plan_has_the_parts_of_its_query(rt: HostRuntime) -> Result<(), Fail> {
+    // The query, what each endpoint answers to ASK, and the text of the plan.
+    for (text, first, second, want) in [
+        // A filter doesn't end a run.
+        (
+            "SELECT * WHERE { ?x <http://e/p> ?y FILTER ( ?y = ?x ) ?y <http://e/q> ?z }",
+            "yes|yes",
+            "no|no",
+            "run 0\ngroup A 3 free\n  ?x <http://e/p> ?y .\n  ?y <http://e/q> ?z .\n  FILTER ( ?y = ?x )\n",
+        ),
+        // A BIND does, and what it binds is known behind it.
+        (
+            "SELECT * WHERE { ?x <http://e/p> ?y BIND ( 1 AS ?z ) ?y <http://e/q> ?z }",
+            "yes|yes",
+            "yes|no",
+            "run 0\nsingle A,B 2 free\n  ?x <http://e/p> ?y .\nrun 1\ngroup A 0 free\n  ?y <http://e/q> ?z .\n",
+        ),
+        // No request would be sent for a run with a pattern that has no source.
+        (
+            "SELECT * WHERE { ?x <http://e/p> ?y . ?y <http://e/q> ?z }",
+            "yes|no",
+            "yes|no",
+            "run 0 empty\n",
+        ),
+        // What is bound on the left of an OPTIONAL is known in it where it holds triples and filters alone.
+        (
+            "SELECT * WHERE { ?x <http://e/p> ?y OPTIONAL { ?y <http://e/q> ?z } OPTIONAL { ?y <http://e/q> ?w { } } }",
+            "yes|yes",
+            "no|no",
+            "run 0\ngroup A 2 free\n  ?x <http://e/p> ?y .\nrun 1\ngroup A 1 free\n  ?y <http://e/q> ?z .\nrun 2\ngroup A 2 free\n  ?y <http://e/q> ?w .\n",
+        ),
+        // What an OPTIONAL or a UNION binds is known behind it, and what a MINUS binds isn't.
+        (
+            "SELECT * WHERE { { ?x <http://e/p> ?y } UNION { SERVICE <http://e/s> { ?x <http://e/r> ?v } } MINUS { ?x <http://e/p> ?w } ?v <http://e/p> ?w }",
+            "yes",
+            "no",
+            "run 0\ngroup A 2 free\n  ?x <http://e/p> ?y .\nservice http://e/s\nrun 1\ngroup A 2 free\n  ?x <http://e/p> ?w .\nrun 2\ngroup A 1 free\n  ?v <http://e/p> ?w .\n",
+        ),
+    ] {
+        let mut script = Vec::new(rt.alloc());
+        push_tables(rt.alloc(), &mut script, 8001, first)?;
+        push_tables(rt.alloc(), &mut script, 8002, second)?;
+        let mut wire = ScriptWire::new(rt.alloc(), script)?;
+        let plan = plan(rt.alloc(), text, &mut wire).ok_or("not asked")?;
+        assert_eq!(rt; plan?.as_str(), want, "at {text}");
+    }
+    Ok(())
+}
+
+#[test]
+fn a_refusal_leaves_the_cache_as_it_was(rt: HostRuntime) -> Result<(), Fail> {
+    let mut cache = AskCache::new(rt.alloc())?;
+    for (first, second, want, held) in [
+        ("yes", "", "member 1 failed", 0),
+        ("yes", "yes", "member 0 failed", 0),
+        ("yes|x y/", "x y/", "bad reply from 1: NotTruth", 0),
+        ("yes|x y/", "no", "an answer", 2),
+        ("", "", "member 0 failed", 2),
+    ] {
+        let mut script = Vec::new(rt.alloc());
+        push_tables(rt.alloc(), &mut script, 8001, first)?;
+        push_tables(rt.alloc(), &mut script, 8002, second)?;
+        let mut wire = ScriptWire::new(rt.alloc(), script)?;
+        let answer = ask_with(rt.alloc(), PATTERN, &mut cache, &mut wire).ok_or("not asked")?;
+        let refusal = refusal_text(rt.alloc(), answer.err())?;
+        assert_eq!(rt; refusal.as_str(), want, "at {first} and {second}");
+        assert_eq!(rt; cache.len(), held, "at {first} and {second}");
+    }
     Ok(())
 }
 
@@ -239,17 +478,67 @@ fn asked_text(alloc: Global, text: &str) -> Option<String> {
 
 // What a plain query answers over the two endpoints: its columns, a `/`, and its rows. None where the query isn't plain.
 fn ask(alloc: Global, text: &str, wire: &mut ScriptWire) -> Option<Result<String, FedError>> {
-    let endpoints = [endpoint(alloc, 8001)?, endpoint(alloc, 8002)?];
-    if !endpoints[0].is_sendable() || !endpoints[1].is_sendable() {
-        return None;
-    }
+    let mut cache = AskCache::new(alloc).ok()?;
+    ask_with(alloc, text, &mut cache, wire)
+}
+
+// The same by what a cache holds, which learns.
+fn ask_with(
+    alloc: Global,
+    text: &str,
+    cache: &mut AskCache,
+    wire: &mut ScriptWire,
+) -> Option<Result<String, FedError>> {
+    let lines = "A http://127.0.0.1:8001/sparql\nB http://127.0.0.1:8002/sparql\n";
+    let registry = Registry::read(alloc, lines.as_bytes()).ok()?;
     let query = parse(alloc, text.as_bytes()).ok()?;
     if !is_plain(&query) {
         return None;
     }
-    match federate(alloc, &query, endpoints.as_slice(), wire) {
+    match federate(alloc, &query, &registry, cache, wire) {
         Ok(answer) => Some(Ok(answer_text(alloc, &answer)?)),
         Err(error) => Some(Err(error)),
+    }
+}
+
+// The text of the plan over two endpoints, with a new cache.
+fn plan(alloc: Global, text: &str, wire: &mut ScriptWire) -> Option<Result<String, FedError>> {
+    let lines = "A http://127.0.0.1:8001/sparql\nB http://127.0.0.1:8002/sparql\n";
+    let registry = Registry::read(alloc, lines.as_bytes()).ok()?;
+    let query = parse(alloc, text.as_bytes()).ok()?;
+    let mut cache = AskCache::new(alloc).ok()?;
+    match plan_parts(alloc, &query, &registry, &mut cache, wire) {
+        Ok(parts) => Some(Ok(explain(alloc, parts.as_slice(), registry.endpoints()).ok()?)),
+        Err(error) => Some(Err(error)),
+    }
+}
+
+// What was sent, each as its port and its text with a `;` behind.
+fn sent_texts(alloc: Global, wire: &ScriptWire) -> Option<String> {
+    let mut texts = String::new(alloc);
+    for exchange in wire.log() {
+        let request = from_utf8(exchange.request.as_slice()).ok()?;
+        let (_, text) = request.split_once("\r\n\r\n")?;
+        let port = exchange.at.port();
+        let line = format!(in alloc; "{port} {text};").ok()?;
+        texts.push_str(line.as_str()).ok()?;
+    }
+    Some(texts)
+}
+
+// A refusal as one line.
+fn refusal_text(alloc: Global, refusal: Option<FedError>) -> Result<String, Memory> {
+    match refusal {
+        None => Ok(String::from_str(alloc, "an answer")?),
+        Some(FedError::Member { at }) => Ok(format!(in alloc; "member {at} failed")?),
+        Some(FedError::BadReply { at, why }) => match why.code() {
+            None => Ok(format!(in alloc; "bad reply from {at}: {}", why.words())?),
+            Some(code) => Ok(format!(in alloc; "bad reply from {at}: {} {code}", why.words())?),
+        },
+        Some(FedError::RequestTooLong { at, length }) => {
+            Ok(format!(in alloc; "request for {at} has {length} bytes")?)
+        }
+        Some(FedError::Memory) => Ok(String::from_str(alloc, "no memory")?),
     }
 }
 
@@ -276,15 +565,8 @@ fn address(alloc: Global, port: u16) -> Option<Iri> {
     Iri::read(alloc, text.as_str()).ok()
 }
 
-fn endpoint(alloc: Global, port: u16) -> Option<Endpoint> {
-    let name = String::from_str(alloc, "A").ok()?;
-    let iri = address(alloc, port)?;
-    let host = String::from_str(alloc, "127.0.0.1").ok()?;
-    let target = String::from_str(alloc, "/sparql").ok()?;
-    Some(Endpoint::new(name, iri, host, port, target))
-}
-
-// Adds replies for a port's address: tables with a `|` between, each as its columns, a `/`, and its rows.
+// Adds replies for a port's address, with a `|` between: tables, each as its columns, a `/`, and its rows, and truth values, as
+// `yes` or `no`. An empty text is no reply.
 fn push_tables(
     alloc: Global,
     script: &mut Vec<(Iri, Vec<u8>)>,
@@ -292,11 +574,25 @@ fn push_tables(
     texts: &str,
 ) -> Result<(), Fail> {
     for text in texts.split('|') {
-        let (columns, rows) = text.split_once('/').ok_or("no table")?;
-        let address = address(alloc, port).ok_or("no address")?;
-        script.push((address, table(alloc, columns, rows)?))?;
+        if !text.is_empty() {
+            let address = address(alloc, port).ok_or("no address")?;
+            script.push((address, table_or_truth(alloc, text)?))?;
+        }
     }
     Ok(())
+}
+
+fn table_or_truth(alloc: Global, text: &str) -> Result<Vec<u8>, Memory> {
+    match text.split_once('/') {
+        Some((columns, rows)) => table(alloc, columns, rows),
+        None => {
+            if text == "yes" {
+                reply(alloc, "200 OK", "{\"head\":{},\"boolean\":true}")
+            } else {
+                reply(alloc, "200 OK", "{\"head\":{},\"boolean\":false}")
+            }
+        }
+    }
 }
 
 // Adds a reply for a port's address, as its status, a `/`, and its body. An empty text is no reply.

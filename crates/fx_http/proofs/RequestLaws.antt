@@ -1,7 +1,8 @@
 -- The request that is written is a whole request.
-use Rattle.std.proofs.Common.{◌≡◌, ◌∙◌, ℕ, ◌+◌, ◌<◌, ◌≤◌, ◌^◌, Bool, true, false, cond, List, [], ◌∷◌, ◌++◌, length, reverse, refl, sym, ap, arith, tests, append_assoc, ◌==◌, ◌&&◌}
-use Rattle.std.specs.Prelude.{codes, nat_le, not}
-use Rattle.std.specs.List.{All, list_all}
+use Rattle.std.proofs.Common.{◌≡◌, ◌∙◌, ℕ, ◌+◌, ◌<◌, ◌≤◌, ◌^◌, Bool, true, false, cond, List, [], ◌∷◌, ◌++◌, length, reverse, refl, sym, ap, arith, tests, append_assoc, ◌==◌, ◌&&◌, None, Ok}
+use Rattle.std.specs.Prelude.{codes, drop, suc, nat_le, nat_lt, not}
+use Rattle.std.specs.List.{All, list_all, position_or_len}
+use Rattle.std.proofs.Math.Seq.{take-length}
 use Rattle.std.specs.Fmt.{decimal}
 use Rattle.std.specs.Char.{is_ascii_digit}
 use Rattle.std.specs.Str.{all_ascii_digits}
@@ -12,11 +13,13 @@ use Rattle.std.proofs.lemmas.Fmt.{decimal_nonempty, length-decimal-le, digits_de
 use Rattle.std.proofs.lemmas.Str.{IsUtf8-from_ascii}
 use Rattle.std.proofs.lemmas.Str.Ascii.{IsAscii-from_all}
 use Rattle.httparse.specs.Grammar.{is_token_byte, is_uri_byte, is_value_byte, is_ows, AllPass, IsToken, crlf, Field, IsField, skip_ows, trim_ows, RequestHead, print_request}
-use Rattle.httparse.proofs.GrammarLemmas.{print_request-append, request_unique}
+use Rattle.httparse.proofs.GrammarLemmas.{print_request-append}
 use Rattle.httparse.proofs.TrimLemmas.{trim_ows_space, AllPass-reverse}
 use Rattle.fx_outside.specs.Endpoints.{EndpointParts, is_sendable, is_host_byte, is_host, is_target_byte, is_target}
-use Rattle.fx_http.specs.Fields.{named, has_one, is_missing}
-use Rattle.fx_http.specs.Requests.{authority, request_of, is_query_type, is_length, is_bare, is_question_mark, IsRequest}
+use Rattle.form_urlencoded.specs.Form.{raw_pairs, split}
+use Rattle.fx_http.specs.Fields.{named, values, is_missing, is_repeated, is_number}
+use Rattle.fx_http.specs.Forms.{is_question_mark, query_part, names_dataset}
+use Rattle.fx_http.specs.Requests.{authority, request_of, is_length, is_query, is_form, stated_length, post_fault, parts_answer, IsRequest}
 use Rattle.fx_http.proofs.NumberLemmas.{both, own}
 
 -- ---- the layout
@@ -128,14 +131,22 @@ host_before (b ∷ bs) rest h r =
     let t = both (is_host_byte b) (list_all is_host_byte bs) h in
     All-cons (λ b. is_value_byte b ≡ true) b (bs ++ rest) (host_value b t.0) (host_before bs rest t.1 r)
 
-target_bare : (target : List ℕ) → list_all is_target_byte target ≡ true → is_bare target ≡ true
-target_bare [] h = refl
-target_bare (b ∷ bs) h =
+-- such a target has no query part
+no_query : (target : List ℕ) → list_all is_target_byte target ≡ true → query_part target ≡ []
+no_query [] h = refl
+no_query (b ∷ bs) h =
     let t = both (is_target_byte b) (list_all is_target_byte bs) h in
-    rw (no_question_mark b t.0) (target_bare bs t.1)
+    rw (no_question_mark b t.0) (further (position_or_len is_question_mark bs) b bs ∙ no_query bs t.1)
   where
     no_question_mark : (b : ℕ) → is_target_byte b ≡ true → is_question_mark b ≡ false
     no_question_mark b h = grind (arith, tests)
+
+    further : (n b : ℕ) (bs : List ℕ) → drop (1 + n + 1) (b ∷ bs) ≡ drop (n + 1) bs
+    further n b bs = let e : 1 + n + 1 ≡ suc (n + 1) = omega arith in ap (λ (k : ℕ). drop k (b ∷ bs)) e
+
+no_pairs : names_dataset [] ≡ false
+unfolding raw_pairs split
+no_pairs = refl
 
 -- ---- the length in digits
 
@@ -236,18 +247,59 @@ post_token : IsToken (codes "POST")
 unfolding is_token_byte
 post_token = (omega arith, passes_all is_token_byte (codes "POST") refl)
 
-is_posted_query : (host size : List ℕ) → has_one (codes "content-type") is_query_type (named (fields_of host size)) ≡ true
+-- ---- what it asks
+
+number_is : (n : ℕ) → IsSize n → is_number (decimal n) ≡ true
+number_is n k =
+    let some = k.some in
+    let most = k.most in
+    rw k.digits (grind (arith, tests))
+
+has_size : (host : List ℕ) (n : ℕ) → IsSize n → stated_length (named (fields_of host (decimal n))) ≡ n
+has_size host n k = rw (size_value (decimal n) k.digits, number_is n k) k.value
+
+has_no_form : (host size : List ℕ) → is_form (named (fields_of host size)) ≡ false
 unfolding trim_ows
-is_posted_query host size = refl
+has_no_form host size = refl
 
-has_size : (host : List ℕ) (n : ℕ) → IsSize n → has_one (codes "content-length") (is_length n) (named (fields_of host (decimal n))) ≡ true
-has_size host n k = rw (size_value (decimal n) k.digits) (is_length_decimal n k)
+-- a POST with one length and one media type, which are good, breaks no rule
+pub record IsGoodPost (fields : List (List ℕ × List ℕ)) (size : List ℕ) : Type 0 where
+  pub sized : values (codes "content-length") fields ≡ size ∷ []
+  pub typed : is_repeated (codes "content-type") fields ≡ false
+  pub unchunked : is_missing (codes "transfer-encoding") fields ≡ true
+  pub query : is_query fields ≡ true
+  pub number : is_number size ≡ true
+  pub few : digits_value 10 size ≤ 67108864
 
-has_no_chunks : (host size : List ℕ) → is_missing (codes "transfer-encoding") (named (fields_of host size)) ≡ true
-has_no_chunks host size = refl
+faultless : (fields : List (List ℕ × List ℕ)) (size : List ℕ) → IsGoodPost fields size → post_fault fields ≡ None
+faultless fields size g = rw (g.sized, g.typed, g.unchunked, g.query, g.number, few (digits_value 10 size) g.few) refl
+  where
+    few : (n : ℕ) → n ≤ 67108864 → nat_lt 67108864 n ≡ false
+    few n h = grind (arith, tests)
 
-pub request_is : (at : EndpointParts) (text : List ℕ) → is_sendable at ≡ true → at.port < 2 ^ 16 → length text < 10 ^ 19 → IsRequest (request_of at text) text
-request_is at text sendable port short =
+good_post : (host : List ℕ) (n : ℕ) → IsSize n → n ≤ 67108864 → IsGoodPost (named (fields_of host (decimal n))) (decimal n)
+unfolding trim_ows
+good_post host n k few =
+    let value = k.value in
+    record {
+      sized = ap (λ (v : List ℕ). v ∷ []) (size_value (decimal n) k.digits);
+      typed = refl;
+      unchunked = refl;
+      query = refl;
+      number = number_is n k;
+      few = omega arith;
+    }
+
+-- a POST of a text that breaks no rule asks the text
+asks_text : (fields : List (List ℕ × List ℕ)) (query text : List ℕ) → post_fault fields ≡ None → stated_length fields ≡ length text → is_form fields ≡ false
+    → names_dataset query ≡ false → parts_answer (codes "POST") fields query text ≡ Ok text
+asks_text fields query text f size form bare = rw (f, size, take-length text, itself (length text), form, bare) refl
+  where
+    itself : (n : ℕ) → nat_lt n n ≡ false
+    itself n = grind (arith, tests)
+
+pub request_is : (at : EndpointParts) (text : List ℕ) → is_sendable at ≡ true → at.port < 2 ^ 16 → length text ≤ 67108864 → IsRequest (request_of at text) text
+request_is at text sendable port few =
     let host = authority at.host at.port in
     let size = decimal (length text) in
     let head = head_of at.target host size in
@@ -255,7 +307,7 @@ request_is at text sendable port short =
     let t = both (is_host at.host) (is_target at.target) s.0 in
     let host_bytes = (both (not (length at.host == 0)) (list_all is_host_byte at.host) t.0).1 in
     let target = target_bytes at.target t.1 in
-    let k = size_is (length text) short in
+    let k = size_is (length text) (omega arith) in
     let long = authority_length at.host at.port port in
     let most = k.most in
     let both_short : length at.host + length at.target ≤ 32768 = grind (arith, tests) in
@@ -263,23 +315,24 @@ request_is at text sendable port short =
     let total = spread_length at.target host size [] in
     record {
       head = head;
-      reads = (
-        record {
-          method = post_token;
-          target = (target.0, all_pass is_target_byte is_uri_byte target_uri at.target target.1);
-          target_text = IsUtf8-from_ascii at.target (IsAscii-from_all at.target (ascii at.target target.1));
-          minor = omega arith;
-          fields = fields_are host size (authority_value at.host at.port host_bytes port) (digits_value_bytes size k.digits);
-        },
-        request_of_is at text ∙ sym (spread_is at.target host size text),
-      );
-      near = omega arith;
-      few = omega arith;
-      bare = target_bare at.target target.1;
-      posted = refl;
-      typed = is_posted_query host size;
-      sized = has_size host (length text) k;
-      unchunked = has_no_chunks host size;
+      body = text;
+      begins = record {
+        reads = (
+          record {
+            method = post_token;
+            target = (target.0, all_pass is_target_byte is_uri_byte target_uri at.target target.1);
+            target_text = IsUtf8-from_ascii at.target (IsAscii-from_all at.target (ascii at.target target.1));
+            minor = omega arith;
+            fields = fields_are host size (authority_value at.host at.port host_bytes port) (digits_value_bytes size k.digits);
+          },
+          request_of_is at text ∙ sym (spread_is at.target host size text),
+        );
+        near = omega arith;
+        few = omega arith;
+      };
+      whole = sym (has_size host (length text) k);
+      answers = asks_text (named (fields_of host size)) (query_part at.target) text (faultless (named (fields_of host size)) size (good_post host (length text) k few)) (has_size host (length text) k) (has_no_form host size)
+          (ap names_dataset (no_query at.target target.1) ∙ no_pairs);
     }
   where
     ascii : (bs : List ℕ) → list_all is_target_byte bs ≡ true → All (λ b. b < 128) bs
@@ -287,7 +340,3 @@ request_is at text sendable port short =
     ascii (b ∷ bs) h =
         let t = both (is_target_byte b) (list_all is_target_byte bs) h in
         All-cons (λ b. b < 128) b bs (target_ascii b t.0) (ascii bs t.1)
-
--- a request has one text
-pub text_unique : (bytes s t : List ℕ) → IsRequest bytes s → IsRequest bytes t → s ≡ t
-text_unique bytes s t x y = (request_unique bytes x.head y.head s t x.reads y.reads).1

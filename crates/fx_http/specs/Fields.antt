@@ -29,6 +29,10 @@ passes test (Some v) = test v
 abbrev pub is_missing : List ℕ → List (List ℕ × List ℕ) → Bool
 is_missing name fields = length (values name fields) == 0
 
+-- two fields or more have the name
+abbrev pub is_repeated : List ℕ → List (List ℕ × List ℕ) → Bool
+is_repeated name fields = nat_le 2 (length (values name fields))
+
 -- one field alone has the name, and its value passes
 abbrev pub has_one : List ℕ → (List ℕ → Bool) → List (List ℕ × List ℕ) → Bool
 has_one name test fields = passes test (only (values name fields))

@@ -2,20 +2,13 @@
 use Rattle.std.specs.Prelude.{◌≡◌, ℕ, ◌≤◌, Bool, true, false, List, length, map, take, drop, All, Result, Ok, Err, Option, Some, None}
 use Rattle.httparse.specs.declared.spans.HeaderSpan.{HeaderSpan}
 use Rattle.httparse.specs.declared.spans.ResponseSpans.{ResponseSpans}
-use Rattle.httparse.specs.Grammar.{RequestHead, ReadsRequest, print_request, ResponseHead, ReadsResponse, print_response, status_code}
+use Rattle.httparse.specs.Grammar.{ResponseHead, ReadsResponse, print_response, status_code}
 use Rattle.httparse.specs.Spans.{IsHeaderWithin, header_bytes}
 use Rattle.fx_http.specs.Fields.{named}
 use Rattle.fx_http.specs.Chunks.{IsChunked, HasNoChunks}
 use Rattle.fx_http.specs.Replies.{fault_of, is_plain}
 use Rattle.fx_http.specs.declared.replies.ReplyError.{ReplyError}
 use Rattle.fx_http.specs.declared.replies.ReplyError.TheVariants.{Chunk}
-
--- a request's head that the bytes begin with ends there
-pub record IsRequestHeadOf (front : List ℕ) (end : ℕ) : Type 0 where
-  pub head : RequestHead
-  pub reads : ReadsRequest front head (drop end front)
-  pub len : end ≡ length (print_request head)
-  pub within : end ≤ length front
 
 -- the offsets are those of a head that the bytes begin with
 pub record IsHeadOf (front : List ℕ) (headers : List HeaderSpan) (spans : ResponseSpans) : Type 0 where

@@ -1,5 +1,7 @@
 pub mod Fields
+pub mod Forms
 pub mod Requests
+pub mod RequestHeads
 pub mod Chunks
 pub mod Replies
 pub mod Heads

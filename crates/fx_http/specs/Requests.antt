@@ -1,12 +1,15 @@
 -- A query as an HTTP request (SPARQL 1.1 Protocol, 2.1.3; RFC 9112).
-use Rattle.std.specs.Prelude.{◌≡◌, ℕ, ◌≤◌, Bool, true, List, [], ◌∷◌, ◌++◌, length, codes, if◌then◌else◌, ◌==◌, ◌&&◌, not}
-use Rattle.std.specs.List.{list_any}
+use Rattle.std.specs.Prelude.{◌≡◌, ℕ, ◌≤◌, ◌⊎◌, Bool, List, [], ◌∷◌, ◌++◌, length, take, codes, Option, Some, None, Result, Ok, Err, if◌then◌else◌, ◌==◌, ◌&&◌, ◌||◌, not, nat_lt, bytes_eq}
+use Rattle.std.specs.List.{list_all}
 use Rattle.std.specs.Fmt.{decimal}
 use Rattle.std.specs.Str.{str_eq_ignore_ascii_case}
 use Rattle.std.specs.Str.Parse.{digits_value}
 use Rattle.httparse.specs.Grammar.{RequestHead, ReadsRequest, print_request}
 use Rattle.fx_outside.specs.Endpoints.{EndpointParts}
-use Rattle.fx_http.specs.Fields.{named, is_missing, has_one, media_type, is_number}
+use Rattle.fx_http.specs.Fields.{named, values, only, is_missing, is_repeated, has_one, media_type, is_number}
+use Rattle.fx_http.specs.Forms.{query_part, form_values, names_dataset}
+use Rattle.fx_http.specs.declared.read_requests.RequestError.{RequestError}
+use Rattle.fx_http.specs.declared.read_requests.RequestError.TheVariants.{Fault, Malformed, Method, MediaType, NoQuery, TwoQueries, Dataset, NoLength, TooLong, Ended, Memory}
 
 -- a line, with CR LF
 abbrev pub line : List ℕ → List ℕ
@@ -36,22 +39,145 @@ is_query_type value = str_eq_ignore_ascii_case (media_type value) (codes "applic
 abbrev pub is_length : ℕ → List ℕ → Bool
 is_length size value = is_number value && digits_value 10 value == size
 
-abbrev pub is_question_mark : ℕ → Bool
-is_question_mark b = b == 63
+-- ---- what a head says of the body behind it
 
--- the target has no query part, where a dataset could be named
-abbrev pub is_bare : List ℕ → Bool
-is_bare target = not (list_any is_question_mark target)
+abbrev pub is_form_type : List ℕ → Bool
+is_form_type value = str_eq_ignore_ascii_case (media_type value) (codes "application/x-www-form-urlencoded")
 
--- the bytes are one whole request, which posts the query's text as it is: its head is in the first 65,536 bytes and has at most
--- 100 fields, and one Content-Type and one Content-Length among them
-pub record IsRequest (bytes text : List ℕ) : Type 0 where
-  pub head : RequestHead
-  pub reads : ReadsRequest bytes head text
+-- the body is the query's text
+abbrev pub is_query : List (List ℕ × List ℕ) → Bool
+is_query fields = has_one (codes "content-type") is_query_type fields
+
+-- the body is a form
+abbrev pub is_form : List (List ℕ × List ℕ) → Bool
+is_form fields = has_one (codes "content-type") is_form_type fields
+
+-- two lengths or two media types, a length beside a coding, or a length that isn't 1 to 19 digits
+abbrev pub is_malformed : List (List ℕ × List ℕ) → Bool
+is_malformed fields =
+    is_repeated (codes "content-length") fields
+    || is_repeated (codes "content-type") fields
+    || (not (is_missing (codes "content-length") fields) && not (is_missing (codes "transfer-encoding") fields))
+    || not (list_all is_number (values (codes "content-length") fields))
+
+abbrev pub length_in : Option (List ℕ) → ℕ
+length_in None = 0
+length_in (Some value) = if is_number value then digits_value 10 value else 0
+
+-- how many bytes the one Content-Length gives the body; 0 where there isn't one, or it is no number
+abbrev pub stated_length : List (List ℕ × List ℕ) → ℕ
+stated_length fields = length_in (only (values (codes "content-length") fields))
+
+-- the first rule that the fields of a POST break
+abbrev pub post_fault : List (List ℕ × List ℕ) → Option RequestError
+post_fault fields =
+    if is_malformed fields then Some Malformed
+    else if is_missing (codes "content-length") fields then Some NoLength
+    else if nat_lt 67108864 (stated_length fields) then Some TooLong
+    else if not (is_query fields || is_form fields) then Some MediaType
+    else None
+
+-- ---- what a request asks
+
+-- by the values of the pairs that are named `query`
+abbrev pub only_query : List (List ℕ) → Result (List ℕ) RequestError
+only_query [] = Err NoQuery
+only_query (v ∷ []) = Ok v
+only_query (v ∷ w ∷ vs) = Err TwoQueries
+
+-- a GET, by the query part of its target
+abbrev pub get_answer : List ℕ → Result (List ℕ) RequestError
+get_answer query = if names_dataset query then Err Dataset else only_query (form_values (codes "query") query)
+
+-- a POST of a form, by the query part of its target and the form
+abbrev pub form_answer : List ℕ → List ℕ → Result (List ℕ) RequestError
+form_answer query form = if names_dataset query || names_dataset form then Err Dataset else only_query (form_values (codes "query") form)
+
+-- a POST of a query's text, by the query part of its target and the text
+abbrev pub text_answer : List ℕ → List ℕ → Result (List ℕ) RequestError
+text_answer query text = if names_dataset query then Err Dataset else Ok text
+
+-- a POST whose body has come as far as it does
+abbrev pub body_answer : List (List ℕ × List ℕ) → List ℕ → List ℕ → Result (List ℕ) RequestError
+body_answer fields query body =
+    if nat_lt (length body) (stated_length fields) then Err Ended
+    else if is_form fields then form_answer query body
+    else text_answer query body
+
+-- a POST, by the first rule that its fields break, and by what is behind its head
+abbrev pub post_answer : Option RequestError → List (List ℕ × List ℕ) → List ℕ → List ℕ → Result (List ℕ) RequestError
+post_answer (Some fault) fields query rest = Err fault
+post_answer None fields query rest = body_answer fields query (take (stated_length fields) rest)
+
+-- a method, fields, the query part of the target, and what is behind the head
+abbrev pub parts_answer : List ℕ → List (List ℕ × List ℕ) → List ℕ → List ℕ → Result (List ℕ) RequestError
+parts_answer method fields query rest =
+    if bytes_eq method (codes "GET") then get_answer query
+    else if bytes_eq method (codes "POST") then post_answer (post_fault fields) fields query rest
+    else Err Method
+
+-- the text that a head and what is behind it ask, or the first rule that they break
+abbrev pub answer_of : RequestHead → List ℕ → Result (List ℕ) RequestError
+answer_of head rest = parts_answer head.method (named head.fields) (query_part head.target) rest
+
+-- the bytes begin with the head, in their first 65,536 and with at most 100 fields, and the rest is behind it
+pub record BeginsWithRequest (bytes : List ℕ) (head : RequestHead) (rest : List ℕ) : Type 0 where
+  pub reads : ReadsRequest bytes head rest
   pub near : length (print_request head) ≤ 65536
   pub few : length head.fields ≤ 100
-  pub bare : is_bare head.target ≡ true
-  pub posted : head.method ≡ codes "POST"
-  pub typed : has_one (codes "content-type") is_query_type (named head.fields) ≡ true
-  pub sized : has_one (codes "content-length") (is_length (length text)) (named head.fields) ≡ true
-  pub unchunked : is_missing (codes "transfer-encoding") (named head.fields) ≡ true
+
+-- the bytes begin with no head of a request
+abbrev pub HasNoRequestHead : List ℕ → Type 0
+HasNoRequestHead bytes = (head : RequestHead) (rest : List ℕ) → ¬ BeginsWithRequest bytes head rest
+
+-- the input begins with a head, and asks this by it
+pub record AsksByHead (input : List ℕ) (answer : Result (List ℕ) RequestError) : Type 0 where
+  pub head : RequestHead
+  pub rest : List ℕ
+  pub begins : BeginsWithRequest input head rest
+  pub answers : answer_of head rest ≡ answer
+
+-- what an input asks: a text, or the first rule that it breaks; what is behind the request doesn't matter
+abbrev pub Asks : List ℕ → Result (List ℕ) RequestError → Type 0
+Asks input answer = AsksByHead input answer ⊎ (HasNoRequestHead input × (answer ≡ Err Malformed))
+
+-- how many bytes the body has; a GET has none
+abbrev pub body_length : List ℕ → List (List ℕ × List ℕ) → ℕ
+body_length method fields = if bytes_eq method (codes "GET") then 0 else stated_length fields
+
+-- the bytes are one whole request that breaks no rule, with nothing behind it, and ask the text
+pub record IsRequest (bytes text : List ℕ) : Type 0 where
+  pub head : RequestHead
+  pub body : List ℕ
+  pub begins : BeginsWithRequest bytes head body
+  pub whole : length body ≡ body_length head.method (named head.fields)
+  pub answers : answer_of head body ≡ Ok text
+
+-- ---- refusals
+
+-- the status that a request is refused with (RFC 9110, 15.5); a fault of reading and want of memory have none
+abbrev pub status_of : RequestError → Option ℕ
+status_of Fault = None
+status_of Malformed = Some 400
+status_of Method = Some 405
+status_of MediaType = Some 415
+status_of NoQuery = Some 400
+status_of TwoQueries = Some 400
+status_of Dataset = Some 400
+status_of NoLength = Some 411
+status_of TooLong = Some 413
+status_of Ended = Some 400
+status_of Memory = None
+
+abbrev pub request_error_name : RequestError → List ℕ
+request_error_name Fault = codes "Fault"
+request_error_name Malformed = codes "Malformed"
+request_error_name Method = codes "Method"
+request_error_name MediaType = codes "MediaType"
+request_error_name NoQuery = codes "NoQuery"
+request_error_name TwoQueries = codes "TwoQueries"
+request_error_name Dataset = codes "Dataset"
+request_error_name NoLength = codes "NoLength"
+request_error_name TooLong = codes "TooLong"
+request_error_name Ended = codes "Ended"
+request_error_name Memory = codes "Memory"

@@ -1,6 +1,6 @@
 //! The fields of a head, by their names.
 ghost use Rattle.std.specs.Prelude.{◌≡◌, ◌≤◌, All, length, map, true};
-ghost use Rattle.std.specs.List.{before_first, position_or_len};
+ghost use Rattle.std.specs.List.{before_first, list_all, position_or_len};
 ghost use Rattle.std.specs.Option.{option_copied};
 ghost use Rattle.std.specs.Str.{all_ascii_digits, str_eq_ignore_ascii_case};
 ghost use Rattle.std.specs.Str.Parse.{digits_value};
@@ -35,6 +35,27 @@ pub fn is_missing(bytes: &[u8], headers: &[HeaderSpan], name: &[u8]) -> bool
 {
     for header in headers {
         if is_same(header.name.of(bytes), name) {
+            return false;
+        }
+    }
+    true
+}
+
+// Whether two fields or more have the name.
+pub fn is_repeated(bytes: &[u8], headers: &[HeaderSpan], name: &[u8]) -> bool
+    requires { All (IsHeaderWithin (length bytes.now)) headers.now }
+    ensures { result ≡ field.is_repeated name.now (map (header_bytes bytes.now) headers.now) }
+{
+    !is_missing(bytes, headers, name) && only_value(bytes, headers, name).is_none()
+}
+
+// Whether each value of the fields of the name is a number.
+pub fn are_numbers(bytes: &[u8], headers: &[HeaderSpan], name: &[u8]) -> bool
+    requires { All (IsHeaderWithin (length bytes.now)) headers.now }
+    ensures { result ≡ list_all field.is_number (field.values name.now (map (header_bytes bytes.now) headers.now)) }
+{
+    for header in headers {
+        if is_same(header.name.of(bytes), name) && !is_number(header.value.of(bytes)) {
             return false;
         }
     }

@@ -1,5 +1,5 @@
 //! Requests to endpoints.
-ghost use Rattle.std.specs.Prelude.{◌≡◌, true, IfOk, string_bytes};
+ghost use Rattle.std.specs.Prelude.{◌≡◌, ◌≤◌, true, length, IfOk, string_bytes};
 ghost use Rattle.fx_outside.specs.Endpoints.{is_sendable};
 ghost use Rattle.fx_http.specs.Requests.{IsRequest, authority, request_of};
 
@@ -12,7 +12,9 @@ use std::alloc::{AllocError, Global};
 pub fn request_bytes(alloc: Global, at: &Endpoint, text: &str) -> Result<Vec<u8>, Memory>
     requires sendable { is_sendable at.now ≡ true }
     ensures exact { IfOk result (λ bytes. bytes.items ≡ request_of at.now text.now) }
-    ensures whole { IfOk result (λ bytes. IsRequest bytes.items text.now) }
+
+    // A text above the most bytes of a body is refused by who reads it.
+    ensures whole { length text.now ≤ 67108864 → IfOk result (λ bytes. IsRequest bytes.items text.now) }
 {
     let target = at.target();
     let authority = authority(alloc, at.host(), at.port())?;

@@ -1,6 +1,3 @@
-pub mod FitLemmas
-pub mod ObjectLemmas
-pub mod RunLemmas
 pub mod OperatorLemmas
 pub mod GroupLemmas
 pub mod CountLemmas

@@ -20,7 +20,7 @@ graph_of (pair ∷ pairs) address = if is_eq (text_cmp pair.0 address) then Some
 
 -- the graph of an address
 abbrev pub graph_in : GraphWire → List ℕ → Option (List Triple)
-graph_in wire address = graph_of wire.graphs.items address
+graph_in wire address = graph_of wire.stores.items address
 
 -- the exchanges that were answered
 abbrev pub log_in : GraphWire → List Exchange

@@ -11,7 +11,8 @@ use crate::places::first_here;
 use fx_algebra::{Answer, Inline, Query, Solution};
 use fx_solutions::laws::one_answer;
 use fx_solutions::{answer_of_rows, inline_rows, join_with};
-use fx_terms::{Graph, Memory};
+use fx_store::Store;
+use fx_terms::Memory;
 use std::alloc::Global;
 
 /// Why a query has no answer over a graph.
@@ -34,35 +35,35 @@ impl From<Memory> for MemberError {
     }
 }
 
-/// The answer of a query over a graph (SPARQL 1.1 section 18.5), where the occurrences of SERVICE whose numbers are in `down` are
+/// The answer of a query over a store's graph (SPARQL 1.1 section 18.5), where the occurrences of SERVICE whose numbers are in `down` are
 /// down: none is asked, and each gives the one empty solution.
 ///
 /// `ServiceHere` comes exactly where the number of some occurrence isn't in `down`, and names the first. `Memory` comes where
 /// memory runs out.
 pub fn answer(
     alloc: Global,
-    graph: &Graph,
+    store: &Store,
     query: &Query,
     down: &[u64],
 ) -> Result<Answer, MemberError>
-    ensures answer { IfOk result (λ answer. (graphs : List ℕ → List TripleTree) → answer ≡ answer_of query.now graph.now graphs down.now) }
+    ensures answer { IfOk result (λ answer. (graphs : List ℕ → List TripleTree) → answer ≡ answer_of query.now store.now graphs down.now) }
     ensures whole { IfOk result (λ _. first_here_of query.now down.now ≡ None) }
     ensures cause { IfErr result (IsCause query.now down.now) }
 {
     if let Some(place) = first_here(alloc, query, down)? {
         return Err(MemberError::ServiceHere { place });
     }
-    let answer = answer_here(alloc, graph, query)?;
+    let answer = answer_here(alloc, store, query)?;
     Ok(answer)
 }
 
 // The answer of a query over a graph, where all that it would ask are down.
-fn answer_here(alloc: Global, graph: &Graph, query: &Query) -> Result<Answer, Memory>
-    ensures { IfOk result (IsAnswerOf query.now graph.now) }
+fn answer_here(alloc: Global, store: &Store, query: &Query) -> Result<Answer, Memory>
+    ensures { IfOk result (IsAnswerOf query.now store.now) }
 {
     // The rows come in some order, and the answer doesn't depend on it.
     one_answer();
-    let found = group_rows(alloc, graph, &query.group)?;
+    let found = group_rows(alloc, store, &query.group)?;
     let rows = with_inline(alloc, &query.inline, found)?;
     known_to_rise(rows.as_slice());
     let answer = answer_of_rows(alloc, query, rows.as_slice())?;

@@ -1,20 +1,14 @@
 //! A wire in memory that answers by the SPARQL algebra over graphs.
-ghost use Rattle.std.specs.Prelude.{◌≡◌, ◌<◌, ◌≤◌, ◌++◌, ◌∷◌, [], IfOk, IsOkAnd, OnOk, OnErr, List, ℕ, length, option_copied, true};
-ghost use Rattle.fx_algebra.specs.Answers.{answer_alone};
-ghost use Rattle.fx_algebra.specs.Occurrences.{services};
+ghost use Rattle.std.specs.Prelude.{◌≡◌, ◌<◌, ◌≤◌, ◌++◌, ◌∷◌, [], IfOk, OnOk, OnErr, List, ℕ, length, option_copied};
 ghost use Rattle.fx_member.specs.GraphWires as spec;
-ghost use Rattle.fx_results.specs.Meanings.{binds_columns};
-ghost use Rattle.fx_syntax.specs.Accepted.{IsSpellable};
+ghost use Rattle.fx_outside.specs.MemoryLinks.{left_in};
 ghost use Rattle.fx_terms.specs.Graphs.{IsGraph};
 ghost use Rattle.fx_wire.specs.Exchanges.{exchanged};
-ghost use Rattle.fx_wire.specs.Honest.{IsHonest, Replies};
+ghost use Rattle.fx_wire.specs.Honest.{IsHonest};
 
-use crate::answering::{MemberError, answer};
-use fx_algebra::{Answer, Query};
-use fx_http::{posted_text, reply_bytes};
-use fx_outside::{Endpoint, NameCounts};
-use fx_results::write;
-use fx_syntax::{SyntaxError, SyntaxKind, parse};
+use crate::serving::{ServeError, prepare};
+use fx_outside::{Endpoint, MemoryLink, NameCounts};
+use fx_store::Store;
 use fx_terms::{Graph, Iri, Memory};
 use fx_wire::script_wires::Answered;
 use fx_wire::{Wire, WireError};
@@ -24,19 +18,19 @@ use std::alloc::Global;
 /// address without a graph is a fault, and there is no other.
 #[derive(Debug, Drop)]
 pub struct GraphWire {
-    graphs: Vec<(Iri, Graph)>,
+    stores: Vec<(Iri, Store)>,
     log: Vec<Answered>,
     faults: NameCounts,
 }
 
 impl GraphWire {
     /// The wire of these graphs, each for its address. No address is to stand twice: the first of equal addresses counts.
-    /// It takes no memory, so `Memory` doesn't come: the answer is always `Ok`.
+    /// `Memory` comes where memory runs out.
     pub fn new(alloc: Global, graphs: Vec<(Iri, Graph)>) -> Result<GraphWire, Memory>
-        ensures { IsOkAnd result (λ wire. spec.IsFreshWire wire graphs.items) }
+        ensures { IfOk result (λ wire. spec.IsFreshWire wire graphs.items) }
     {
         Ok(GraphWire {
-            graphs,
+            stores: stores_of(alloc, graphs)?,
             log: Vec::new(alloc),
             faults: NameCounts::new(alloc),
         })
@@ -94,21 +88,30 @@ impl Wire for GraphWire {
         limit: u64,
     ) -> Result<Vec<u8>, WireError> {
         let place = self.faults.place(at.iri().text())?;
-        let Some(graph) = graph_at(self.graphs.as_slice(), at.iri()) else {
+        let Some(store) = store_at(self.stores.as_slice(), at.iri()) else {
             self.faults.raise(place);
             return Err(WireError::Failed);
         };
-        let reply = front_of_reply(alloc, graph, request, limit as usize + 1)?;
-        self.keep(alloc, at, request, reply.as_slice())?;
-        Ok(reply)
+        match front_of_reply(alloc, store, request, limit as usize + 1) {
+            Ok(reply) => {
+                self.keep(alloc, at, request, reply.as_slice())?;
+                Ok(reply)
+            }
+            Err(ServeError::Memory) => Err(WireError::Memory),
+            // A link in memory whose reads are not to fail has no fault.
+            Err(_) => {
+                self.faults.raise(place);
+                Err(WireError::Failed)
+            }
+        }
     }
 }
 
-// The graph of the first pair with an address.
-fn graph_at<'a>(graphs: &'a [(Iri, Graph)], address: &Iri) -> Option<&'a Graph>
-    ensures { option_copied result ≡ spec.graph_of graphs.now address.now }
+// The store of the first pair with an address.
+fn store_at<'a>(stores: &'a [(Iri, Store)], address: &Iri) -> Option<&'a Store>
+    ensures { option_copied result ≡ spec.graph_of stores.now address.now }
 {
-    for pair in graphs {
+    for pair in stores {
         if pair.0 == *address {
             return Some(&pair.1);
         }
@@ -116,70 +119,51 @@ fn graph_at<'a>(graphs: &'a [(Iri, Graph)], address: &Iri) -> Option<&'a Graph>
     None
 }
 
-// The first bytes of the reply to a request.
+// Each graph in a store of its own, at its address.
+fn stores_of(alloc: Global, graphs: Vec<(Iri, Graph)>) -> Result<Vec<(Iri, Store)>, Memory>
+    ensures { IfOk result (λ stores. stores.items ≡ graphs.items) }
+{
+    let mut stores = Vec::with_capacity(alloc, graphs.len())?;
+    for (address, graph) in graphs {
+        stores.push((address, Store::load(graph)?))?;
+    }
+    Ok(stores)
+}
+
+// The first bytes of the reply to a request, as one is served that comes over a link.
 fn front_of_reply(
     alloc: Global,
-    graph: &Graph,
+    store: &Store,
     request: &[u8],
     most: usize,
-) -> Result<Vec<u8>, Memory>
+) -> Result<Vec<u8>, ServeError>
     ensures size { IfOk result (λ reply. length reply.items ≤ most) }
-    ensures graph { IsGraph graph.now }
-    ensures honest { IfOk result (λ reply. length reply.items < most → IsHonest graph.now request.now reply.items) }
+    ensures graph { IsGraph store.now }
+    ensures honest { IfOk result (λ reply. length reply.items < most → IsHonest store.now request.now reply.items) }
 {
-    // Its contract tells that it is a graph.
-    let _triples = graph.triples();
-    let whole = reply_to(alloc, graph, request)?;
-    if whole.len() <= most {
-        return Ok(whole);
+    // Its contract tells that it holds a graph.
+    let _triples = store.triples();
+    let mut link = link_with(alloc, request)?;
+    let whole = prepare(alloc, store, &mut link)?;
+    let front = front(alloc, whole.bytes, most)?;
+    Ok(front)
+}
+
+// A link on which a request comes, and to which nothing will be written.
+fn link_with(alloc: Global, request: &[u8]) -> Result<MemoryLink, Memory>
+    ensures { IfOk result (λ link. left_in link ≡ request.now) }
+{
+    let input = Vec::from_slice(alloc, request)?;
+    MemoryLink::new(alloc, input, 0, u64::MAX, Vec::new(alloc), Vec::new(alloc))
+}
+
+// The first bytes, or all of them.
+fn front(alloc: Global, bytes: Vec<u8>, most: usize) -> Result<Vec<u8>, Memory>
+    ensures size { IfOk result (λ front. length front.items ≤ most) }
+    ensures whole { IfOk result (λ front. length front.items < most → front.items ≡ bytes.items) }
+{
+    if bytes.len() <= most {
+        return Ok(bytes);
     }
-    Ok(Vec::from_slice(alloc, &whole[..most])?)
-}
-
-// The whole reply to a request over a graph.
-fn reply_to(alloc: Global, graph: &Graph, request: &[u8]) -> Result<Vec<u8>, Memory>
-    ensures { IfOk result (λ reply. IsHonest graph.now request.now reply.items) }
-{
-    match posted_text(request) {
-        Some(text) => reply_to_text(alloc, graph, text),
-        None => reply_bytes(alloc, 400, b"Malformed\n"),
-    }
-}
-
-// The whole reply to a text over a graph.
-fn reply_to_text(alloc: Global, graph: &Graph, text: &[u8]) -> Result<Vec<u8>, Memory>
-    ensures { IfOk result (λ reply. spec.RepliesTo graph.now text.now reply.items) }
-{
-    match parse(alloc, text) {
-        Ok(query) => reply_to_query(alloc, graph, &query),
-        Err(SyntaxError::Refused { kind, place }) => refused(alloc, kind, place),
-        Err(SyntaxError::Memory) => Err(Memory),
-    }
-}
-
-// The reply that names why a text is refused, and where.
-fn refused(alloc: Global, kind: SyntaxKind, place: u64) -> Result<Vec<u8>, Memory> {
-    let why = format!(in alloc; "{} at {place}\n", kind.name())?;
-    reply_bytes(alloc, 400, why.as_bytes())
-}
-
-// The whole reply to a query over a graph. A query that would have to ask another endpoint has no answer here.
-fn reply_to_query(alloc: Global, graph: &Graph, query: &Query) -> Result<Vec<u8>, Memory>
-    requires { IsSpellable query.now }
-    ensures { IfOk result (λ reply. services query.now ≡ [] → Replies reply.items (answer_alone query.now graph.now)) }
-{
-    match answer(alloc, graph, query, &[]) {
-        Ok(answer) => reply_with(alloc, &answer),
-        Err(MemberError::ServiceHere { place: _ }) => reply_bytes(alloc, 400, b"ServiceHere\n"),
-        Err(MemberError::Memory) => Err(Memory),
-    }
-}
-
-// The whole reply with an answer.
-fn reply_with(alloc: Global, answer: &Answer) -> Result<Vec<u8>, Memory>
-    requires { binds_columns answer.now ≡ true }
-    ensures { IfOk result (λ reply. Replies reply.items answer.now) }
-{
-    let document = write(alloc, answer)?;
-    reply_bytes(alloc, 200, document.as_slice())
+    Ok(Vec::from_slice(alloc, &bytes[..most])?)
 }

@@ -3,24 +3,24 @@ ghost use Rattle.std.specs.Prelude.{◌≡◌, IfOk, OnOk};
 ghost use Rattle.fx_algebra.specs.Operators.{filtered as filtered_of};
 ghost use Rattle.fx_member.specs.GroupRows as spec;
 
-use crate::evaluation::extend_rows;
 use crate::known_rows::known_to_rise;
 use fx_algebra::{Element, Expr, Group, Solution};
 use fx_solutions::{extend, filter, inline_rows, join_with, left_join_with, minus_with};
-use fx_terms::{Graph, Memory};
+use fx_store::Store;
+use fx_terms::Memory;
 use std::alloc::Global;
 
-/// The rows of a group over a graph, in some order, where every occurrence of SERVICE in the group is down: none is asked, and
+/// The rows of a group over a store's graph, in some order, where every occurrence of SERVICE in the group is down: none is asked, and
 /// each leaves the rows before it as they are.
 ///
 /// The group is gone through from left to right. A run of triple patterns is joined pattern by pattern, so the rows before it
 /// are known to the look-ups. A nested group, a UNION, an OPTIONAL and a MINUS begin with the one empty solution. The filters of
 /// the group are applied at its end.
 #[cycle(rows)]
-pub fn group_rows(alloc: Global, graph: &Graph, group: &Group) -> Result<Vec<Solution>, Memory>
-    ensures { IfOk result (λ rows. spec.AreRowsOf group.now graph.now rows.items) }
+pub fn group_rows(alloc: Global, store: &Store, group: &Group) -> Result<Vec<Solution>, Memory>
+    ensures { IfOk result (λ rows. spec.AreRowsOf group.now store.now rows.items) }
 {
-    let found = unfiltered(alloc, graph, group)?;
+    let found = unfiltered(alloc, store, group)?;
     let filters = filters_of(alloc, group)?;
     let rows = filtered(alloc, found, filters.as_slice())?;
     Ok(rows)
@@ -28,14 +28,14 @@ pub fn group_rows(alloc: Global, graph: &Graph, group: &Group) -> Result<Vec<Sol
 
 // The rows of a group without its filters.
 #[cycle(rows)]
-fn unfiltered(alloc: Global, graph: &Graph, group: &Group) -> Result<Vec<Solution>, Memory>
-    ensures { IfOk result (λ rows. spec.AreUnfiltered group.now graph.now rows.items) }
+fn unfiltered(alloc: Global, store: &Store, group: &Group) -> Result<Vec<Solution>, Memory>
+    ensures { IfOk result (λ rows. spec.AreUnfiltered group.now store.now rows.items) }
 {
     let mut rows = Vec::new(alloc);
     rows.push(Solution::empty(alloc))?;
     for element in group.elements.as_slice() {
         known_to_rise(rows.as_slice());
-        rows = after_element(alloc, graph, element, rows)?;
+        rows = after_element(alloc, store, element, rows)?;
     }
     Ok(rows)
 }
@@ -44,31 +44,31 @@ fn unfiltered(alloc: Global, graph: &Graph, group: &Group) -> Result<Vec<Solutio
 #[cycle(rows)]
 fn after_element(
     alloc: Global,
-    graph: &Graph,
+    store: &Store,
     element: &Element,
     before: Vec<Solution>,
 ) -> Result<Vec<Solution>, Memory>
-    ensures { IfOk result (λ rows. spec.AreAfter element.now graph.now before.items rows.items) }
+    ensures { IfOk result (λ rows. spec.AreAfter element.now store.now before.items rows.items) }
 {
     match element {
         Element::Triple(pattern) => {
-            let rows = extend_rows(alloc, graph, pattern, before.as_slice())?;
+            let rows = store.extend(alloc, pattern, before.as_slice())?;
             Ok(rows)
         }
         Element::Filter(_) => Ok(before),
         Element::Optional(group) => {
-            let found = unfiltered(alloc, graph, group)?;
+            let found = unfiltered(alloc, store, group)?;
             let filters = filters_of(alloc, group)?;
             let rows = left_join_with(alloc, before.as_slice(), found, filters.as_slice())?;
             Ok(rows)
         }
         Element::Union(groups) => {
-            let found = alternatives(alloc, graph, groups.as_slice())?;
+            let found = alternatives(alloc, store, groups.as_slice())?;
             let rows = join_with(alloc, before.as_slice(), found)?;
             Ok(rows)
         }
         Element::Minus(group) => {
-            let found = group_rows(alloc, graph, group)?;
+            let found = group_rows(alloc, store, group)?;
             let rows = minus_with(alloc, before.as_slice(), found)?;
             Ok(rows)
         }
@@ -91,12 +91,12 @@ fn after_element(
 
 // The rows of groups, one after the other.
 #[cycle(rows)]
-fn alternatives(alloc: Global, graph: &Graph, groups: &[Group]) -> Result<Vec<Solution>, Memory>
-    ensures { IfOk result (λ rows. spec.AreAlternatives groups.now graph.now rows.items) }
+fn alternatives(alloc: Global, store: &Store, groups: &[Group]) -> Result<Vec<Solution>, Memory>
+    ensures { IfOk result (λ rows. spec.AreAlternatives groups.now store.now rows.items) }
 {
     let mut rows = Vec::new(alloc);
     for group in groups {
-        let mut found = group_rows(alloc, graph, group)?;
+        let mut found = group_rows(alloc, store, group)?;
         rows.append(&mut found)?;
     }
     Ok(rows)

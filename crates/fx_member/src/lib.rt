@@ -2,24 +2,26 @@
 #![tactic(auto)]
 
 pub mod answering;
-mod evaluation;
 pub mod fault_wires;
 pub mod graph_wires;
 pub mod groups;
 mod known_rows;
-mod objects;
 mod places;
+pub mod serving;
 
 pub use answering::{MemberError, answer};
 pub use fault_wires::FaultWire;
 use fx_terms::shareable;
 pub use graph_wires::GraphWire;
+pub use serving::{ServeError, Served, serve_one};
 
 /// Every type of this crate may be shared between threads and sent to them.
 pub fn all_shareable() {
     shareable::<GraphWire>();
     shareable::<FaultWire>();
     shareable::<MemberError>();
+    shareable::<Served>();
+    shareable::<ServeError>();
 }
 
 #[cfg(test)]

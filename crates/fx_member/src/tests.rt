@@ -1,12 +1,16 @@
-//! What queries and wires in memory answer.
-use crate::{FaultWire, GraphWire, MemberError, answer};
+//! What queries, requests and wires in memory answer.
+ghost use Rattle.std.specs.Prelude.{◌<◌};
+
+use crate::{FaultWire, GraphWire, MemberError, ServeError, answer, serve_one};
 use fx_algebra::{Answer, Solution};
 use fx_http::request_bytes;
-use fx_outside::Endpoint;
+use fx_outside::{Endpoint, MemoryLink};
+use fx_store::Store;
 use fx_syntax::parse;
 use fx_terms::{Graph, Iri, Literal, Memory, Term, Triple};
 use fx_wire::{Wire, WireError};
 use std::alloc::Global;
+use std::str;
 use std::test::Fail;
 
 // The texts, how many occurrences of SERVICE are down, from the first on, and the answers over two triples: `a p b` and `b q 1`.
@@ -125,7 +129,8 @@ fn answered(alloc: Global, text: &str, down: u64) -> Option<String> {
     for number in 0..down {
         numbers.push(number).ok()?;
     }
-    match answer(alloc, &two_triples(alloc)?, &query, numbers.as_slice()) {
+    let store = Store::load(two_triples(alloc)?).ok()?;
+    match answer(alloc, &store, &query, numbers.as_slice()) {
         Ok(answer) => answer_text(alloc, &answer),
         Err(MemberError::ServiceHere { place }) => format!(in alloc; "service {place}").ok(),
         Err(MemberError::Memory) => None,
@@ -230,6 +235,164 @@ fn a_graph_answers_what_is_asked(rt: HostRuntime) -> Result<(), Fail> {
     assert_eq!(rt; reply.as_slice(), want.as_bytes());
     assert_eq!(rt; wire.log().len(), 5);
     Ok(())
+}
+
+// Inputs, and the status and the body of the reply to each. A reply to the GET has results in JSON, and any other plain text.
+const REQUESTS: [(&str, u16, &str); 20] = [
+    (
+        "GET /sparql?query=ASK%20%7B%7D HTTP/1.1\r\nHost: b\r\n\r\n",
+        200,
+        "{\"boolean\":true,\"head\":{}}",
+    ),
+    (
+        "GET /?query=ASK%7B?x+%3Chttp://e/none%3E+?y%7D HTTP/1.1\n\nbehind it",
+        200,
+        "{\"boolean\":false,\"head\":{}}",
+    ),
+    (
+        "POST / HTTP/1.1\r\nContent-Type: application/sparql-query\r\nContent-Length: 37\r\n\r\nSELECT ?x WHERE { ?x <http://e/p> ?y }and more",
+        400,
+        "Unexpected at 37\n",
+    ),
+    (
+        "POST / HTTP/1.1\r\ncontent-type: Application/SPARQL-query; charset=utf-8\r\ncontent-length: 38\r\n\r\nSELECT ?x WHERE { ?x <http://e/p> ?y }and more",
+        200,
+        "{\"head\":{\"vars\":[\"x\"]},\"results\":{\"bindings\":[{\"x\":{\"type\":\"uri\",\"value\":\"http://e/a\"}}]}}",
+    ),
+    (
+        "POST / HTTP/1.1\r\nContent-Type: application/x-www-form-urlencoded\r\nContent-Length: 25\r\n\r\na=b&query=ASK%7B%7D&c=%FF",
+        200,
+        "{\"boolean\":true,\"head\":{}}",
+    ),
+    ("PUT / HTTP/1.1\r\n\r\n", 405, "Method\n"),
+    (
+        "POST / HTTP/1.1\r\nContent-Type: application/sparql-query\r\n\r\nASK {}",
+        411,
+        "NoLength\n",
+    ),
+    (
+        "POST / HTTP/1.1\r\nContent-Length: 67108865\r\n\r\n",
+        413,
+        "TooLong\n",
+    ),
+    (
+        "POST / HTTP/1.1\r\nContent-Type: text/plain\r\nContent-Length: 6\r\n\r\nASK {}",
+        415,
+        "MediaType\n",
+    ),
+    (
+        "GET /?query=ASK%7B%7D&default-graph-uri=x HTTP/1.1\r\n\r\n",
+        400,
+        "Dataset\n",
+    ),
+    (
+        "GET /?query=ASK%7B%7D&query=ASK%7B%7D HTTP/1.1\r\n\r\n",
+        400,
+        "TwoQueries\n",
+    ),
+    ("GET / HTTP/1.1\r\n\r\n", 400, "NoQuery\n"),
+    (
+        "POST / HTTP/1.1\r\nContent-Type: application/sparql-query\r\nContent-Length: 7\r\n\r\nASK {}",
+        400,
+        "Ended\n",
+    ),
+    (
+        "POST / HTTP/1.1\r\nContent-Length: 6\r\nContent-Length: 6\r\n\r\nASK {}",
+        400,
+        "Malformed\n",
+    ),
+    ("", 400, "Malformed\n"),
+    ("GET / HTTP/1.1\r\n", 400, "Malformed\n"),
+    ("no request\r\n\r\n", 400, "Malformed\n"),
+    (
+        "GET /?query=ASK+%7B+SERVICE+%3Chttp://x/%3E+%7B%7D+%7D HTTP/1.1\r\n\r\n",
+        400,
+        "ServiceHere\n",
+    ),
+    (
+        "GET /?query=ASK+%7B+SERVICE+SILENT+%3Chttp://x/%3E+%7B%7D+%7D HTTP/1.1\r\n\r\n",
+        400,
+        "ServiceHere\n",
+    ),
+    ("GET /?query= HTTP/1.1\r\n\r\n", 400, "Unexpected at 0\n"),
+];
+
+#[test]
+fn each_request_has_its_reply(rt: HostRuntime) -> Result<(), Fail> {
+    for (input, status, body) in REQUESTS {
+        for step in [1, 7, 4096] {
+            let text = served(rt.alloc(), input, step, 0, 0)?;
+            let want = reply(rt.alloc(), status, body)?;
+            assert_eq!(rt; text.as_str(), want.as_str(), "at {input} by {step}");
+        }
+    }
+    Ok(())
+}
+
+#[test]
+fn a_fault_ends_the_connection_with_nothing_or_a_front(rt: HostRuntime) -> Result<(), Fail> {
+    let (input, status, body) = REQUESTS[0];
+    let whole = reply(rt.alloc(), status, body)?;
+    // The read that fails, and then the write, where one byte is read or written at a time.
+    for number in 1..=input.len() as u64 {
+        let text = served(rt.alloc(), input, 1, number, 0)?;
+        assert_eq!(rt; text.as_str(), "read fault behind ", "at read {number}");
+    }
+    for number in 1..100 {
+        let text = served(rt.alloc(), input, 1, 0, number)?;
+        let front = whole
+            .as_str()
+            .get(4..number as usize + 3)
+            .ok_or("no front")?;
+        assert_eq!(rt;
+            text.strip_prefix("write fault behind "),
+            Some(front),
+            "at write {number}"
+        );
+    }
+    Ok(())
+}
+
+// The status and the reply that a link has after one request was served, or the fault and what was written. One read or write
+// moves so many bytes, and the read and the write of these numbers fail.
+fn served(alloc: Global, input: &str, step: u64, read: u64, write: u64) -> Result<String, Fail>
+    requires { 0 < step }
+{
+    let store = Store::load(two_triples(alloc).ok_or("no graph")?)?;
+    let input = Vec::from_slice(alloc, input.as_bytes())?;
+    let reads = vec![in alloc; read]?;
+    let writes = vec![in alloc; write]?;
+    let mut link = MemoryLink::new(alloc, input, 4096, step, reads, writes)?;
+    let ended = serve_one(alloc, &store, &mut link);
+    let written = str::from_utf8(link.written())?;
+    let text = match ended {
+        Ok(served) => format!(in alloc; "{} {written}", served.status)?,
+        Err(ServeError::ReadFault) => format!(in alloc; "read fault behind {written}")?,
+        Err(ServeError::WriteFault) => format!(in alloc; "write fault behind {written}")?,
+        Err(ServeError::Memory) => return Err(Fail::from("no memory")),
+    };
+    Ok(text)
+}
+
+// A status, and the reply with it.
+fn reply(alloc: Global, status: u16, body: &str) -> Result<String, Fail> {
+    let (reason, allowed) = match status {
+        200 => ("OK", ""),
+        400 => ("Bad Request", ""),
+        405 => ("Method Not Allowed", "Allow: GET, POST\r\n"),
+        411 => ("Length Required", ""),
+        413 => ("Content Too Large", ""),
+        _ => ("Unsupported Media Type", ""),
+    };
+    let kind = if status == 200 {
+        "application/sparql-results+json"
+    } else {
+        "text/plain; charset=utf-8"
+    };
+    let length = body.len();
+    Ok(format!(in alloc;
+        "{status} HTTP/1.1 {status} {reason}\r\n{allowed}Content-Type: {kind}\r\nContent-Length: {length}\r\nConnection: close\r\n\r\n{body}"
+    )?)
 }
 
 #[test]

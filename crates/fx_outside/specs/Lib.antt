@@ -1,5 +1,7 @@
+pub mod Doors
 pub mod Endpoints
 pub mod Faults
+pub mod MemoryDoors
 pub mod MemoryLinks
 pub mod MemoryStorage
 pub mod MemoryStreams

@@ -3,26 +3,32 @@
 //! A call that answers a fault has counted it; the count of a sink may stand at the end of `u64` then.
 #![tactic(auto)]
 
+pub mod doors;
 pub mod endpoints;
+pub mod memory_doors;
 pub mod memory_links;
 pub mod memory_storage;
 pub mod memory_streams;
 pub mod name_counts;
 pub mod storage;
 pub mod streams;
+pub mod system_doors;
 pub mod system_links;
 pub mod system_storage;
 pub mod system_streams;
 pub mod writing;
 
+pub use doors::{Door, DoorError};
 pub use endpoints::Endpoint;
 use fx_terms::shareable;
+pub use memory_doors::MemoryDoor;
 pub use memory_links::MemoryLink;
 pub use memory_storage::MemoryFiles;
 pub use memory_streams::MemorySink;
 pub use name_counts::NameCounts;
 pub use storage::{FileError, Files};
 pub use streams::{Ends, ReadFailed, Sink, Source, WriteFailed};
+pub use system_doors::Listener;
 pub use system_links::StdLink;
 pub use system_storage::Folder;
 pub use system_streams::StdSink;
@@ -35,6 +41,8 @@ pub fn all_shareable<T: Send + Sync>() {
     shareable::<ReadFailed>();
     shareable::<WriteFailed>();
     shareable::<FileError>();
+    shareable::<DoorError>();
+    shareable::<MemoryDoor>();
     shareable::<MemoryLink>();
     shareable::<MemorySink>();
     shareable::<MemoryFiles>();

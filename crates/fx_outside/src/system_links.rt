@@ -27,6 +27,11 @@ impl<S> StdLink<S> {
             write_faults: 0,
         }
     }
+
+    /// The stream.
+    pub fn into_stream(self) -> S {
+        self.stream
+    }
 }
 
 impl<S: Read + Write> Ends for StdLink<S> {

@@ -1,13 +1,14 @@
 //! What the calls answer at given values.
 use crate::{
-    Endpoint, FileError, Files, Folder, MemoryFiles, MemoryLink, MemorySink, ReadFailed, Sink,
-    Source, StdLink, StdSink, WriteFailed, write_all,
+    Door, DoorError, Endpoint, FileError, Files, Folder, Listener, MemoryDoor, MemoryFiles,
+    MemoryLink, MemorySink, ReadFailed, Sink, Source, StdLink, StdSink, WriteFailed, write_all,
 };
 use fx_terms::{Iri, Memory};
 use std::alloc::Global;
 use std::io::{ErrorKind, Read, Write};
+use std::net::{Ipv4Addr, SocketAddr, TcpListener, TcpStream};
 use std::test::Fail;
-use std::{env, fs, io};
+use std::{env, fs, io, thread};
 
 #[test]
 fn a_memory_sink_moves_a_step_and_fails_where_it_is_to(rt: HostRuntime) -> Result<(), Fail> {
@@ -73,6 +74,74 @@ fn a_std_link_hands_on_and_counts(rt: HostRuntime) -> Result<(), Fail> {
     assert_eq!(rt; into, [7u8, 0, 0, 0]);
     assert_eq!(rt; link.write(b"ab"), Ok(2));
     Ok(())
+}
+
+#[test]
+fn a_memory_door_gives_its_inputs_and_keeps_its_connections(rt: HostRuntime) -> Result<(), Fail> {
+    let alloc = rt.alloc();
+    let inputs = vec![in alloc;
+        Vec::from_slice(alloc, b"ab")?,
+        Vec::from_slice(alloc, b"cd")?,
+    ]?;
+    let fails = vec![in alloc; 1u64, 4]?;
+    let read_fails = vec![in alloc; (2u64, 1u64)]?;
+    let write_fails = vec![in alloc; (1u64, 2u64)]?;
+    let mut door = MemoryDoor::new(alloc, inputs, 3, 1, fails, read_fails, write_fails)?;
+    assert_eq!(rt; door.start(alloc, "here:1"), Err(DoorError::Failed));
+    assert_eq!(rt; door.start(alloc, "here:1"), Ok(()));
+    let mut first = door.accept(alloc)?;
+    let mut into = [0u8; 4];
+    assert_eq!(rt; first.read(&mut into), Ok(1));
+    assert_eq!(rt; into[0], b'a');
+    assert_eq!(rt; first.write(b"xy"), Ok(1));
+    assert_eq!(rt; first.write(b"xy"), Err(WriteFailed));
+    // The fourth call of the door fails, and the input stays.
+    assert!(rt; door.accept(alloc).is_err());
+    assert_eq!(rt; door.finish(alloc, first), Ok(()));
+    let mut second = door.accept(alloc)?;
+    assert_eq!(rt; second.read(&mut into), Err(ReadFailed));
+    assert_eq!(rt; second.read(&mut into), Ok(1));
+    assert_eq!(rt; into[0], b'c');
+    assert_eq!(rt; door.finish(alloc, second), Ok(()));
+    // No input is left.
+    assert!(rt; door.accept(alloc).is_err());
+    assert_eq!(rt; door.finished().len(), 2);
+    assert_eq!(rt; door.finished()[0].written(), b"x".as_slice());
+    assert_eq!(rt; door.finished()[1].written(), b"".as_slice());
+    Ok(())
+}
+
+#[test]
+fn a_listener_takes_connections_one_after_another(rt: HostRuntime) -> Result<(), Fail> {
+    let alloc = rt.alloc();
+    let free = TcpListener::bind(&rt, SocketAddr::from((Ipv4Addr::LOCALHOST, 0)))?;
+    let port = free.local_addr()?.port();
+    drop(free);
+    let address = format!(in alloc; "127.0.0.1:{port}")?;
+    let mut door = Listener::new(rt);
+    assert!(rt; door.accept(alloc).is_err());
+    assert_eq!(rt; door.start(alloc, "nowhere"), Err(DoorError::Failed));
+    assert_eq!(rt; door.start(alloc, address.as_str()), Ok(()));
+    for _ in 0..2 {
+        // The peer sends more than is read, and reads to the end what is written.
+        let peer = thread::spawn(&rt, move || is_answered(&rt, port).is_ok_and(|is| is))?;
+        let mut conn = door.accept(alloc)?;
+        let mut into = [0u8; 2];
+        assert_eq!(rt; conn.read(&mut into), Ok(2));
+        assert_eq!(rt; write_all(&mut conn, b"reply"), Ok(()));
+        assert_eq!(rt; door.finish(alloc, conn), Ok(()));
+        assert!(rt; peer.join(&rt));
+    }
+    Ok(())
+}
+
+// Sends a request to a port of this machine, and says whether the reply is as expected.
+fn is_answered(rt: &HostRuntime, port: u16) -> io::Result<bool> {
+    let mut stream = TcpStream::connect(rt, (Ipv4Addr::LOCALHOST, port))?;
+    stream.write_all(b"request")?;
+    let mut reply = [0u8; 5];
+    stream.read_exact(&mut reply)?;
+    Ok(&reply == b"reply" && stream.read(&mut reply)? == 0)
 }
 
 #[test]

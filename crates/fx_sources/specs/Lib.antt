@@ -1,3 +1,7 @@
 pub mod Addresses
+pub mod Keys
 pub mod Lines
+pub mod Patterns
+pub mod Probes
 pub mod Registries
+pub mod Sources

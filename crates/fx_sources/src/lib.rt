@@ -1,4 +1,4 @@
-//! The registry of the endpoints that a query is answered over.
+//! The registry of the endpoints that a query is answered over, and which of them each triple pattern of a query is asked of.
 //!
 //! A registry is a text of lines that end with LF or CR LF, the last one optionally without. Spaces and tabs at the ends of
 //! a line are dropped. An empty line, or one that begins with `#`, is passed over. Any other line is a name, spaces or tabs,
@@ -6,22 +6,38 @@
 #![tactic(auto)]
 
 mod addresses;
+pub mod caches;
+pub mod choices;
 mod entries;
 pub mod errors;
+pub mod keys;
+pub mod laws;
 mod lines;
+pub mod patterns;
+pub mod probes;
 pub mod registries;
 mod searches;
 mod words;
 
+pub use caches::AskCache;
+pub use choices::{Sources, choose, missing};
 pub use errors::RegistryError;
 use fx_terms::shareable;
+pub use keys::{AskKey, ask_text};
+pub use probes::Probe;
 pub use registries::Registry;
 
 /// Every type of this crate may be shared between threads and sent to them.
 pub fn all_shareable() {
+    shareable::<AskCache>();
+    shareable::<AskKey>();
+    shareable::<Probe>();
     shareable::<Registry>();
     shareable::<RegistryError>();
+    shareable::<Sources>();
 }
 
+#[cfg(test)]
+mod asking_tests;
 #[cfg(test)]
 mod tests;

@@ -7,3 +7,4 @@ pub mod Kinds
 pub mod Printable
 pub mod Refused
 pub mod Rule
+pub mod Units

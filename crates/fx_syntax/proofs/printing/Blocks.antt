@@ -12,7 +12,8 @@ use Rattle.fx_syntax.specs.Rule.{many}
 use Rattle.fx_syntax.specs.Grammar as grammar
 use Rattle.fx_syntax.specs.Grammar.{Prefixes}
 use Rattle.fx_syntax.specs.declared.kinds.SyntaxKind.TheVariants.{RepeatedName, ValuesWidth}
-use Rattle.fx_syntax.specs.Printable.{AreFine, IsFine, said, word_tokens, are_new, are_wide, is_block, block_nest, is_some}
+use Rattle.fx_algebra.specs.Measures.{is_some}
+use Rattle.fx_syntax.specs.Printable.{AreFine, IsFine, said, word_tokens, are_new, are_wide, is_block, block_nest}
 use Rattle.fx_syntax.specs.declared.kinds.Kind.TheVariants as k
 use Rattle.fx_syntax.specs.declared.kinds.Token.{Token}
 use Rattle.fx_syntax.specs.declared.kinds.Token.TheVariants as token

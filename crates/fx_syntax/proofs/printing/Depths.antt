@@ -22,7 +22,8 @@ use Rattle.fx_algebra.specs.declared.queries.Order.{Order}
 use Rattle.fx_algebra.specs.declared.queries.Form.{Form}
 use Rattle.fx_algebra.specs.declared.queries.Form.TheVariants as form
 use Rattle.fx_algebra.specs.declared.queries.Query.{Query}
-use Rattle.fx_syntax.specs.Printable.{is_opening, is_closing, behind_word, deepest, Measured, placed, most, most_signed, measure_step, measured, is_some, block_nest, Held, most_held, condition_nest, hold_element, hold_group, held, held_element, key_nest, most_keys, inline_nest, brackets, PrintedTextIsAccepted}
+use Rattle.fx_algebra.specs.Measures.{Measured, placed, most, most_signed, measure_step, measured, is_some, condition_nest}
+use Rattle.fx_syntax.specs.Printable.{is_opening, is_closing, behind_word, deepest, block_nest, Held, most_held, hold_element, hold_group, held, held_element, key_nest, most_keys, inline_nest, brackets, PrintedTextIsAccepted}
 use Rattle.fx_syntax.proofs.printing.Expressions.{law}
 use Rattle.fx_syntax.proofs.printing.TakenQueries.{spellable_is_accepted}
 

@@ -17,7 +17,8 @@ use Rattle.fx_algebra.specs.declared.expressions.Function.TheVariants as functio
 use Rattle.fx_syntax.specs.Rule.{Rule, token, seq, after, many, chain, nested}
 use Rattle.fx_syntax.specs.Grammar as grammar
 use Rattle.fx_syntax.specs.Grammar.{Prefixes}
-use Rattle.fx_syntax.specs.Printable.{AreFine, IsFine, said, term_tokens, fixed_token, Measured, placed, most, most_signed, all_good, all_signed_good, is_some, is_chain, is_one, is_two, is_three, takes, measure_step, measured}
+use Rattle.fx_algebra.specs.Measures.{Measured, placed, most, most_signed, all_good, all_signed_good, is_some, is_chain, is_one, is_two, is_three, takes, measure_step, measured}
+use Rattle.fx_syntax.specs.Printable.{AreFine, IsFine, said, term_tokens, fixed_token}
 use Rattle.fx_syntax.specs.declared.kinds.Kind.{Kind}
 use Rattle.fx_syntax.specs.declared.kinds.Kind.TheVariants as k
 use Rattle.fx_syntax.specs.declared.kinds.Token.{Token}

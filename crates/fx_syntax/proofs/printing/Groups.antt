@@ -18,7 +18,8 @@ use Rattle.fx_algebra.specs.declared.queries.Group.{Group, Group-F, roll-Group, 
 use Rattle.fx_syntax.specs.Rule.{Rule, token, seq, after, opt, nested}
 use Rattle.fx_syntax.specs.Grammar as grammar
 use Rattle.fx_syntax.specs.Grammar.{Prefixes}
-use Rattle.fx_syntax.specs.Printable.{AreFine, IsFine, IsPart, IsVerb, IsTriple, AreTriples, said, measured, is_some, block_nest, Held, most_held, all_held, any_serves, held_names, condition_nest, is_verb, not_bound, are_fresh, hold_element, hold_group, held, held_element}
+use Rattle.fx_algebra.specs.Measures.{measured, is_some, condition_nest}
+use Rattle.fx_syntax.specs.Printable.{AreFine, IsFine, IsPart, IsVerb, IsTriple, AreTriples, said, block_nest, Held, most_held, all_held, any_serves, held_names, is_verb, not_bound, are_fresh, hold_element, hold_group, held, held_element}
 use Rattle.fx_syntax.specs.declared.kinds.Kind.TheVariants as k
 use Rattle.fx_syntax.specs.declared.kinds.SyntaxKind.TheVariants.{BindInScope}
 use Rattle.fx_syntax.specs.declared.kinds.Token.{Token}

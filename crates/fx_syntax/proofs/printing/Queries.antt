@@ -15,7 +15,8 @@ use Rattle.fx_algebra.specs.declared.queries.Query.{Query}
 use Rattle.fx_syntax.specs.Rule.{token, seq, after, opt, many, some}
 use Rattle.fx_syntax.specs.Grammar as grammar
 use Rattle.fx_syntax.specs.Accepted.{Accepted}
-use Rattle.fx_syntax.specs.Printable.{AreFine, said, measured, held, block_nest, key_nest, most_keys, all_keys, inline_nest, is_inline, brackets, IsForm, IsPrintable, PrintedIsAccepted}
+use Rattle.fx_algebra.specs.Measures.{measured}
+use Rattle.fx_syntax.specs.Printable.{AreFine, said, held, block_nest, key_nest, most_keys, all_keys, inline_nest, is_inline, brackets, IsForm, IsPrintable, PrintedIsAccepted}
 use Rattle.fx_syntax.specs.declared.kinds.Kind.TheVariants as k
 use Rattle.fx_syntax.specs.declared.kinds.Token.{Token}
 use Rattle.fx_syntax.specs.declared.kinds.Token.TheVariants as token_of

@@ -26,7 +26,8 @@ use Rattle.fx_syntax.specs.Kinds.{is}
 use Rattle.fx_syntax.specs.Rule.{Rule, token, one, seq, after, either, opt, chain, made}
 use Rattle.fx_syntax.specs.Grammar as grammar
 use Rattle.fx_syntax.specs.Grammar.{Prefixes}
-use Rattle.fx_syntax.specs.Printable.{AreFine, IsFine, Measured, all_good, all_signed_good, is_chain, takes, measure_step, measured}
+use Rattle.fx_algebra.specs.Measures.{Measured, all_good, all_signed_good, is_chain, takes, measure_step, measured}
+use Rattle.fx_syntax.specs.Printable.{AreFine, IsFine}
 use Rattle.fx_syntax.specs.declared.kinds.Kind.TheVariants as k
 use Rattle.fx_syntax.specs.declared.kinds.SyntaxKind.{SyntaxKind}
 use Rattle.fx_syntax.specs.declared.kinds.SyntaxKind.TheVariants.{Unsupported, Unexpected, BadLiteral}

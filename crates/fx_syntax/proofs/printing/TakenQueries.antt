@@ -16,7 +16,8 @@ use Rattle.fx_syntax.specs.Rule.{shape_of, token, one, seq, after, either, opt, 
 use Rattle.fx_syntax.specs.Grammar as grammar
 use Rattle.fx_syntax.specs.Grammar.{Prefixes}
 use Rattle.fx_syntax.specs.Classified.{classified, outermost}
-use Rattle.fx_syntax.specs.Printable.{AreFine, AreNames, measured, all_keys, is_inline, IsForm, IsPrintable, AcceptedIsPrintable, SpellableIsAccepted}
+use Rattle.fx_algebra.specs.Measures.{measured}
+use Rattle.fx_syntax.specs.Printable.{AreFine, AreNames, all_keys, is_inline, IsForm, IsPrintable, AcceptedIsPrintable, SpellableIsAccepted}
 use Rattle.fx_syntax.specs.declared.kinds.Kind.TheVariants as k
 use Rattle.fx_syntax.specs.declared.kinds.SyntaxKind.TheVariants.{Unsupported}
 use Rattle.fx_syntax.specs.declared.kinds.Token.{Token}

@@ -11,8 +11,8 @@ returns-clause-reported g c =
     let of = seen g.W.Wire.tells_log g.W.Wire.log g.W.Wire.graph g.W.Wire.faults in
     let before = of c.args.wire.now in
     let after = of c.union_document.new.wire in
-    let text = fed_line c.args.endpoints.now c.in-Err.error in (
+    let text = fed_line c.args.members.now c.in-Err.error in (
       text,
-      subst (λ (s : Status). IsAskReported before after c.args.endpoints.now s text) (sym c.fed_status.ensures) (fed_reported before after c.args.endpoints.now c.in-Err.error c.in-Err.ensures.document),
-      c.write_fed_error.ensures,
+      subst (λ (s : Status). IsAskReported before after c.args.members.now s text) (sym c.fed_status.ensures) (fed_reported before after c.args.members.now c.in-Err.error c.in-Err.ensures.document),
+      rw c.endpoints.ensures.value at c.write_fed_error.ensures,
     )

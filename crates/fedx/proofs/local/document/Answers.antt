@@ -12,7 +12,7 @@ use Rattle.fedx.proofs.local.document.Goals as goal
 pub returns-in-Ok : goal.returns-in-Ok
 returns-in-Ok c =
     let q = c.args.query.now in
-    let graph = c.args.graph.now in
+    let graph = c.args.store.now in
     let same : c.in-Ok.answer ≡ answer q graph no_graphs (all_numbers c.args.occurrences.now) = c.in-Ok.ensures.answer no_graphs ∙ ap (answer q graph no_graphs) (c.as_slice.ensures.value ∙ c.in_ok-down.ensures) in
     subst (λ (a : Answer). IfOk c.write.result (λ text. text.items ≡ document_of a)) same c.write.ensures.document
 

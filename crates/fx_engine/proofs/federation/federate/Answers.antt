@@ -1,18 +1,110 @@
-use Rattle.std.proofs.Common.{◌∙◌, ap, subst, List}
-use Rattle.fx_terms.specs.declared.patterns.Pattern.{Pattern}
-use Rattle.fx_terms.specs.Graphs.{union}
-use Rattle.fx_algebra.specs.Answers.{form_answer}
-use Rattle.fx_algebra.specs.BasicGraphPatterns.{bgp}
-use Rattle.fx_algebra.specs.Solutions.{SameRows}
-use Rattle.fx_engine.proofs.FederationLemmas.{answer_from}
+use Rattle.std.proofs.Common.{◌≡◌, ◌∙◌, ◌++◌, ap, sym, subst, refl, List, length, Bool, Ok, Err}
+use Rattle.std.specs.Prelude.{All, Contains, ◌⊎◌}
+use Rattle.std.specs.List.{zip}
+use Rattle.fx_outside.specs.Endpoints.{EndpointParts}
+use Rattle.fx_algebra.specs.declared.answers.Answer.{Answer}
+use Rattle.fx_wire.specs.Exchanges.{seen}
+use Rattle.fx_sources.specs.Sources as source
+use Rattle.fx_sources.specs.Patterns.{patterns}
+use Rattle.fx_sources.specs.Probes.{chosen, learned, missing, told as told_by}
+use Rattle.fx_sources.specs.declared.probes.Probe.{Probe}
+use Rattle.fx_engine.specs.declared.errors.FedError.TheVariants.{Memory}
+use Rattle.fx_engine.specs.Federation.{AsksSource, AsksSources, Gained, Tells, TellsFits}
+use Rattle.fx_engine.proofs.GatherLemmas.{after_itself, after_both, refused_later, tells_same}
+use Rattle.fx_engine.proofs.LearnLemmas.{answers_tell, as_many_truths, kept_all, kept_so, learned_so, not_learned, tells_again}
 use Rattle.fx_engine.proofs.federation.federate.Goals as goal
 
-pub returns-in-Ok-answer_of_rows-clause-answer : goal.returns-in-Ok-answer_of_rows-clause-answer
-returns-in-Ok-answer_of_rows-clause-answer g c =
-    λ graphs t.
-    let u = union graphs in
+pub returns-in_default-clause-learns : goal.returns-in_default-clause-learns
+returns-in_default-clause-learns g c =
+    let see = seen g.W.Wire.tells_log g.W.Wire.log g.W.Wire.graph g.W.Wire.faults in
+    kept_all (see c.args.wire.now) (see c.args.wire.now) c.args.registry.now c.args.query.now c.args.cache.now (after_itself (see c.args.wire.now))
+
+pub returns-in-Err-clause-learns : goal.returns-in-Err-clause-learns
+returns-in-Err-clause-learns g c =
+    let see = seen g.W.Wire.tells_log g.W.Wire.log g.W.Wire.graph g.W.Wire.faults in
+    not_learned Answer (AsksSources c.args.registry.now c.args.query.now c.args.cache.now) (see c.args.wire.now) (see c.ask_all.new.wire) c.args.registry.now c.args.query.now c.args.cache.now c.in-Err.error c.in-Err.ensures.after
+
+pub answer_by-requires-clause-lengths : goal.answer_by-requires-clause-lengths
+answer_by-requires-clause-lengths g c =
+    let h = c.in-Ok-ask_all.ensures.answers in
+    ap length (c.as_slice-in-Ok-ask_all.ensures.value ∙ sym c.as_slice.ensures.value)
+    ∙ as_many_truths (g.W.Wire.graph c.args.wire.now) c.endpoints.result.now c.as_slice.result.now c.in-Ok-ask_all.truths.items h.asked h.answered
+    ∙ ap length (sym c.as_slice-in-Ok-ask_all-2.ensures.value)
+
+pub returns-in-Err-answer_by-clause-answer : goal.returns-in-Err-answer_by-clause-answer
+returns-in-Err-answer_by-clause-answer g c =
+    let see = seen g.W.Wire.tells_log g.W.Wire.log g.W.Wire.graph g.W.Wire.faults in
+    refused_later (see c.args.wire.now) (see c.ask_all.new.wire) (see c.answer_by.new.wire) c.args.registry.now c.in-Err-answer_by.error refl c.in-Ok-ask_all.ensures.after c.in-Err-answer_by.ensures.answer
+
+pub returns-in-Err-answer_by-clause-learns : goal.returns-in-Err-answer_by-clause-learns
+returns-in-Err-answer_by-clause-learns g c =
+    let see = seen g.W.Wire.tells_log g.W.Wire.log g.W.Wire.graph g.W.Wire.faults in
+    not_learned Answer (AsksSources c.args.registry.now c.args.query.now c.args.cache.now) (see c.args.wire.now) (see c.answer_by.new.wire) c.args.registry.now c.args.query.now c.args.cache.now c.in-Err-answer_by.error
+    (after_both (see c.args.wire.now) (see c.ask_all.new.wire) (see c.answer_by.new.wire) refl c.in-Ok-ask_all.ensures.after c.in-Err-answer_by.ensures.after)
+
+pub learn-requires-clause-lengths : goal.learn-requires-clause-lengths
+learn-requires-clause-lengths g c =
+    let h = c.in-Ok-ask_all.ensures.answers in
+    ap length (sym c.as_slice.ensures.value)
+    ∙ as_many_truths (g.W.Wire.graph c.args.wire.now) c.endpoints.result.now c.as_slice.result.now c.in-Ok-ask_all.truths.items h.asked h.answered
+    ∙ ap length (sym c.as_slice-in-Ok-answer_by.ensures.value)
+
+pub returns-in-Ok-learn-clause-answer : goal.returns-in-Ok-learn-clause-answer
+returns-in-Ok-learn-clause-answer g c =
+    λ graphs t held.
+    let graph = g.W.Wire.graph c.args.wire.now in
+    let es = c.args.registry.now in
+    let h = c.in-Ok-ask_all.ensures.answers in
+    let ps = c.as_slice.result.now in
+    let truths = c.in-Ok-ask_all.truths.items in
+    let there = subst (λ (v : List EndpointParts). Tells graph v graphs) (sym c.endpoints.ensures.value) t in
+    let answers : All (source.Tells graphs) (zip ps truths) = answers_tell graph c.endpoints.result.now graphs there ps truths h.asked h.answered in
+    let first = subst (λ (v : List Probe). All (source.Tells graphs) (zip v truths)) (c.as_slice.ensures.value ∙ sym c.as_slice-in-Ok-ask_all.ensures.value) answers in
+    c.in-Ok-answer_by.ensures.answer graphs
+    (tells_same graph (g.W.Wire.graph c.ask_all.new.wire) c.in-Ok-ask_all.ensures.after.same es graphs t)
+    held
+    (subst (λ (v : List Bool). All (source.Tells graphs) (zip c.as_slice-in-Ok-ask_all.result.now v)) (sym c.as_slice-in-Ok-ask_all-2.ensures.value) first)
+
+pub returns-in-Ok-learn-clause-learns : goal.returns-in-Ok-learn-clause-learns
+returns-in-Ok-learn-clause-learns g c =
+    let see = seen g.W.Wire.tells_log g.W.Wire.log g.W.Wire.graph g.W.Wire.faults in
+    let es = c.args.registry.now in
     let q = c.args.query.now in
-    let rows = c.in-Ok-join_all.rows.items in
-    c.in-Ok-answer_of_rows.ensures
-    ∙ ap (form_answer q q.form) c.as_slice-in-Ok-join_all.ensures.value
-    ∙ answer_from u q rows c.requires.plain (subst (λ (ps : List Pattern). SameRows (bgp u ps) rows) (c.as_slice.ensures.value ∙ c.in-Ok.ensures) (c.in-Ok-join_all.ensures.rows graphs t))
+    let old = c.args.cache.now in
+    let truths = c.in-Ok-ask_all.truths.items in
+    let s = see c.args.wire.now in
+    let t = see c.ask_all.new.wire in
+    let told : TellsFits s t es c.in-Ok.probes.items truths =
+    subst (λ (v : List Probe). TellsFits s t es v truths) c.as_slice.ensures.value
+    (subst (λ (v : List EndpointParts). TellsFits s t v c.as_slice.result.now truths) c.endpoints.ensures.value c.in-Ok-ask_all.ensures.answers) in
+    let probes : c.as_slice-in-Ok-ask_all.result.now ≡ missing q (length es) old = c.as_slice-in-Ok-ask_all.ensures.value ∙ c.in-Ok.ensures.probes in
+    let alone : Gained (AsksSource es (zip (patterns q) (chosen q (length es) (told_by (missing q (length es) old) truths ++ old)))) t (see c.answer_by.new.wire) =
+    subst (λ (v : List Bool). Gained (AsksSource es (zip (patterns q) (chosen q (length es) (told_by (missing q (length es) old) v ++ old)))) t (see c.answer_by.new.wire)) c.as_slice-in-Ok-ask_all-2.ensures.value
+    (subst (λ (v : List Probe). Gained (AsksSource es (zip (patterns q) (chosen q (length es) (told_by v c.as_slice-in-Ok-ask_all-2.result.now ++ old)))) t (see c.answer_by.new.wire)) probes c.in-Ok-answer_by.ensures.alone) in
+    learned_so (AsksSources es q old) s t (see c.answer_by.new.wire) es q old c.learn.new.self c.in-Ok.probes.items truths refl told alone c.in-Ok.ensures.probes
+    (c.in-Ok-learn.ensures.learned ∙ ap (learned old c.in-Ok.probes.items) c.as_slice-in-Ok-answer_by.ensures.value)
+
+pub returns-in-Ok-learn-clause-tells : goal.returns-in-Ok-learn-clause-tells
+returns-in-Ok-learn-clause-tells g c =
+    let see = seen g.W.Wire.tells_log g.W.Wire.log g.W.Wire.graph g.W.Wire.faults in
+    tells_again (AsksSources c.args.registry.now c.args.query.now c.args.cache.now) (see c.args.wire.now) (see c.answer_by.new.wire) c.args.registry.now c.args.query.now c.args.cache.now c.learn.new.self (Ok c.in-Ok-answer_by.answer) (returns-in-Ok-learn-clause-learns g c)
+
+pub returns-clause-learns : goal.returns-clause-learns
+returns-clause-learns g c =
+    let see = seen g.W.Wire.tells_log g.W.Wire.log g.W.Wire.graph g.W.Wire.faults in
+    let es = c.args.registry.now in
+    let q = c.args.query.now in
+    let old = c.args.cache.now in
+    let truths = c.in-Ok-ask_all.truths.items in
+    let s = see c.args.wire.now in
+    let t = see c.ask_all.new.wire in
+    let told : TellsFits s t es c.in-Ok.probes.items truths =
+    subst (λ (v : List Probe). TellsFits s t es v truths) c.as_slice.ensures.value
+    (subst (λ (v : List EndpointParts). TellsFits s t v c.as_slice.result.now truths) c.endpoints.ensures.value c.in-Ok-ask_all.ensures.answers) in
+    kept_so s t (see c.answer_by.new.wire) es q old c.learn.new.self c.in-Ok.probes.items truths refl told c.in-Ok-answer_by.ensures.after c.in-Ok.ensures.probes
+    (subst (λ (v : List Bool). All (λ e. Contains old e ⊎ Contains (zip c.in-Ok.probes.items v) e) c.learn.new.self) c.as_slice-in-Ok-answer_by.ensures.value c.in-Err-learn.ensures.kept)
+
+pub returns-clause-tells : goal.returns-clause-tells
+returns-clause-tells g c =
+    let see = seen g.W.Wire.tells_log g.W.Wire.log g.W.Wire.graph g.W.Wire.faults in
+    tells_again {X = Answer} (AsksSources c.args.registry.now c.args.query.now c.args.cache.now) (see c.args.wire.now) (see c.answer_by.new.wire) c.args.registry.now c.args.query.now c.args.cache.now c.learn.new.self (Err Memory) (returns-clause-learns g c)

@@ -1,36 +1,63 @@
-use Rattle.std.proofs.Common.{◌≡◌, ◌∙◌, ◌+◌, ◌++◌, ◌∷◌, [], ap, sym, subst, refl, List, take, IsPermutation}
-use Rattle.fx_algebra.specs.Operators.{join}
+use Rattle.std.proofs.Common.{◌≡◌, ◌∙◌, ◌+◌, ◌++◌, ◌∷◌, [], ap, sym, subst, refl, rules, ℕ, List, take, IsPermutation, Some}
+use Rattle.std.specs.Prelude.{Contains, slice_get}
+use Rattle.std.specs.List.{zip}
 use Rattle.std.proofs.lemmas.List.{take_more}
+use Rattle.std.proofs.lemmas.Option.{slice_get_read}
 use Rattle.fx_terms.specs.Graphs.{union}
 use Rattle.fx_terms.specs.declared.patterns.Pattern.{Pattern}
 use Rattle.fx_algebra.specs.BasicGraphPatterns.{bgp}
+use Rattle.fx_algebra.specs.Operators.{join}
 use Rattle.fx_algebra.specs.Solutions.{Bindings, SameRows}
 use Rattle.fx_wire.specs.Exchanges.{seen}
 use Rattle.fx_engine.proofs.GatherLemmas.{after_both, refused_later, tells_same}
+use Rattle.fx_engine.specs.Federation.{AsksSource}
 use Rattle.fx_engine.proofs.FederationLemmas.{joined_more}
+use Rattle.fx_engine.proofs.GainLemmas.{asks_among, gained_as, gained_both, gained_none, stands_beside}
+use Rattle.fx_engine.proofs.SourceLemmas.{members_at, none_of_all}
 use Rattle.fx_engine.proofs.federation.join_all.Goals as goal
+
+pub returns-then-lacks_one-clause-rows : goal.returns-then-lacks_one-clause-rows
+returns-then-lacks_one-clause-rows g c =
+    λ graphs t m.
+    let empty : c.new.result.items ≡ [] = search rules in
+    subst (λ (rows : List Bindings). SameRows (bgp (union graphs) c.args.patterns.now) rows) (sym empty)
+    (none_of_all graphs c.args.patterns.now c.args.sources.now (sym c.lacks_one.ensures ∙ c.if-lacks_one.true) m)
 
 pub returns-in-Err-clause-rows : goal.returns-in-Err-clause-rows
 returns-in-Err-clause-rows g c =
     let see = seen g.W.Wire.tells_log g.W.Wire.log g.W.Wire.graph g.W.Wire.faults in
-    refused_later (see c.args.wire.now) (see c.loop-pattern.wire) (see c.gather.new.wire) c.args.endpoints.now c.in-Err.error refl c.loop-pattern.invariant.after c.in-Err.ensures.rows
+    refused_later (see c.args.wire.now) (see c.loop-at.wire) (see c.gather.new.wire) c.args.endpoints.now c.in-Err.error refl c.loop-at.invariant.after c.in-Err.ensures.rows
 
-pub loop-pattern-preserved : goal.loop-pattern-preserved
-loop-pattern-preserved g c =
+pub loop-at-preserved : goal.loop-at-preserved
+loop-at-preserved g c =
     let see = seen g.W.Wire.tells_log g.W.Wire.log g.W.Wire.graph g.W.Wire.faults in
     let ps = c.args.patterns.now in
-    let at = c.loop-pattern.pattern-index in
-    let p = c.pattern-item.result in
-    let more : take (at + 1) ps ≡ take at ps ++ p ∷ [] = take_more ps at p c.loop-pattern-test.true ∙ ap (λ (x : Pattern). take at ps ++ x ∷ []) (sym c.pattern-item.is) in
+    let at = c.loop-at.at in
+    let p = c.index-patterns-at.result in
+    let stands : slice_get ps at ≡ Some p = search (rules, slice_get_read) in
+    let chosen : slice_get c.args.sources.now at ≡ Some c.index-sources-at.result = search (rules, slice_get_read) in
+    let more : take (at + 1) ps ≡ take at ps ++ p ∷ [] = take_more ps at p c.loop-at-test.true ∙ ap (λ (x : Pattern). take at ps ++ x ∷ []) (sym c.index-patterns-at.is) in
     record {
-      after = after_both (see c.args.wire.now) (see c.loop-pattern.wire) (see c.gather.new.wire) refl c.loop-pattern.invariant.after c.in-Ok-gather.ensures.after;
-      rows = λ graphs t.
+      after = after_both (see c.args.wire.now) (see c.loop-at.wire) (see c.gather.new.wire) refl c.loop-at.invariant.after c.in-Ok-gather.ensures.after;
+      alone =
+          let ss = c.args.sources.now in
+          let es = c.args.endpoints.now in
+          let ms = c.as_slice.result.now in
+          let there : Contains (zip ps ss) (p, ms) = stands_beside ps ss at p ms stands (chosen ∙ ap Some (sym c.as_slice.ensures)) in
+          gained_both (AsksSource es (zip ps ss)) (see c.args.wire.now) (see c.loop-at.wire) (see c.gather.new.wire) refl c.loop-at.invariant.alone
+          (gained_as (AsksSource es ((p, ms) ∷ [])) (AsksSource es (zip ps ss)) (see c.loop-at.wire) (see c.gather.new.wire) (asks_among es (zip ps ss) (p, ms) there) c.in-Ok-gather.ensures.alone);
+      rows = λ graphs t m.
           let u = union graphs in
           let found = c.in-Ok-gather.found.items in
           let joined = c.in-Ok-join_with.joined.items in
           subst (λ (v : List Pattern). SameRows (bgp u v) joined) (sym more)
-          (joined_more u (take at ps) p c.loop-pattern.rows.items found joined
-          (c.loop-pattern.invariant.rows graphs t)
-          (c.in-Ok-gather.ensures.rows graphs (tells_same (g.W.Wire.graph c.args.wire.now) (g.W.Wire.graph c.loop-pattern.wire) c.loop-pattern.invariant.after.same c.args.endpoints.now graphs t))
-          (subst (λ (r : List Bindings). IsPermutation (join r found) joined) c.as_slice.ensures.value c.in-Ok-join_with.ensures));
+          (joined_more u (take at ps) p c.loop-at.rows.items found joined
+          (c.loop-at.invariant.rows graphs t m)
+          (c.in-Ok-gather.ensures.rows graphs (tells_same (g.W.Wire.graph c.args.wire.now) (g.W.Wire.graph c.loop-at.wire) c.loop-at.invariant.after.same c.args.endpoints.now graphs t)
+          (ap (λ (v : List ℕ). v ∷ []) (c.as_slice.ensures ∙ members_at graphs ps c.args.sources.now at p c.index-sources-at.result m stands chosen)))
+          (subst (λ (r : List Bindings). IsPermutation (join r found) joined) c.as_slice-in-Ok-gather.ensures.value c.in-Ok-join_with.ensures));
     }
+
+pub returns-then-lacks_one-clause-alone : goal.returns-then-lacks_one-clause-alone
+returns-then-lacks_one-clause-alone g c =
+    gained_none (AsksSource c.args.endpoints.now (zip c.args.patterns.now c.args.sources.now)) (seen g.W.Wire.tells_log g.W.Wire.log g.W.Wire.graph g.W.Wire.faults c.args.wire.now)

@@ -1,14 +1,17 @@
-use Rattle.std.proofs.Common.{List, take}
+use Rattle.std.proofs.Common.{◌≡◌, List, map, take}
 use Rattle.fx_terms.specs.Graphs.{union}
 use Rattle.fx_terms.specs.declared.triples.Triple.{Triple}
 use Rattle.fx_algebra.specs.BasicGraphPatterns.{bgp}
 use Rattle.fx_algebra.specs.Solutions.{SameRows}
 use Rattle.fx_wire.specs.Exchanges.{IsAfter, seen}
-use Rattle.fx_engine.specs.Federation.{Tells}
+use Rattle.fx_sources.specs.Sources as source
+use Rattle.std.specs.List.{zip}
+use Rattle.fx_engine.specs.Federation.{AsksSource, Gained, Tells}
 use Rattle.fx_engine.proofs.federation.join_all.Given as goal
 
-abbrev pub invariant-loop-pattern : goal.invariant-loop-pattern
-invariant-loop-pattern g l = record {
+abbrev pub invariant-loop-at : goal.invariant-loop-at
+invariant-loop-at g l = record {
   after : IsAfter (seen g.W.Wire.tells_log g.W.Wire.log g.W.Wire.graph g.W.Wire.faults l.initial.wire) (seen g.W.Wire.tells_log g.W.Wire.log g.W.Wire.graph g.W.Wire.faults l.wire);
-  rows : (graphs : List (List Triple)) → Tells (g.W.Wire.graph l.initial.wire) l.endpoints graphs → SameRows (bgp (union graphs) (take l.pattern-index l.patterns)) l.rows.items;
+  alone : Gained (AsksSource l.endpoints (zip l.patterns l.sources)) (seen g.W.Wire.tells_log g.W.Wire.log g.W.Wire.graph g.W.Wire.faults l.initial.wire) (seen g.W.Wire.tells_log g.W.Wire.log g.W.Wire.graph g.W.Wire.faults l.wire);
+  rows : (graphs : List (List Triple)) → Tells (g.W.Wire.graph l.initial.wire) l.endpoints graphs → l.sources ≡ map (source.sources graphs) l.patterns → SameRows (bgp (union graphs) (take l.at l.patterns)) l.rows.items;
 }

@@ -1,18 +1,23 @@
-use Rattle.std.proofs.Common.{◌≡◌, ◌∙◌, sym, subst, List, [], ℕ, rules}
+use Rattle.std.proofs.Common.{◌≡◌, ◌∙◌, sym, subst, List, [], ◌∷◌, ℕ, map, rules}
 use Rattle.std.proofs.lemmas.List.Sorted.{IsPermutation-refl}
 use Rattle.fx_terms.specs.Graphs.{union}
 use Rattle.fx_algebra.specs.Solutions.{Bindings, SameRows}
+use Rattle.fx_sources.specs.Sources.{graph_of, sources}
 use Rattle.fx_syntax.specs.Accepted.{Accepted}
 use Rattle.fx_syntax.specs.Printable.{pattern_query}
 use Rattle.fx_syntax.proofs.printing.PatternQuery.{pattern_query_is_accepted}
+use Rattle.fx_wire.specs.Exchanges.{seen}
+use Rattle.fx_engine.specs.Federation.{AreRowsOf, AsksMember, AsksSource}
 use Rattle.fx_engine.specs.MemberQueries.{IsAsked}
+use Rattle.fx_engine.proofs.GainLemmas.{asks_source, gained_as, gained_none}
 use Rattle.fx_engine.proofs.GatherLemmas.{gathered}
 use Rattle.fx_engine.proofs.PatternLemmas.{no_rows}
+use Rattle.fx_engine.proofs.SourceLemmas.{rows_of_sources}
 use Rattle.fx_engine.proofs.gathering.gather.Goals as goal
 
 pub returns-then-is_literal-clause-rows : goal.returns-then-is_literal-clause-rows
 returns-then-is_literal-clause-rows g c =
-    λ graphs t.
+    λ graphs t m.
     let empty : c.new.result.items ≡ [] = search rules in
     let none = no_rows (union graphs) c.args.pattern.now (sym c.is_literal.ensures ∙ c.if-is_literal.true) in
     subst (λ (rows : List Bindings). SameRows rows c.new.result.items) (sym none) (subst (λ (rows : List Bindings). SameRows [] rows) (sym empty) (IsPermutation-refl []))
@@ -34,4 +39,24 @@ returns-in-Ok-each_once-clause-rows g c =
       named = c.as_slice.ensures.value ∙ c.in-Ok.ensures;
       accepted = subst (λ (text : List ℕ). Accepted text (pattern_query p)) (sym (c.as_str.ensures.value ∙ c.in-Ok-text_of.ensures)) (pattern_query_is_accepted p c.known_pattern.ensures);
     } in
-    λ graphs t. gathered graphs p c.in-Ok-collect.rows.items c.in-Ok-each_once.rows.items (c.in-Ok-collect.ensures.rows p graphs asked t) c.in-Ok-each_once.ensures
+    λ graphs t m.
+    let rows = c.in-Ok-collect.rows.items in
+    let same : c.args.members.now ≡ sources graphs p = cc in
+    gathered graphs p rows c.in-Ok-each_once.rows.items
+    (rows_of_sources graphs p rows (subst (λ (ms : List ℕ). AreRowsOf (map (graph_of graphs) ms) p rows) same (c.in-Ok-collect.ensures.rows p graphs asked t)))
+    c.in-Ok-each_once.ensures
+
+pub returns-then-is_literal-clause-alone : goal.returns-then-is_literal-clause-alone
+returns-then-is_literal-clause-alone g c =
+    gained_none (AsksSource c.args.endpoints.now ((c.args.pattern.now, c.args.members.now) ∷ [])) (seen g.W.Wire.tells_log g.W.Wire.log g.W.Wire.graph g.W.Wire.faults c.args.wire.now)
+
+pub returns-in-Ok-each_once-clause-alone : goal.returns-in-Ok-each_once-clause-alone
+returns-in-Ok-each_once-clause-alone g c =
+    let see = seen g.W.Wire.tells_log g.W.Wire.log g.W.Wire.graph g.W.Wire.faults in
+    let es = c.args.endpoints.now in
+    let p = c.args.pattern.now in
+    let ms = c.args.members.now in
+    let text = c.as_str.result.now in
+    gained_as (AsksMember es ms text) (AsksSource es ((p, ms) ∷ [])) (see c.args.wire.now) (see c.collect.new.wire)
+    (asks_source es p ms text (subst (λ (t : List ℕ). Accepted t (pattern_query p)) (sym (c.as_str.ensures.value ∙ c.in-Ok-text_of.ensures)) (pattern_query_is_accepted p c.known_pattern.ensures)))
+    c.in-Ok-collect.ensures.alone

@@ -9,7 +9,7 @@ returns-clause-exact c =
     (sym (request_of_is c.args.at.now c.args.text.now))
 
 pub returns-clause-whole : goal.returns-clause-whole
-returns-clause-whole c =
+returns-clause-whole c few =
     let exact = returns-clause-exact c in
     subst (λ (t : List ℕ). IsRequest t c.args.text.now) (sym exact)
-    (request_is c.args.at.now c.args.text.now c.requires.sendable (omega arith) (omega arith))
+    (request_is c.args.at.now c.args.text.now c.requires.sendable (omega arith) few)

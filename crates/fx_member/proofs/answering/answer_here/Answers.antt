@@ -8,6 +8,6 @@ pub returns : goal.returns
 returns c =
     let q = c.args.query.now in
     let all = c.in_ok-rows.rows.items in
-    answer_of_rows q c.args.graph.now c.in_ok-found.found.items all c.in_ok-answer.answer c.one_answer.ensures c.in_ok-found.ensures c.in_ok-rows.ensures
+    answer_of_rows q c.args.store.now c.in_ok-found.found.items all c.in_ok-answer.answer c.one_answer.ensures c.in_ok-found.ensures c.in_ok-rows.ensures
     (subst (λ (rows : List Bindings). All (λ s. IsTrue (rises s)) rows) c.as_slice.ensures.value c.known_to_rise.ensures)
     (c.in_ok-answer.ensures ∙ ap (form_answer q q.form) c.as_slice-2.ensures.value)

@@ -16,8 +16,8 @@ after_element-returns-in_ok-rows-in-Optional t c =
     let rows = c.in_ok-rows-in-Optional.rows.items in
     let P : List Bindings → List Expr → Type 0 = λ left es. IsPermutation (left_join left found es) rows in
     let joined : P before filters = subst (P before) c.as_slice-in-Optional-2.ensures.value (subst (λ (left : List Bindings). P left c.as_slice-in-Optional-2.result.now) c.as_slice-in-Optional.ensures.value c.in_ok-rows-in-Optional.ensures) in
-    subst (λ (e : Element). AreAfter e c.args.graph.now before rows) (sym c.in-Optional.is)
-    (after_optional c.args.graph.now before rows c.in-Optional.group found filters c.in_ok-found-in-Optional.ensures c.in_ok-filters-in-Optional.ensures joined)
+    subst (λ (e : Element). AreAfter e c.args.store.now before rows) (sym c.in-Optional.is)
+    (after_optional c.args.store.now before rows c.in-Optional.group found filters c.in_ok-found-in-Optional.ensures c.in_ok-filters-in-Optional.ensures joined)
 
 pub after_element-returns-in_ok-rows-in-Union : goal.after_element-returns-in_ok-rows-in-Union
 after_element-returns-in_ok-rows-in-Union t c =
@@ -25,38 +25,38 @@ after_element-returns-in_ok-rows-in-Union t c =
     let found = c.in_ok-found-in-Union.found.items in
     let rows = c.in_ok-rows-in-Union.rows.items in
     let joined : IsPermutation (join before found) rows = subst (λ (left : List Bindings). IsPermutation (join left found) rows) c.as_slice-in-Union-2.ensures.value c.in_ok-rows-in-Union.ensures in
-    subst (λ (e : Element). AreAfter e c.args.graph.now before rows) (sym c.in-Union.is)
-    (after_union c.args.graph.now before rows c.in-Union.groups found (subst (λ (gs : List Group). AreAlternatives gs c.args.graph.now found) c.as_slice-in-Union.ensures c.in_ok-found-in-Union.ensures) joined)
+    subst (λ (e : Element). AreAfter e c.args.store.now before rows) (sym c.in-Union.is)
+    (after_union c.args.store.now before rows c.in-Union.groups found (subst (λ (gs : List Group). AreAlternatives gs c.args.store.now found) c.as_slice-in-Union.ensures c.in_ok-found-in-Union.ensures) joined)
 
 pub after_element-returns-in_ok-rows-in-Minus : goal.after_element-returns-in_ok-rows-in-Minus
 after_element-returns-in_ok-rows-in-Minus t c =
     let before = c.args.before.items in
     let found = c.in_ok-found-in-Minus.found.items in
     let rows = c.in_ok-rows-in-Minus.rows.items in
-    subst (λ (e : Element). AreAfter e c.args.graph.now before rows) (sym c.in-Minus.is)
-    (after_minus c.args.graph.now before rows c.in-Minus.group found c.in_ok-found-in-Minus.ensures (c.in_ok-rows-in-Minus.ensures ∙ ap (λ (left : List Bindings). minus left found) c.as_slice-in-Minus.ensures.value))
+    subst (λ (e : Element). AreAfter e c.args.store.now before rows) (sym c.in-Minus.is)
+    (after_minus c.args.store.now before rows c.in-Minus.group found c.in_ok-found-in-Minus.ensures (c.in_ok-rows-in-Minus.ensures ∙ ap (λ (left : List Bindings). minus left found) c.as_slice-in-Minus.ensures.value))
 
 pub after_element-returns-in-Service : goal.after_element-returns-in-Service
 after_element-returns-in-Service t c =
     let before = c.args.before.items in
-    subst (λ (e : Element). AreAfter e c.args.graph.now before before) (sym c.in-Service.is) (after_service c.args.graph.now before before c.in-Service.silent c.in-Service.iri c.in-Service.group refl)
+    subst (λ (e : Element). AreAfter e c.args.store.now before before) (sym c.in-Service.is) (after_service c.args.store.now before before c.in-Service.silent c.in-Service.iri c.in-Service.group refl)
 
 pub alternatives-loop-group-preserved : goal.alternatives-loop-group-preserved
 alternatives-loop-group-preserved t c =
-    alternatives_next c.args.groups.now c.loop-group.group-index c.group-item.result c.args.graph.now c.loop-group.rows.items c.in_ok-found.found.items c.append.new.self.items c.loop-group-test.true c.group-item.is
+    alternatives_next c.args.groups.now c.loop-group.group-index c.group-item.result c.args.store.now c.loop-group.rows.items c.in_ok-found.found.items c.append.new.self.items c.loop-group-test.true c.group-item.is
     c.loop-group.invariant c.in_ok-found.ensures c.in_ok-append.ensures.items
 
 pub group_rows-returns : goal.group_rows-returns
 group_rows-returns t c =
     let found = c.in_ok-found.found.items in
-    rows_filtered c.args.group.now c.args.graph.now found c.in_ok-rows.rows.items c.in_ok-filters.filters.items c.in_ok-found.ensures c.in_ok-filters.ensures
+    rows_filtered c.args.group.now c.args.store.now found c.in_ok-rows.rows.items c.in_ok-filters.filters.items c.in_ok-found.ensures c.in_ok-filters.ensures
     (c.in_ok-rows.ensures ∙ ap (λ (es : List Expr). filtered es found) c.as_slice.ensures.value)
 
 pub unfiltered-loop-element-preserved : goal.unfiltered-loop-element-preserved
 unfiltered-loop-element-preserved t c =
-    so_far_next c.as_slice-element-items.result.now c.loop-element.element-index c.element-item.result c.args.graph.now c.loop-element.rows.items c.in_ok-rows.rows.items c.loop-element-test.true c.element-item.is
+    so_far_next c.as_slice-element-items.result.now c.loop-element.element-index c.element-item.result c.args.store.now c.loop-element.rows.items c.in_ok-rows.rows.items c.loop-element-test.true c.element-item.is
     c.loop-element.invariant (rw c.as_slice.ensures.value at c.known_to_rise.ensures) c.in_ok-rows.ensures
 
 pub unfiltered-returns : goal.unfiltered-returns
 unfiltered-returns t c =
-    so_far_end c.args.group.now c.as_slice-element-items.result.now c.loop-element.element-index c.args.graph.now c.loop-element.rows.items c.as_slice-element-items.ensures c.loop-element-test.false c.loop-element.invariant
+    so_far_end c.args.group.now c.as_slice-element-items.result.now c.loop-element.element-index c.args.store.now c.loop-element.rows.items c.as_slice-element-items.ensures c.loop-element-test.false c.loop-element.invariant

@@ -1,0 +1,18 @@
+use Rattle.std.proofs.Common.{sym, subst}
+use Rattle.fx_wire.specs.Exchanges.{seen}
+use Rattle.fedx.specs.declared.statuses.Status.{Status}
+use Rattle.fedx.specs.FedRefusals.{fed_line}
+use Rattle.fedx.specs.QuerySteps.{IsAskReported}
+use Rattle.fedx.proofs.QueryLemmas.{fed_reported}
+use Rattle.fedx.proofs.explained.explain_members.Goals as goal
+
+pub returns-clause-reported : goal.returns-clause-reported
+returns-clause-reported g c =
+    let of = seen g.W.Wire.tells_log g.W.Wire.log g.W.Wire.graph g.W.Wire.faults in
+    let before = of c.args.wire.now in
+    let after = of c.plan_text.new.wire in
+    let text = fed_line c.args.members.now c.in-Err.error in (
+      text,
+      subst (λ (s : Status). IsAskReported before after c.args.members.now s text) (sym c.fed_status.ensures) (fed_reported before after c.args.members.now c.in-Err.error c.in-Err.ensures.text),
+      rw c.endpoints.ensures.value at c.write_fed_error.ensures,
+    )

@@ -1,0 +1,53 @@
+use Rattle.std.proofs.Common.{◌≡◌, ◌∙◌, ◌≤◌, ap, sym, subst, refl, List, [], ℕ, length, Err, arith}
+use Rattle.fx_http.specs.Requests.{IsRequest, request_of}
+use Rattle.fx_wire.specs.Exchanges.{exchanged}
+use Rattle.fx_sources.specs.Sources.{ask_text}
+use Rattle.fx_engine.specs.ReplyChecks.{a_truth, HasFault, GivesTruth}
+use Rattle.fx_engine.specs.Tables.{ReadsTruth}
+use Rattle.fx_engine.specs.declared.errors.TableError.{TableError}
+use Rattle.fx_engine.proofs.FitLemmas.{fit_is, bad_fit}
+use Rattle.fx_engine.proofs.asking.ask_fit.Goals as goal
+
+pub returns-in-Ok-read_truth-clause-fit : goal.returns-in-Ok-read_truth-clause-fit
+returns-in-Ok-read_truth-clause-fit g c =
+    let p = c.args.key.now.pattern in
+    let request = c.as_slice.result.now in
+    let reply = c.in-Ok-exchange.reply.items in
+    let text : c.as_str-asked.result.now ≡ ask_text p = c.as_str-asked.ensures.value ∙ c.in-Ok.ensures in
+    let short : length c.as_str-asked.result.now ≤ 67108864 = omega arith in
+    let few : length (ask_text p) ≤ 67108864 = subst (λ (v : List ℕ). length v ≤ 67108864) text short in
+    let posted : IsRequest request c.as_str-asked.result.now = subst (λ (r : List ℕ). IsRequest r c.as_str-asked.result.now) (sym c.as_slice.ensures.value) (c.in-Ok-request_bytes.ensures.whole short) in
+    let whole : IsRequest request (ask_text p) = subst (IsRequest request) text posted in
+    let read : ReadsTruth reply c.in-Ok-read_truth.truth = subst (λ (r : List ℕ). ReadsTruth r c.in-Ok-read_truth.truth) c.as_slice-in-Ok-exchange.ensures.value c.in-Ok-read_truth.ensures in
+    record {
+      exchange = exchanged c.args.at.now request reply;
+      answer = record {
+        at = refl;
+        requested = c.as_slice.ensures.value ∙ c.in-Ok-request_bytes.ensures.exact ∙ ap (request_of c.args.at.now) text;
+        told = read;
+        tells = fit_is (g.W.Wire.graph c.args.wire.now c.args.at.now.iri) request reply p c.in-Ok-read_truth.truth c.in-Ok-exchange.ensures.honest whole few c.requires.triple read;
+      };
+      logged = λ told. c.in-Ok-exchange.ensures.logged told;
+    }
+
+pub returns-in-Err-Bad-clause-fit : goal.returns-in-Err-Bad-clause-fit
+returns-in-Err-Bad-clause-fit g c =
+    let p = c.args.key.now.pattern in
+    let request = c.as_slice.result.now in
+    let reply = c.in-Ok-exchange.reply.items in
+    let text : c.as_str-asked.result.now ≡ ask_text p = c.as_str-asked.ensures.value ∙ c.in-Ok.ensures in
+    let short : length c.as_str-asked.result.now ≤ 67108864 = omega arith in
+    let few : length (ask_text p) ≤ 67108864 = subst (λ (v : List ℕ). length v ≤ 67108864) text short in
+    let posted : IsRequest request c.as_str-asked.result.now = subst (λ (r : List ℕ). IsRequest r c.as_str-asked.result.now) (sym c.as_slice.ensures.value) (c.in-Ok-request_bytes.ensures.whole short) in
+    let whole : IsRequest request (ask_text p) = subst (IsRequest request) text posted in
+    let gives : GivesTruth c.as_slice-in-Ok-exchange.result.now (Err c.in-Err-Bad.field-0) = c.in-Err-Bad.ensures in
+    let fault : HasFault c.as_slice-in-Ok-exchange.result.now a_truth c.in-Err-Bad.fault = subst (λ (e : TableError). GivesTruth c.as_slice-in-Ok-exchange.result.now (Err e)) c.in-Err-Bad.field-0-is gives in
+    record {
+      exchange = exchanged c.args.at.now request reply;
+      at = refl;
+      bad =
+          bad_fit (g.W.Wire.graph c.args.wire.now c.args.at.now.iri) c.args.at.now request reply p c.in-Err-Bad.fault c.in-Ok-exchange.ensures.honest whole
+          (c.as_slice.ensures.value ∙ c.in-Ok-request_bytes.ensures.exact ∙ ap (request_of c.args.at.now) text) few c.requires.triple
+          (subst (λ (r : List ℕ). HasFault r a_truth c.in-Err-Bad.fault) c.as_slice-in-Ok-exchange.ensures.value fault);
+      logged = λ told. ([], c.in-Ok-exchange.ensures.logged told);
+    }

@@ -1,0 +1,54 @@
+use Rattle.std.proofs.Common.{◌≡◌, ◌∙◌, ◌++◌, ap, sym, subst, ℕ, List, map, length}
+use Rattle.std.specs.Prelude.{All}
+use Rattle.std.specs.List.{zip}
+use Rattle.fx_terms.specs.declared.patterns.Pattern.{Pattern}
+use Rattle.fx_terms.specs.Graphs.{union}
+use Rattle.fx_outside.specs.Endpoints.{EndpointParts}
+use Rattle.fx_algebra.specs.Answers.{form_answer}
+use Rattle.fx_algebra.specs.BasicGraphPatterns.{bgp}
+use Rattle.fx_algebra.specs.Solutions.{SameRows}
+use Rattle.fx_sources.specs.Patterns.{patterns}
+use Rattle.fx_sources.specs.Probes.{chosen, missing, told}
+use Rattle.fx_sources.specs.Sources as source
+use Rattle.fx_sources.specs.declared.probes.Probe.{Probe}
+use Rattle.fx_sources.proofs.SourceLemmas.{chooses}
+use Rattle.fx_wire.specs.Exchanges.{seen}
+use Rattle.fx_engine.specs.Federation.{AsksSource, Gained, Tells}
+use Rattle.fx_engine.proofs.FederationLemmas.{answer_from}
+use Rattle.fx_engine.proofs.LearnLemmas.{plain_patterns}
+use Rattle.fx_engine.proofs.SourceLemmas.{as_many}
+use Rattle.fx_engine.proofs.federation.answer_by.Goals as goal
+
+pub returns-in-Ok-answer_of_rows-clause-answer : goal.returns-in-Ok-answer_of_rows-clause-answer
+returns-in-Ok-answer_of_rows-clause-answer g c =
+    λ graphs t held answers.
+    let u = union graphs in
+    let q = c.args.query.now in
+    let es = c.args.registry.now in
+    let cache = c.args.cache.now in
+    let truths = c.args.truths.now in
+    let rows = c.in-Ok-join_all.rows.items in
+    let graph = g.W.Wire.graph c.args.wire.now in
+    let many : length graphs ≡ length es = as_many graph es graphs t in
+    let asked : c.args.probes.now ≡ missing q (length graphs) cache = c.requires.asked ∙ ap (λ (n : ℕ). missing q n cache) (sym many) in
+    let found : c.in-Ok.sources.members ≡ map (source.sources graphs) (patterns q) =
+    c.in-Ok.ensures.chosen
+    ∙ ap (λ (n : ℕ). chosen q n (told c.args.probes.now truths ++ cache)) (sym many)
+    ∙ ap (λ (ps : List Probe). chosen q (length graphs) (told ps truths ++ cache)) asked
+    ∙ chooses q graphs cache truths (sym c.requires.lengths ∙ ap length asked) held (subst (λ (ps : List Probe). All (source.Tells graphs) (zip ps truths)) asked answers) in
+    let own : c.as_slice.result.now ≡ patterns q = c.as_slice.ensures.value ∙ c.in-Ok-patterns.ensures in
+    let members : c.as_slice-2.result.now ≡ map (source.sources graphs) c.as_slice.result.now = c.as_slice-2.ensures ∙ found ∙ ap (map (source.sources graphs)) (sym own) in
+    let gathered : SameRows (bgp u c.as_slice.result.now) rows = c.in-Ok-join_all.ensures.rows graphs (subst (λ (v : List EndpointParts). Tells graph v graphs) (sym c.endpoints.ensures.value) t) members in
+    c.in-Ok-answer_of_rows.ensures
+    ∙ ap (form_answer q q.form) c.as_slice-in-Ok-join_all.ensures.value
+    ∙ answer_from u q rows c.requires.plain (subst (λ (ps : List Pattern). SameRows (bgp u ps) rows) (own ∙ plain_patterns q c.requires.plain) gathered)
+
+pub returns-in-Ok-answer_of_rows-clause-alone : goal.returns-in-Ok-answer_of_rows-clause-alone
+returns-in-Ok-answer_of_rows-clause-alone g c =
+    let see = seen g.W.Wire.tells_log g.W.Wire.log g.W.Wire.graph g.W.Wire.faults in
+    let s = see c.args.wire.now in
+    let u = see c.join_all.new.wire in
+    let q = c.args.query.now in
+    subst (λ (ms : List (List ℕ)). Gained (AsksSource c.args.registry.now (zip (patterns q) ms)) s u) (c.as_slice-2.ensures ∙ c.in-Ok.ensures.chosen)
+    (subst (λ (ps : List Pattern). Gained (AsksSource c.args.registry.now (zip ps c.as_slice-2.result.now)) s u) (c.as_slice.ensures.value ∙ c.in-Ok-patterns.ensures)
+    (subst (λ (es : List EndpointParts). Gained (AsksSource es (zip c.as_slice.result.now c.as_slice-2.result.now)) s u) c.endpoints.ensures.value c.in-Ok-join_all.ensures.alone))

@@ -1,0 +1,106 @@
+use Rattle.std.proofs.Common.{◌∙◌, ap, sym, subst, refl, List, [], length, Bool, Ok, Err, append-nil}
+use Rattle.std.specs.Prelude.{All, Contains, ◌⊎◌}
+use Rattle.std.specs.List.{zip}
+use Rattle.std.specs.declared.vec.Vec.{Vec}
+use Rattle.std.specs.declared.alloc.Global.{Global}
+use Rattle.fx_outside.specs.Endpoints.{EndpointParts}
+use Rattle.fx_plan.specs.declared.parts.Part.{Part}
+use Rattle.fx_wire.specs.Exchanges.{seen}
+use Rattle.fx_sources.specs.Probes.{learned}
+use Rattle.fx_sources.specs.Sources as source
+use Rattle.fx_sources.specs.declared.probes.Probe.{Probe}
+use Rattle.fx_engine.specs.declared.errors.FedError.TheVariants.{Memory}
+use Rattle.fx_engine.specs.Federation.{AsksNothing, Tells, TellsFits}
+use Rattle.fx_engine.proofs.GatherLemmas.{after_itself}
+use Rattle.fx_engine.proofs.LearnLemmas.{answers_tell, as_many_truths, kept_all, kept_so, learned_so, not_learned, tells_again}
+use Rattle.fx_engine.proofs.PlanLemmas.{parts_from}
+use Rattle.fx_engine.proofs.planning.plan_parts.Goals as goal
+
+pub returns-in_default-clause-learns : goal.returns-in_default-clause-learns
+returns-in_default-clause-learns g c =
+    let see = seen g.W.Wire.tells_log g.W.Wire.log g.W.Wire.graph g.W.Wire.faults in
+    kept_all (see c.args.wire.now) (see c.args.wire.now) c.args.registry.now c.args.query.now c.args.cache.now (after_itself (see c.args.wire.now))
+
+pub returns-in-Err-clause-learns : goal.returns-in-Err-clause-learns
+returns-in-Err-clause-learns g c =
+    let see = seen g.W.Wire.tells_log g.W.Wire.log g.W.Wire.graph g.W.Wire.faults in
+    not_learned (Vec Part Global) AsksNothing (see c.args.wire.now) (see c.ask_all.new.wire) c.args.registry.now c.args.query.now c.args.cache.now c.in-Err.error c.in-Err.ensures.after
+
+pub parts_by-requires-clause-lengths : goal.parts_by-requires-clause-lengths
+parts_by-requires-clause-lengths g c =
+    let h = c.in-Ok-ask_all.ensures.answers in
+    ap length (c.as_slice-in-Ok-ask_all.ensures.value ∙ sym c.as_slice.ensures.value)
+    ∙ as_many_truths (g.W.Wire.graph c.args.wire.now) c.endpoints.result.now c.as_slice.result.now c.in-Ok-ask_all.truths.items h.asked h.answered
+    ∙ ap length (sym c.as_slice-in-Ok-ask_all-2.ensures.value)
+
+pub returns-in-Err-parts_by-clause-learns : goal.returns-in-Err-parts_by-clause-learns
+returns-in-Err-parts_by-clause-learns g c =
+    let see = seen g.W.Wire.tells_log g.W.Wire.log g.W.Wire.graph g.W.Wire.faults in
+    not_learned (Vec Part Global) AsksNothing (see c.args.wire.now) (see c.ask_all.new.wire) c.args.registry.now c.args.query.now c.args.cache.now Memory c.in-Ok-ask_all.ensures.after
+
+pub learn-requires-clause-lengths : goal.learn-requires-clause-lengths
+learn-requires-clause-lengths g c =
+    let h = c.in-Ok-ask_all.ensures.answers in
+    ap length (sym c.as_slice.ensures.value)
+    ∙ as_many_truths (g.W.Wire.graph c.args.wire.now) c.endpoints.result.now c.as_slice.result.now c.in-Ok-ask_all.truths.items h.asked h.answered
+    ∙ ap length (sym c.as_slice-in-Ok-parts_by.ensures.value)
+
+pub returns-in-Ok-learn-clause-parts : goal.returns-in-Ok-learn-clause-parts
+returns-in-Ok-learn-clause-parts g c =
+    λ graphs t held.
+    let graph = g.W.Wire.graph c.args.wire.now in
+    let es = c.args.registry.now in
+    let h = c.in-Ok-ask_all.ensures.answers in
+    let ps = c.as_slice.result.now in
+    let truths = c.in-Ok-ask_all.truths.items in
+    let there = subst (λ (v : List EndpointParts). Tells graph v graphs) (sym c.endpoints.ensures.value) t in
+    let answers : All (source.Tells graphs) (zip ps truths) = answers_tell graph c.endpoints.result.now graphs there ps truths h.asked h.answered in
+    let first = subst (λ (v : List Probe). All (source.Tells graphs) (zip v truths)) (c.as_slice.ensures.value ∙ sym c.as_slice-in-Ok-ask_all.ensures.value) answers in
+    let all = subst (λ (v : List Bool). All (source.Tells graphs) (zip c.as_slice-in-Ok-ask_all.result.now v)) (sym c.as_slice-in-Ok-ask_all-2.ensures.value) first in
+    c.in-Ok-parts_by.ensures.parts
+    ∙ parts_from graph es graphs t c.args.query.now c.args.cache.now c.as_slice-in-Ok-ask_all.result.now c.as_slice-in-Ok-ask_all-2.result.now
+    (c.as_slice-in-Ok-ask_all.ensures.value ∙ c.in-Ok.ensures.probes)
+    (ap length (c.as_slice-in-Ok-ask_all.ensures.value ∙ sym c.as_slice.ensures.value)
+    ∙ as_many_truths graph c.endpoints.result.now ps truths h.asked h.answered
+    ∙ ap length (sym c.as_slice-in-Ok-ask_all-2.ensures.value))
+    held all
+
+pub returns-in-Ok-learn-clause-learns : goal.returns-in-Ok-learn-clause-learns
+returns-in-Ok-learn-clause-learns g c =
+    let see = seen g.W.Wire.tells_log g.W.Wire.log g.W.Wire.graph g.W.Wire.faults in
+    let es = c.args.registry.now in
+    let q = c.args.query.now in
+    let old = c.args.cache.now in
+    let truths = c.in-Ok-ask_all.truths.items in
+    let s = see c.args.wire.now in
+    let t = see c.ask_all.new.wire in
+    let told : TellsFits s t es c.in-Ok.probes.items truths =
+    subst (λ (v : List Probe). TellsFits s t es v truths) c.as_slice.ensures.value
+    (subst (λ (v : List EndpointParts). TellsFits s t v c.as_slice.result.now truths) c.endpoints.ensures.value c.in-Ok-ask_all.ensures.answers) in
+    learned_so AsksNothing s t t es q old c.learn.new.self c.in-Ok.probes.items truths refl told (λ says. ([], sym (append-nil t.log), refl)) c.in-Ok.ensures.probes
+    (c.in-Ok-learn.ensures.learned ∙ ap (learned old c.in-Ok.probes.items) c.as_slice-in-Ok-parts_by.ensures.value)
+
+pub returns-in-Ok-learn-clause-tells : goal.returns-in-Ok-learn-clause-tells
+returns-in-Ok-learn-clause-tells g c =
+    let see = seen g.W.Wire.tells_log g.W.Wire.log g.W.Wire.graph g.W.Wire.faults in
+    tells_again AsksNothing (see c.args.wire.now) (see c.ask_all.new.wire) c.args.registry.now c.args.query.now c.args.cache.now c.learn.new.self (Ok c.in-Ok-parts_by.parts) (returns-in-Ok-learn-clause-learns g c)
+
+pub returns-clause-learns : goal.returns-clause-learns
+returns-clause-learns g c =
+    let see = seen g.W.Wire.tells_log g.W.Wire.log g.W.Wire.graph g.W.Wire.faults in
+    let es = c.args.registry.now in
+    let q = c.args.query.now in
+    let old = c.args.cache.now in
+    let truths = c.in-Ok-ask_all.truths.items in
+    let s = see c.args.wire.now in
+    let t = see c.ask_all.new.wire in
+    let told : TellsFits s t es c.in-Ok.probes.items truths =
+    subst (λ (v : List Probe). TellsFits s t es v truths) c.as_slice.ensures.value
+    (subst (λ (v : List EndpointParts). TellsFits s t v c.as_slice.result.now truths) c.endpoints.ensures.value c.in-Ok-ask_all.ensures.answers) in
+    kept_so s t t es q old c.learn.new.self c.in-Ok.probes.items truths refl told (after_itself t) c.in-Ok.ensures.probes
+    (subst (λ (v : List Bool). All (λ e. Contains old e ⊎ Contains (zip c.in-Ok.probes.items v) e) c.learn.new.self) c.as_slice-in-Ok-parts_by.ensures.value c.in-Err-learn.ensures.kept)
+
+pub returns-clause-tells : goal.returns-clause-tells
+returns-clause-tells g c =
+    let see = seen g.W.Wire.tells_log g.W.Wire.log g.W.Wire.graph g.W.Wire.faults in
+    tells_again {X = Vec Part Global} AsksNothing (see c.args.wire.now) (see c.ask_all.new.wire) c.args.registry.now c.args.query.now c.args.cache.now c.learn.new.self (Err Memory) (returns-clause-learns g c)

@@ -1,0 +1,30 @@
+use Rattle.std.proofs.Common.{◌≡◌, ◌∙◌, ◌+◌, ◌++◌, ◌∷◌, [], ap, sym, subst, refl, rules, Bool, List, take}
+use Rattle.std.proofs.lemmas.List.{take_more}
+use Rattle.fx_wire.specs.Exchanges.{seen}
+use Rattle.fx_sources.specs.declared.probes.Probe.{Probe}
+use Rattle.fx_engine.specs.Federation.{TellsFits}
+use Rattle.fx_engine.proofs.GatherLemmas.{after_both, refused_later}
+use Rattle.fx_engine.proofs.LearnLemmas.{fits_more}
+use Rattle.fx_engine.proofs.selection.ask_all.Goals as goal
+
+pub returns-in-Err-clause-answers : goal.returns-in-Err-clause-answers
+returns-in-Err-clause-answers g c =
+    let see = seen g.W.Wire.tells_log g.W.Wire.log g.W.Wire.graph g.W.Wire.faults in
+    refused_later (see c.args.wire.now) (see c.loop-probe.wire) (see c.ask_one.new.wire) c.args.endpoints.now c.in-Err.error refl c.loop-probe.invariant.after c.in-Err.ensures.answer
+
+pub loop-probe-preserved : goal.loop-probe-preserved
+loop-probe-preserved g c =
+    let see = seen g.W.Wire.tells_log g.W.Wire.log g.W.Wire.graph g.W.Wire.faults in
+    let es = c.args.endpoints.now in
+    let ps = c.args.probes.now in
+    let k = c.loop-probe.probe-index in
+    let p = c.probe-item.result in
+    let more : take (k + 1) ps ≡ take k ps ++ p ∷ [] = take_more ps k p c.loop-probe-test.true ∙ ap (λ (x : Probe). take k ps ++ x ∷ []) (sym c.probe-item.is) in
+    let pushed : c.push.new.self.items ≡ c.loop-probe.truths.items ++ c.in-Ok.truth ∷ [] = search rules in
+    record {
+      after = after_both (see c.args.wire.now) (see c.loop-probe.wire) (see c.ask_one.new.wire) refl c.loop-probe.invariant.after c.in-Ok.ensures.after;
+      told =
+          subst (λ (v : List Bool). TellsFits (see c.args.wire.now) (see c.ask_one.new.wire) es (take (k + 1) ps) v) (sym pushed)
+          (subst (λ (v : List Probe). TellsFits (see c.args.wire.now) (see c.ask_one.new.wire) es v (c.loop-probe.truths.items ++ c.in-Ok.truth ∷ [])) (sym more)
+          (fits_more (see c.args.wire.now) (see c.loop-probe.wire) (see c.ask_one.new.wire) es (take k ps) c.loop-probe.truths.items p c.in-Ok.truth refl c.loop-probe.invariant.after c.loop-probe.invariant.told c.in-Ok.ensures.answer));
+    }

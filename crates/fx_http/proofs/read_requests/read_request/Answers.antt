@@ -1,0 +1,30 @@
+use Rattle.std.proofs.Common.{◌≡◌, ◌∙◌, ℕ, List, ◌++◌, sym, ap, subst}
+use Rattle.fx_http.specs.RequestHeads.{IsWholeHead, AsksBehind, IsBodyBehind}
+use Rattle.fx_http.specs.Requests.{Asks, IsRequest}
+use Rattle.fx_http.proofs.ReadRequestLaws.{only_answer, gives_as, asks_whole, taken_whole, ok_both}
+use Rattle.fx_http.proofs.read_requests.read_request.Goals as goal
+
+pub returns-clause-found : goal.returns-clause-found
+returns-clause-found g c t =
+    let same : c.deref.result.now ≡ c.in_ok-front.front.items = c.deref.ensures.value in
+    let rest : List ℕ = g.S.Ends.left c.read_head.new.source in
+    gives_as c.read_behind.result (AsksBehind c.deref.result.now rest) (Asks (g.S.Ends.left c.args.source.now))
+    (asks_whole (g.S.Ends.left c.args.source.now) c.deref.result.now rest
+    (subst IsWholeHead (sym same) c.in_ok-front.ensures.head)
+    (c.in_ok-front.ensures.taken t ∙ ap (λ (bs : List ℕ). bs ++ rest) (sym same)))
+    (c.read_behind.ensures.found t)
+
+pub returns-clause-only : goal.returns-clause-only
+returns-clause-only g c t = only_answer (g.S.Ends.left c.args.source.now) c.read_behind.result (returns-clause-found g c t)
+
+pub returns-clause-taken : goal.returns-clause-taken
+returns-clause-taken g c t =
+    let same : c.deref.result.now ≡ c.in_ok-front.front.items = c.deref.ensures.value in
+    let rest : List ℕ = g.S.Ends.left c.read_head.new.source in
+    let after : List ℕ = g.S.Ends.left c.read_behind.new.source in
+    ok_both c.read_behind.result (AsksBehind c.deref.result.now rest) (λ text. IsBodyBehind c.deref.result.now rest after)
+    (λ text. (bytes : List ℕ) × (g.S.Ends.left c.args.source.now ≡ bytes ++ after) × IsRequest bytes text)
+    (λ text h k. taken_whole (g.S.Ends.left c.args.source.now) c.deref.result.now rest after text
+    (subst IsWholeHead (sym same) c.in_ok-front.ensures.head)
+    (c.in_ok-front.ensures.taken t ∙ ap (λ (bs : List ℕ). bs ++ rest) (sym same)) h k)
+    (c.read_behind.ensures.found t) (c.read_behind.ensures.taken t)

@@ -1,7 +1,0 @@
-use Rattle.std.proofs.Common.{◌≡◌, drop}
-use Rattle.fx_member.specs.GraphWires.{graph_of}
-use Rattle.fx_member.proofs.graph_wires.graph_at.Given as goal
-
--- what is left decides
-abbrev pub invariant-loop-pair : goal.invariant-loop-pair
-invariant-loop-pair l = graph_of (drop l.pair-index l.graphs) l.address ≡ graph_of l.graphs l.address

@@ -1,0 +1,7 @@
+use Rattle.std.proofs.Common.{◌≡◌, ◌+◌, drop}
+use Rattle.fx_sources.specs.Keys as spec
+use Rattle.fx_sources.proofs.keys.place.Given as goal
+
+-- what is left says the place
+abbrev pub invariant-loop-before : goal.invariant-loop-before
+invariant-loop-before l = l.before + spec.place (drop l.before l.names) l.name ≡ spec.place l.names l.name

@@ -1,0 +1,103 @@
+-- Probes: a member that is asked whether a key fits its graph. What is known of them, what is missing, and what is chosen by it.
+use Rattle.std.specs.Prelude.{◌≡◌, ℕ, Bool, false, ◌&&◌, ◌==◌, not, if◌then◌else◌, List, [], ◌∷◌, ◌++◌, map, filter, fold, take, reverse, Option, Some, None, is_some}
+use Rattle.std.proofs.Common.{ap}
+use Rattle.std.specs.Bool.{Decides}
+use Rattle.std.specs.Cmp.{unsigned_Decides}
+use Rattle.std.specs.Hash as fed
+use Rattle.std.specs.List.{flat_map, list_any, range_with_len, zip}
+use Rattle.std.specs.Map.{lookup}
+use Rattle.fx_terms.specs.declared.patterns.Pattern.{Pattern}
+use Rattle.fx_algebra.specs.declared.queries.Query.{Query}
+use Rattle.fx_sources.specs.Keys.{key, same_pattern, patterns_decide, text_of, and_first, and_second, both_from}
+use Rattle.fx_sources.specs.Patterns.{patterns}
+use Rattle.fx_sources.specs.declared.keys.AskKey.{AskKey}
+use Rattle.fx_sources.specs.declared.probes.Probe.{Probe}
+
+abbrev pub same_key : AskKey → AskKey → Bool
+same_key a b = same_pattern a.pattern b.pattern
+
+abbrev pub same_probe : Probe → Probe → Bool
+same_probe a b = (a.at == b.at) && same_key a.key b.key
+
+-- the key of a pattern
+abbrev pub key_of : Pattern → AskKey
+key_of p = record { pattern = key p }
+
+-- the probe of a member, by its number, with a key
+abbrev pub probe : ℕ → AskKey → Probe
+probe at k = record { at = at; key = k }
+
+-- ---- the tests tell all keys and all probes apart
+
+pub keys_decide : (a b : AskKey) → Decides (same_key a b) (a ≡ b)
+keys_decide a b = (λ h. let p = (patterns_decide a.pattern b.pattern).0 h in λ i. record { pattern = p i }, λ e. (patterns_decide a.pattern b.pattern).1 (ap (λ k. k.pattern) e))
+
+pub probes_decide : (p q : Probe) → Decides (same_probe p q) (p ≡ q)
+probes_decide p q = (
+  λ h.
+      let at = (unsigned_Decides p.at q.at).0 (and_first _ _ h) in
+      let k = (keys_decide p.key q.key).0 (and_second (p.at == q.at) _ h) in
+      λ i. record { at = at i; key = k i },
+  λ e. both_from _ _ ((unsigned_Decides p.at q.at).1 (ap (λ r. r.at) e)) ((keys_decide p.key q.key).1 (ap (λ r. r.key) e)),
+)
+
+-- ---- what is hashed
+
+abbrev pub key_writes : AskKey → fed.HashWrites
+key_writes k = fed.str (text_of k.pattern.subject) ++ (fed.str (text_of k.pattern.predicate) ++ fed.str (text_of k.pattern.object))
+
+abbrev pub probe_writes : Probe → fed.HashWrites
+probe_writes p = fed.u32 p.at ++ key_writes p.key
+
+-- ---- what is known
+
+-- a probe, and whether its key fits the graph of its member
+abbrev pub Entry : Type 0
+Entry = Probe × Bool
+
+-- what the entries say of a probe: the first that speaks of it decides
+abbrev pub known : List Entry → Probe → Option Bool
+known entries p = lookup (same_probe p) entries
+
+abbrev pub is_held : List Entry → Probe → Bool
+is_held entries p = is_some (known entries p)
+
+-- probes with their truths, the last first
+abbrev pub told : List Probe → List Bool → List Entry
+told probes truths = reverse (zip probes truths)
+
+-- the entries after a cache learned: the newest 4,096
+abbrev pub learned : List Entry → List Probe → List Bool → List Entry
+learned entries probes truths = take 4096 (told probes truths ++ entries)
+
+-- ---- what is missing
+
+-- the keys with one more at their end, where they lack it
+abbrev pub with_key : List AskKey → AskKey → List AskKey
+with_key keys k = if list_any (same_key k) keys then keys else keys ++ k ∷ []
+
+-- the keys of a query, each once, at its first place
+abbrev pub keys_of : Query → List AskKey
+keys_of query = fold with_key [] (map key_of (patterns query))
+
+-- the probes of a member that the entries don't hold
+abbrev pub missing_at : List Entry → List AskKey → ℕ → List Probe
+missing_at entries keys at = filter (λ p. not (is_held entries p)) (map (probe at) keys)
+
+-- the probes that the entries don't hold, each once, by member, then by first occurrence of the key
+abbrev pub missing : Query → ℕ → List Entry → List Probe
+missing query members entries = flat_map (missing_at entries (keys_of query)) (range_with_len 0 members)
+
+-- ---- what is chosen
+
+abbrev pub is_yes : Option Bool → Bool
+is_yes (Some truth) = truth
+is_yes None = false
+
+-- the members, by number, whose answer to a key is yes
+abbrev pub members_of : List Entry → ℕ → AskKey → List ℕ
+members_of entries members k = filter (λ at. is_yes (known entries (probe at k))) (range_with_len 0 members)
+
+-- these members for each pattern of a query
+abbrev pub chosen : Query → ℕ → List Entry → List (List ℕ)
+chosen query members entries = map (λ p. members_of entries members (key_of p)) (patterns query)

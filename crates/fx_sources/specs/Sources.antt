@@ -1,0 +1,62 @@
+-- Sources of patterns, and the query that asks for them (source selection by ASK, as in FedX).
+use Rattle.std.specs.Prelude.{◌≡◌, ℕ, Bool, List, [], ◌∷◌, ◌++◌, map, filter, length, get_or, All, None}
+use Rattle.std.specs.List.{range_with_len, zip}
+use Rattle.fx_terms.specs.declared.patterns.Pattern.{Pattern}
+use Rattle.fx_terms.specs.declared.triples.Triple.{Triple}
+use Rattle.fx_algebra.specs.Answers.{answer_alone, has_rows}
+use Rattle.fx_algebra.specs.BasicGraphPatterns.{bgp}
+use Rattle.fx_algebra.specs.Printed.{printed_query}
+use Rattle.fx_algebra.specs.declared.answers.Answer.TheVariants.{Truth}
+use Rattle.fx_algebra.specs.declared.queries.Element.TheVariants as element
+use Rattle.fx_algebra.specs.declared.queries.Form.TheVariants as form
+use Rattle.fx_algebra.specs.declared.queries.Group.{roll-Group}
+use Rattle.fx_algebra.specs.declared.queries.Query.{Query}
+use Rattle.fx_sources.specs.Keys.{key}
+use Rattle.fx_sources.specs.Patterns.{patterns}
+use Rattle.fx_sources.specs.Probes.{Entry, chosen, missing, told}
+
+-- ---- sources
+
+-- a pattern has a solution over a graph
+abbrev pub fits : Pattern → List Triple → Bool
+fits p graph = has_rows (bgp graph (p ∷ []))
+
+-- the graph of a member, by its number
+abbrev pub graph_of : List (List Triple) → ℕ → List Triple
+graph_of graphs at = get_or graphs at []
+
+-- the members, by number, whose graph a pattern fits
+abbrev pub sources : List (List Triple) → Pattern → List ℕ
+sources graphs p = filter (λ at. fits p (graph_of graphs at)) (range_with_len 0 (length graphs))
+
+-- ---- asking
+
+-- the query that asks whether a pattern fits
+abbrev pub ask_query : Pattern → Query
+ask_query p = record { form = form.Ask; group = roll-Group (record { elements = element.Triple p ∷ [] }); order = []; offset = 0; limit = None; inline = None }
+
+-- the text that asks
+abbrev pub ask_text : Pattern → List ℕ
+ask_text p = printed_query (ask_query p)
+
+-- ---- laws
+
+-- the answer over a graph is whether the pattern fits
+abbrev pub AskTellsFits : Type 0
+AskTellsFits = (p : Pattern) (graph : List Triple) → answer_alone (ask_query p) graph ≡ Truth (fits p graph)
+
+-- a pattern fits exactly where its key does
+abbrev pub KeyFitsAlike : Type 0
+KeyFitsAlike = (p : Pattern) (graph : List Triple) → fits (key p) graph ≡ fits p graph
+
+-- an entry tells whether its key fits the graph of its member
+abbrev pub Tells : List (List Triple) → Entry → Type 0
+Tells graphs e = e.1 ≡ fits e.0.key.pattern (graph_of graphs e.0.at)
+
+-- where each entry tells that, and each answer to what is missing, the chosen members are the sources
+abbrev pub ChoosesSources : Type 0
+ChoosesSources = (query : Query) (graphs : List (List Triple)) (entries : List Entry) (truths : List Bool)
+    → length truths ≡ length (missing query (length graphs) entries)
+    → All (Tells graphs) entries
+    → All (Tells graphs) (zip (missing query (length graphs) entries) truths)
+    → chosen query (length graphs) (told (missing query (length graphs) entries) truths ++ entries) ≡ map (sources graphs) (patterns query)

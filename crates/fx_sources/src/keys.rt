@@ -1,0 +1,193 @@
+//! Keys of patterns, under which answers to ASK are remembered.
+ghost use Rattle.std.specs.Prelude.{◌≡◌, ◌++◌, IfOk, OnOk, Ok, string_bytes};
+ghost use Rattle.fx_terms.specs.Names.{read_name as name_of};
+ghost use Rattle.fx_algebra.specs.Scopes.{once as once_each, part_names, pattern_names};
+ghost use Rattle.fx_sources.specs.Keys as spec;
+ghost use Rattle.fx_sources.specs.Probes.{key_of};
+ghost use Rattle.fx_sources.specs.Sources as sources;
+
+use fx_algebra::scopes::once;
+use fx_algebra::{Element, Form, Group, Query};
+use fx_print::print;
+use fx_terms::{Items, Memory, Name, Pattern, PatternTerm, Term};
+use std::alloc::Global;
+use std::hash::{Hash, Hasher};
+
+/// A pattern as it is asked for: patterns that differ in the names of their variables alone have one key.
+#[derive(Debug, Drop)]
+pub struct AskKey {
+    pub pattern: Pattern,
+}
+
+impl AskKey {
+    /// The key of a pattern: its variables are named `v0`, `v1`, `v2` by first occurrence in subject, predicate, object.
+    pub fn of(alloc: Global, pattern: &Pattern) -> Result<AskKey, Memory>
+        ensures { IfOk result (λ key. key ≡ key_of pattern.now) }
+    {
+        let names = variables(alloc, pattern)?;
+        Ok(AskKey {
+            pattern: Pattern {
+                subject: renamed_part(alloc, names.as_slice(), &pattern.subject)?,
+                predicate: renamed_part(alloc, names.as_slice(), &pattern.predicate)?,
+                object: renamed_part(alloc, names.as_slice(), &pattern.object)?,
+            },
+        })
+    }
+
+    /// An equal key, which shares the texts.
+    pub fn copy(&self) -> Result<AskKey, Memory>
+        ensures { IfOk result (λ copy. copy ≡ self.now) }
+    {
+        Ok(AskKey {
+            pattern: self.pattern.copy()?,
+        })
+    }
+}
+
+/// The text that asks whether a key fits: the printed query `ASK WHERE { t . }`, where t is the key.
+pub fn ask_text(alloc: Global, key: &AskKey) -> Result<String, Memory>
+    ensures { IfOk result (λ text. string_bytes text ≡ sources.ask_text key.now.pattern) }
+{
+    let query = ask_query(alloc, &key.pattern)?;
+    print(alloc, &query)
+}
+
+fn ask_query(alloc: Global, pattern: &Pattern) -> Result<Query, Memory>
+    ensures { IfOk result (λ query. query ≡ sources.ask_query pattern.now) }
+{
+    let mut elements = Items::new(alloc);
+    elements.push(Element::Triple(pattern.copy()?))?;
+    Ok(Query {
+        form: Form::Ask,
+        group: Group { elements },
+        order: Items::new(alloc),
+        offset: 0,
+        limit: None,
+        inline: None,
+    })
+}
+
+// The variables of a pattern, each once, in the order of subject, predicate, object.
+fn variables(alloc: Global, pattern: &Pattern) -> Result<Vec<Name>, Memory>
+    ensures { IfOk result (λ names. names.items ≡ once_each (pattern_names pattern.now)) }
+{
+    let mut names = Vec::new(alloc);
+    push_name(&mut names, &pattern.subject)?;
+    push_name(&mut names, &pattern.predicate)?;
+    push_name(&mut names, &pattern.object)?;
+    once(alloc, names.as_slice())
+}
+
+fn push_name(names: &mut Vec<Name>, part: &PatternTerm) -> Result<(), Memory>
+    ensures { OnOk result (names.new.items ≡ names.old.items ++ part_names part.now) }
+{
+    if let PatternTerm::Variable(name) = part {
+        names.push(name.copy()?)?;
+    }
+    Ok(())
+}
+
+fn renamed_part(alloc: Global, names: &[Name], part: &PatternTerm) -> Result<PatternTerm, Memory>
+    ensures { IfOk result (λ renamed. renamed ≡ spec.renamed_part (spec.name_among names.now) part.now) }
+{
+    match part {
+        PatternTerm::Variable(name) => Ok(PatternTerm::Variable(numbered(
+            alloc,
+            place(names, name),
+        )?)),
+        PatternTerm::Constant(term) => Ok(PatternTerm::Constant(term.copy()?)),
+    }
+}
+
+// How many names stand before the first that is this one.
+fn place(names: &[Name], name: &Name) -> usize
+    ensures { result ≡ spec.place names.now name.now }
+{
+    for (before, other) in names.iter().enumerate() {
+        if *other == *name {
+            return before;
+        }
+    }
+    names.len()
+}
+
+// The name of a number.
+fn numbered(alloc: Global, number: usize) -> Result<Name, Memory>
+    ensures { IfOk result (λ name. name ≡ spec.numbered number) }
+{
+    match number {
+        0 => read_name(alloc, "v0"),
+        1 => read_name(alloc, "v1"),
+        _ => read_name(alloc, "v2"),
+    }
+}
+
+// The name that a text is, where it is known to be one.
+fn read_name(alloc: Global, text: &str) -> Result<Name, Memory>
+    requires { name_of text.now ≡ Ok text.now }
+    ensures { IfOk result (λ name. name ≡ text.now) }
+{
+    match Name::read(alloc, text) {
+        Ok(name) => Ok(name),
+        Err(_) => Err(Memory),
+    }
+}
+
+// The text that tells most parts apart.
+fn text_of(part: &PatternTerm) -> &str
+    ensures { result.now ≡ spec.text_of part.now }
+{
+    match part {
+        PatternTerm::Variable(name) => name.text(),
+        PatternTerm::Constant(Term::Iri(iri)) => iri.text(),
+        PatternTerm::Constant(Term::Literal(literal)) => literal.form(),
+    }
+}
+
+impl PartialEq for AskKey {
+    ghost use Rattle.std.specs.Cmp.{decided, partial_equiv_from_equiv};
+    ghost use Rattle.fx_sources.specs.Probes.{same_key, keys_decide};
+
+    ghost eq = { same_key };
+
+    ghost laws = { partial_equiv_from_equiv (decided same_key keys_decide) };
+
+    fn eq(&self, other: &AskKey) -> bool {
+        same_part(&self.pattern.subject, &other.pattern.subject)
+            && same_part(&self.pattern.predicate, &other.pattern.predicate)
+            && same_part(&self.pattern.object, &other.pattern.object)
+    }
+}
+
+impl Eq for AskKey {
+    ghost use Rattle.std.specs.Cmp.{decided};
+    ghost use Rattle.fx_sources.specs.Probes.{same_key, keys_decide};
+
+    ghost laws = { decided same_key keys_decide };
+}
+
+fn same_part(part: &PatternTerm, other: &PatternTerm) -> bool
+    ensures { result ≡ spec.same_part part.now other.now }
+{
+    match (part, other) {
+        (PatternTerm::Variable(a), PatternTerm::Variable(b)) => *a == *b,
+        (PatternTerm::Variable(_), PatternTerm::Constant(_)) => false,
+        (PatternTerm::Constant(_), PatternTerm::Variable(_)) => false,
+        (PatternTerm::Constant(a), PatternTerm::Constant(b)) => *a == *b,
+    }
+}
+
+impl Hash for AskKey {
+    ghost use Rattle.std.proofs.Common.{ap};
+    ghost use Rattle.fx_sources.specs.Probes.{key_writes, keys_decide};
+
+    ghost hash_input = { key_writes };
+
+    ghost respects_eq = { λ x y h. ap key_writes ((keys_decide x y).0 h) };
+
+    fn hash<H: Hasher>(&self, state: &mut H) {
+        text_of(&self.pattern.subject).hash(state);
+        text_of(&self.pattern.predicate).hash(state);
+        text_of(&self.pattern.object).hash(state);
+    }
+}

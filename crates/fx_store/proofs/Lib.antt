@@ -1,0 +1,5 @@
+pub mod FitLemmas
+pub mod ObjectLemmas
+pub mod OnePlaceLemmas
+pub mod RunLemmas
+pub mod StoreLemmas
