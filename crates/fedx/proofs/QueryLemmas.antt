@@ -1,5 +1,5 @@
 -- What a refusal reports is its cause, for `query`.
-use Rattle.std.proofs.Common.{◌≡◌, ◌∙◌, ap, sym, subst, refl, ℕ, ◌≤◌, false, List, Option, Some, None, Ok, Err, length, inl, inr, arith}
+use Rattle.std.proofs.Common.{◌≡◌, ◌∙◌, ap, sym, subst, refl, ℕ, ◌≤◌, Bool, false, List, [], Option, Some, None, Ok, Err, length, inl, inr, arith}
 use Rattle.std.specs.Prelude.{IfSome, slice_get, Result}
 use Rattle.fx_outside.specs.Endpoints.{EndpointParts}
 use Rattle.fx_algebra.specs.Answers.{is_plain, IsPlain}
@@ -8,8 +8,8 @@ use Rattle.fx_syntax.specs.Accepted.{Accepted}
 use Rattle.fx_sources.specs.Registries.{read_registry, AnswersRegistry}
 use Rattle.fx_sources.specs.declared.errors.RegistryError.{RegistryError}
 use Rattle.fx_sources.specs.declared.errors.RegistryError.TheVariants as error
-use Rattle.fx_wire.specs.Exchanges.{Seen}
-use Rattle.fx_engine.specs.Federation.{IsRefused}
+use Rattle.fx_wire.specs.Exchanges.{Exchange, Seen}
+use Rattle.fx_engine.specs.Federation.{AsksSources, IsRefused, OfQuery, Question}
 use Rattle.fx_engine.specs.declared.errors.FedError.{FedError}
 use Rattle.fx_engine.specs.declared.errors.FedError.TheVariants as fed
 use Rattle.fedx.specs.declared.limits.TheConstants.{QUERY_LIMIT, REGISTRY_LIMIT}
@@ -23,7 +23,7 @@ use Rattle.fedx.specs.FedRefusals.{fed_status_of, fed_line, name_at, name_of}
 use Rattle.fedx.specs.Files.{FileRead, IsRegistryFile, IsQueryThat, IsMember, IsNoRegistry}
 use Rattle.fedx.specs.Lines.{not_built, member_failed, bad_reply, request_too_long}
 use Rattle.fedx.specs.LocalSteps.{GivesQuery, query_line}
-use Rattle.fedx.specs.Query.{IsOther, IsUnionDocument, IsUnionAnswer, IsUnionAnswerOf, IsQueryReported, IsQueryWritten}
+use Rattle.fedx.specs.Query.{AsksPlainly, IsOther, IsUnionDocument, IsUnionAnswer, IsUnionAnswerOf, IsQueryReported, IsQueryWritten}
 use Rattle.fedx.specs.QuerySteps.{GivesRegistry, registry_line, IsAskReported, IsAskWritten}
 use Rattle.fedx.specs.RefusalStatuses.{query_status, registry_status}
 
@@ -56,15 +56,15 @@ some_registry f bytes text es h same k = pick f.content h
 
 -- ---- refusals
 
-pub registry_reported : (before after : Seen) (r q : FileRead) (e : RegistryRefusal) → GivesRegistry r (Err e) → IsQueryReported before after r q (registry_status e) (registry_line e r.name)
-registry_reported before after r q registry.Fault h = inl (h, refl)
-registry_reported before after r q registry.TooLong h = inl (h, refl)
-registry_reported before after r q (registry.Refused (error.Bad n)) h = (error.Bad n, h, refl)
-registry_reported before after r q (registry.Refused (error.TooMany n)) h = (error.TooMany n, h, refl)
-registry_reported before after r q (registry.Refused (error.RepeatedName n)) h = (error.RepeatedName n, h, refl)
-registry_reported before after r q (registry.Refused (error.RepeatedUrl n)) h = (error.RepeatedUrl n, h, refl)
-registry_reported before after r q (registry.Refused error.Memory) h = refl
-registry_reported before after r q registry.Memory h = refl
+pub registry_reported : (wire : Seen) (r q : FileRead) (e : RegistryRefusal) → GivesRegistry r (Err e) → IsQueryReported wire wire r q (registry_status e) (registry_line e r.name)
+registry_reported wire r q registry.Fault h = (inl (h, refl), refl)
+registry_reported wire r q registry.TooLong h = (inl (h, refl), refl)
+registry_reported wire r q (registry.Refused (error.Bad n)) h = (error.Bad n, h, refl, refl)
+registry_reported wire r q (registry.Refused (error.TooMany n)) h = (error.TooMany n, h, refl, refl)
+registry_reported wire r q (registry.Refused (error.RepeatedName n)) h = (error.RepeatedName n, h, refl, refl)
+registry_reported wire r q (registry.Refused (error.RepeatedUrl n)) h = (error.RepeatedUrl n, h, refl, refl)
+registry_reported wire r q (registry.Refused error.Memory) h = refl
+registry_reported wire r q registry.Memory h = refl
 
 pub registry_written : (before : Seen) (r q : FileRead) (e : RegistryRefusal) (old new : List ℕ) → new ≡ old → IsQueryWritten before r q (registry_status e) old new
 registry_written before r q registry.Fault old new h = h
@@ -83,7 +83,7 @@ a_registry r es h = pick r.content h
     pick None h = tt
     pick (Some all) h = (h.0, (es, h.1))
 
-query_that : (q : FileRead) (asked : Query) (P : Query → Type 0) → P asked → GivesQuery q (Ok asked) → IsQueryThat q P
+pub query_that : (q : FileRead) (asked : Query) (P : Query → Type 0) → P asked → GivesQuery q (Ok asked) → IsQueryThat q P
 query_that q asked P p h = pick q.content h
   where
     pick : (o : Option (List ℕ)) → IfSome o (λ all. (length all ≤ QUERY_LIMIT) × Accepted all asked) → IfSome o (λ all. (length all ≤ QUERY_LIMIT) × ((x : Query) × Accepted all x × P x))
@@ -93,15 +93,15 @@ query_that q asked P p h = pick q.content h
 pub a_member : (r : FileRead) (es : List EndpointParts) (e : EndpointParts) (at : ℕ) → GivesRegistry r (Ok es) → slice_get es at ≡ Some e → IsMember r e
 a_member r es e at h k = pick r.content h
   where
-    pick : (o : Option (List ℕ)) → IfSome o (λ all. (length all ≤ REGISTRY_LIMIT) × (read_registry all ≡ Ok es)) → IfSome o (λ all. (es : List EndpointParts) × (at : ℕ) × (read_registry all ≡ Ok es) × (slice_get es at ≡ Some e))
+    pick : (o : Option (List ℕ)) → IfSome o (λ all. (length all ≤ REGISTRY_LIMIT) × (read_registry all ≡ Ok es)) → IfSome o (λ all. (length all ≤ REGISTRY_LIMIT) × ((es : List EndpointParts) × (at : ℕ) × (read_registry all ≡ Ok es) × (slice_get es at ≡ Some e)))
     pick None h = tt
-    pick (Some all) h = (es, at, h.1, k)
+    pick (Some all) h = (h.0, (es, at, h.1, k))
 
-pub query_reported : (before after : Seen) (r q : FileRead) (es : List EndpointParts) (e : QueryRefusal) → GivesRegistry r (Ok es) → GivesQuery q (Err e) → IsQueryReported before after r q (query_status e) (query_line e q.name)
-query_reported before after r q es query.Fault g h = inr (a_registry r es g, h, refl)
-query_reported before after r q es query.TooLong g h = inr (a_registry r es g, h, refl)
-query_reported before after r q es (query.Refused kind at) g h = (a_registry r es g, inl (kind, at, h, refl))
-query_reported before after r q es query.Memory g h = refl
+pub query_reported : (wire : Seen) (r q : FileRead) (es : List EndpointParts) (e : QueryRefusal) → GivesRegistry r (Ok es) → GivesQuery q (Err e) → IsQueryReported wire wire r q (query_status e) (query_line e q.name)
+query_reported wire r q es query.Fault g h = (inr (a_registry r es g, h, refl), refl)
+query_reported wire r q es query.TooLong g h = (inr (a_registry r es g, h, refl), refl)
+query_reported wire r q es (query.Refused kind at) g h = (a_registry r es g, refl, inl (kind, at, h, refl))
+query_reported wire r q es query.Memory g h = refl
 
 pub query_written : (before : Seen) (r q : FileRead) (e : QueryRefusal) (old new : List ℕ) → new ≡ old → IsQueryWritten before r q (query_status e) old new
 query_written before r q query.Fault old new h = h
@@ -110,8 +110,8 @@ query_written before r q (query.Refused kind at) old new h = h
 query_written before r q query.Memory old new h = h
 
 -- a query that isn't plain
-pub other_reported : (before after : Seen) (r q : FileRead) (es : List EndpointParts) (asked : Query) → GivesRegistry r (Ok es) → GivesQuery q (Ok asked) → is_plain asked ≡ false → IsQueryReported before after r q status.QueryRefused not_built
-other_reported before after r q es asked g h p = (a_registry r es g, inr (query_that q asked IsOther p h, refl))
+pub other_reported : (wire : Seen) (r q : FileRead) (es : List EndpointParts) (asked : Query) → GivesRegistry r (Ok es) → GivesQuery q (Ok asked) → is_plain asked ≡ false → IsQueryReported wire wire r q status.QueryRefused not_built
+other_reported wire r q es asked g h p = (a_registry r es g, refl, inr (query_that q asked IsOther p h, refl))
 
 -- what a query's file gave, seen from an earlier call on
 pub query_since : (name : List ℕ) (earlier content : Option (List ℕ)) (first before after : ℕ) (x : Result Query QueryRefusal) → content ≡ earlier → first ≤ before → GivesQuery (record { name = name; content = content; before = before; after = after }) x → GivesQuery (record { name = name; content = earlier; before = first; after = after }) x
@@ -129,11 +129,11 @@ query_since name earlier content first before after x same kept h = subst (λ o.
 named : (es : List EndpointParts) (at : ℕ) (e : EndpointParts) → slice_get es at ≡ Some e → name_at es at ≡ e.name
 named es at e h = ap name_of h
 
-pub fed_reported : (before after : Seen) (es : List EndpointParts) (e : FedError) → IsRefused before after es e → IsAskReported before after es (fed_status_of e) (fed_line es e)
-fed_reported before after es (fed.Member at) h = (h.0, at, h.1, h.2, ap member_failed (named es at h.0 h.1))
-fed_reported before after es (fed.BadReply at why) h = (h.0, at, why, h.1, h.2, ap (λ n. bad_reply n why) (named es at h.0 h.1))
-fed_reported before after es (fed.RequestTooLong at size) h = (h.0, at, size, h.1, h.2, ap (λ n. request_too_long n size) (named es at h.0 h.1))
-fed_reported before after es fed.Memory h = refl
+pub fed_reported : (Rest : List Bool → List Exchange → Type 0) (Asks : ℕ → Question → Type 0) (before after : Seen) (es : List EndpointParts) (q : Query) (e : FedError) → IsRefused Asks before after es e → IsAskReported Rest Asks before after es q (fed_status_of e) (fed_line es e)
+fed_reported Rest Asks before after es q (fed.Member at) h = (h.2.0, at, h.0, h.1, h.2.1, h.2.2, ap member_failed (named es at h.2.0 h.2.1))
+fed_reported Rest Asks before after es q (fed.BadReply at why) h = (h.2.0, at, h.0, why, h.1, h.2.1, h.2.2, ap (λ n. bad_reply n why) (named es at h.2.0 h.2.1))
+fed_reported Rest Asks before after es q (fed.RequestTooLong at size) h = (h.2.0, at, h.0, size, h.1, h.2.1, h.2.2, ap (λ n. request_too_long n size) (named es at h.2.0 h.2.1))
+fed_reported Rest Asks before after es q fed.Memory h = refl
 
 pub fed_written : (before : Seen) (es : List EndpointParts) (q : Query) (e : FedError) (old new : List ℕ) → new ≡ old → IsAskWritten before es q (fed_status_of e) old new
 fed_written before es q (fed.Member at) old new h = h
@@ -143,13 +143,18 @@ fed_written before es q fed.Memory old new h = h
 
 -- ---- the whole
 
-pub ask_reported : (before after : Seen) (r q : FileRead) (es : List EndpointParts) (asked : Query) (s : Status) (text : List ℕ) → GivesRegistry r (Ok es) → GivesQuery q (Ok asked) → IsPlain asked → IsAskReported before after es s text → IsQueryReported before after r q s text
-ask_reported before after r q es asked status.Done text g h p k = (a_registry r es g, query_that q asked IsPlain p h, k)
-ask_reported before after r q es asked status.WriteFault text g h p k = (a_registry r es g, query_that q asked IsPlain p h, k)
+-- what a query asks of a member without knowing anything of it
+asks_plainly : (asked : Query) (count at : ℕ) (question : Question) → IsPlain asked → OfQuery asked count [] at question → AsksPlainly question asked
+asks_plainly asked count at question p (inl h) = (p, inl (h.0, h.1, h.3))
+asks_plainly asked count at question p (inr h) = (p, inr h)
+
+pub ask_reported : (before after : Seen) (r q : FileRead) (es : List EndpointParts) (asked : Query) (s : Status) (text : List ℕ) → GivesRegistry r (Ok es) → GivesQuery q (Ok asked) → IsPlain asked → IsAskReported (AsksSources es asked []) (OfQuery asked (length es) []) before after es asked s text → IsQueryReported before after r q s text
+ask_reported before after r q es asked status.Done text g h p k = ((es, asked, g, h, p, k.0), k.1)
+ask_reported before after r q es asked status.WriteFault text g h p k = ((es, asked, g, h, p, k.0), k.1)
 ask_reported before after r q es asked status.NoMemory text g h p k = k
-ask_reported before after r q es asked status.EndpointFault text g h p k = (query_that q asked IsPlain p h, (k.0, a_member r es k.0 k.1 g k.2, k.3, k.4))
-ask_reported before after r q es asked status.BadReply text g h p k = (query_that q asked IsPlain p h, (k.0, k.2, a_member r es k.0 k.1 g k.3, k.4, k.5))
-ask_reported before after r q es asked status.RequestTooLong text g h p k = (query_that q asked IsPlain p h, (k.0, k.2, a_member r es k.0 k.1 g k.3, k.4, k.5))
+ask_reported before after r q es asked status.EndpointFault text g h p k = (k.0, k.2, query_that q asked (AsksPlainly k.2) (asks_plainly asked (length es) k.1 k.2 p k.3) h, a_member r es k.0 k.1 g k.4, k.5, k.6)
+ask_reported before after r q es asked status.BadReply text g h p k = (k.0, k.2, k.3, query_that q asked (AsksPlainly k.2) (asks_plainly asked (length es) k.1 k.2 p k.4) h, a_member r es k.0 k.1 g k.5, k.6, k.7)
+ask_reported before after r q es asked status.RequestTooLong text g h p k = (k.0, k.2, k.3, query_that q asked (AsksPlainly k.2) (asks_plainly asked (length es) k.1 k.2 p k.4) h, a_member r es k.0 k.1 g k.5, k.6, k.7)
 ask_reported before after r q es asked status.Usage text g h p k = absurd k
 ask_reported before after r q es asked status.GraphRefused text g h p k = absurd k
 ask_reported before after r q es asked status.RegistryRefused text g h p k = absurd k

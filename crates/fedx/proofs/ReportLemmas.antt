@@ -11,11 +11,12 @@ use Rattle.fedx.specs.Commands.{Asked, over_file, over_members, planned, served}
 use Rattle.fedx.specs.Explain.{IsExplainReported, IsExplainWritten}
 use Rattle.fedx.specs.Files.{FileRead, IsQueryThat}
 use Rattle.fedx.specs.Lines.{usage_line, no_memory}
-use Rattle.fedx.specs.Local.{IsReported, IsWritten, HasLines}
+use Rattle.fedx.specs.Local.{IsAnswer, IsReported, IsWritten, HasLines}
 use Rattle.fedx.specs.declared.local.Report.{Report}
 use Rattle.fedx.specs.Query.{IsQueryReported, IsQueryWritten}
 use Rattle.fedx.specs.Serving.{DoorSeen, IsMemberReported}
 use Rattle.fedx.specs.Runs.{OnFirst, Reports, Writes}
+use Rattle.fedx.specs.Sinks.{SinkWritten, IsCutShort}
 use Rattle.fedx.specs.declared.statuses.Status.{Status}
 use Rattle.fedx.specs.LocalSteps.{GivesAnswer, IsLineReported, IsDocumentWritten, refusal_line}
 use Rattle.fedx.specs.RefusalStatuses.{status_of}
@@ -36,16 +37,16 @@ reported g q (refusal.Query query.Memory) h = refl
 reported g q (refusal.UnknownService iri) h = (h.0, (iri, h.1, refl))
 reported g q refusal.Memory h = refl
 
-pub usage_reported : (read : List ℕ → FileRead) (before after : Seen) (door later : DoorSeen) (asked : Option Asked) → asked ≡ None → Reports read before after door later asked status.Usage usage_line
-usage_reported read before after door later None h = refl
-usage_reported read before after door later (Some a) h = cc
+pub usage_reported : (read : List ℕ → FileRead) (wire : Seen) (door : DoorSeen) (asked : Option Asked) → asked ≡ None → Reports read wire wire door door asked status.Usage usage_line
+usage_reported read wire door None h = (refl, refl, refl)
+usage_reported read wire door (Some a) h = cc
 
-pub memory_reported : (read : List ℕ → FileRead) (before after : Seen) (door later : DoorSeen) (asked : Option Asked) → Reports read before after door later asked status.NoMemory no_memory
-memory_reported read before after door later None = refl
-memory_reported read before after door later (Some (over_file g q)) = refl
-memory_reported read before after door later (Some (over_members r q)) = refl
-memory_reported read before after door later (Some (planned r q)) = refl
-memory_reported read before after door later (Some (served g a n)) = inl refl
+pub memory_reported : (read : List ℕ → FileRead) (wire : Seen) (door : DoorSeen) (asked : Option Asked) → Reports read wire wire door door asked status.NoMemory no_memory
+memory_reported read wire door None = (refl, refl, refl)
+memory_reported read wire door (Some (over_file g q)) = (refl, refl, refl)
+memory_reported read wire door (Some (over_members r q)) = (refl, refl)
+memory_reported read wire door (Some (planned r q)) = (refl, refl)
+memory_reported read wire door (Some (served g a n)) = (inl (refl, refl), refl)
 
 -- ---- reports of `local`
 
@@ -81,16 +82,20 @@ document_written g q r status.QueryRefused old new h k = absurd k
 document_written g q r status.ReadFault old new h k = absurd k
 document_written g q r status.FileTooLong old new h k = absurd k
 
--- ---- over members
+pub cut_short : (g q : FileRead) (r : Report) (out err : SinkWritten) → GivesAnswer g q (Ok r) → IsCutShort (λ text. text ≡ r.document.items) out err → IsCutShort (IsAnswer g q) out err
+cut_short g q r out err h (inl k) = inl k
+cut_short g q r out err h (inr k) = inr ((λ told. let w = k.0.0 told in (w.0, subst (IsAnswer g q) (sym w.1) h.2, w.2), k.0.1), k.1)
 
-pub members_reported : (read : List ℕ → FileRead) (before after : Seen) (door later : DoorSeen) (asked : Option Asked) (r q : List ℕ) (s : Status) (text : List ℕ) → asked ≡ Some (over_members r q) → IsQueryReported before after (read r) (read q) s text → Reports read before after door later asked s text
-members_reported read before after door later asked r q s text is h = subst (λ o. Reports read before after door later o s text) (sym is) h
+-- ---- by the command
 
-pub plan_reported : (read : List ℕ → FileRead) (before after : Seen) (door later : DoorSeen) (asked : Option Asked) (r q : List ℕ) (s : Status) (text : List ℕ) → asked ≡ Some (planned r q) → IsExplainReported before after (read r) (read q) s text → Reports read before after door later asked s text
-plan_reported read before after door later asked r q s text is h = subst (λ o. Reports read before after door later o s text) (sym is) h
+pub members_reported : (read : List ℕ → FileRead) (before after : Seen) (door : DoorSeen) (asked : Option Asked) (r q : List ℕ) (s : Status) (text : List ℕ) → asked ≡ Some (over_members r q) → IsQueryReported before after (read r) (read q) s text → Reports read before after door door asked s text
+members_reported read before after door asked r q s text is h = subst (λ o. Reports read before after door door o s text) (sym is) (h, refl)
 
-pub serving_reported : (read : List ℕ → FileRead) (before after : Seen) (door later : DoorSeen) (asked : Option Asked) (g a : List ℕ) (n : ℕ) (s : Status) (text : List ℕ) → asked ≡ Some (served g a n) → IsMemberReported (read g) door later a n s text → Reports read before after door later asked s text
-serving_reported read before after door later asked g a n s text is h = subst (λ o. Reports read before after door later o s text) (sym is) h
+pub plan_reported : (read : List ℕ → FileRead) (before after : Seen) (door : DoorSeen) (asked : Option Asked) (r q : List ℕ) (s : Status) (text : List ℕ) → asked ≡ Some (planned r q) → IsExplainReported before after (read r) (read q) s text → Reports read before after door door asked s text
+plan_reported read before after door asked r q s text is h = subst (λ o. Reports read before after door door o s text) (sym is) (h, refl)
+
+pub serving_reported : (read : List ℕ → FileRead) (wire : Seen) (door later : DoorSeen) (asked : Option Asked) (g a : List ℕ) (n : ℕ) (s : Status) (text : List ℕ) → asked ≡ Some (served g a n) → IsMemberReported (read g) door later a n s text → Reports read wire wire door later asked s text
+serving_reported read wire door later asked g a n s text is h = subst (λ o. Reports read wire wire door later o s text) (sym is) (h, refl)
 
 pub members_written : (read : List ℕ → FileRead) (before : Seen) (asked : Option Asked) (r q : List ℕ) (s : Status) (old new : List ℕ) → asked ≡ Some (over_members r q) → IsQueryWritten before (read r) (read q) s old new → Writes read before asked s old new
 members_written read before asked r q s old new is h = subst (λ o. Writes read before o s old new) (sym is) h

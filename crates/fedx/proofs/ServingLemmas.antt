@@ -163,16 +163,16 @@ graph_reported g before after address count graph status.RequestTooLong text is 
 graph_reported g before after address count graph status.GraphRefused text is h = absurd h
 graph_reported g before after address count graph status.FileTooLong text is h = absurd h
 
--- the file gives no graph
-pub no_graph_reported : (g : FileRead) (before after : DoorSeen) (address : List ℕ) (count : ℕ) (r : GraphRefusal) → GivesGraph g (Err r) → IsMemberReported g before after address count (graph_status r) (graph_line r g.name)
-no_graph_reported g before after address count refusal.Fault h = (h, refl)
-no_graph_reported g before after address count refusal.TooLong h = (h, refl)
-no_graph_reported g before after address count (refusal.Refused (error.BadUtf8 at)) h = (error.BadUtf8 at, h, refl)
-no_graph_reported g before after address count (refusal.Refused (error.Bad l c)) h = (error.Bad l c, h, refl)
-no_graph_reported g before after address count (refusal.Refused (error.Blank l c)) h = (error.Blank l c, h, refl)
-no_graph_reported g before after address count (refusal.Refused (error.Relative l c)) h = (error.Relative l c, h, refl)
-no_graph_reported g before after address count (refusal.Refused error.Memory) h = inl refl
-no_graph_reported g before after address count refusal.Memory h = inl refl
+-- the file gives no graph, and the door is left alone
+pub no_graph_reported : (g : FileRead) (seen : DoorSeen) (address : List ℕ) (count : ℕ) (r : GraphRefusal) → GivesGraph g (Err r) → IsMemberReported g seen seen address count (graph_status r) (graph_line r g.name)
+no_graph_reported g seen address count refusal.Fault h = (h, refl, refl)
+no_graph_reported g seen address count refusal.TooLong h = (h, refl, refl)
+no_graph_reported g seen address count (refusal.Refused (error.BadUtf8 at)) h = (error.BadUtf8 at, h, refl, refl)
+no_graph_reported g seen address count (refusal.Refused (error.Bad l c)) h = (error.Bad l c, h, refl, refl)
+no_graph_reported g seen address count (refusal.Refused (error.Blank l c)) h = (error.Blank l c, h, refl, refl)
+no_graph_reported g seen address count (refusal.Refused (error.Relative l c)) h = (error.Relative l c, h, refl, refl)
+no_graph_reported g seen address count (refusal.Refused error.Memory) h = inl (refl, refl)
+no_graph_reported g seen address count refusal.Memory h = inl (refl, refl)
 
 -- ---- one connection
 

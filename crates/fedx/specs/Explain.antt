@@ -12,15 +12,17 @@ use Rattle.fx_sources.specs.Sources.{sources}
 use Rattle.fx_sources.specs.declared.errors.RegistryError.{RegistryError}
 use Rattle.fx_plan.specs.Explained.{explained}
 use Rattle.fx_wire.specs.Exchanges.{Seen}
-use Rattle.fx_engine.specs.Federation.{Tells}
+use Rattle.fx_engine.specs.Federation.{AsksNothing, Question, Tells}
 use Rattle.fx_engine.specs.Federation as member
 use Rattle.fx_engine.specs.Sections.{parts_with}
 use Rattle.fx_engine.specs.declared.errors.ReplyFault.{ReplyFault}
 use Rattle.fedx.specs.declared.limits.TheConstants.{QUERY_LIMIT, REGISTRY_LIMIT}
 use Rattle.fedx.specs.declared.statuses.Status.{Status}
 use Rattle.fedx.specs.declared.statuses.Status.TheVariants as status
-use Rattle.fedx.specs.Files.{FileRead, HasFailed, IsTooLong, IsNoQuery, IsQueryOf, IsRegistryFile, IsRegistryOf, IsNoRegistry, IsMember}
+use Rattle.fedx.specs.Asking.{HasAsked}
+use Rattle.fedx.specs.Files.{FileRead, HasFailed, IsTooLong, IsNoQuery, IsQueryOf, IsQueryThat, IsRegistryFile, IsRegistryOf, IsNoRegistry, IsMember}
 use Rattle.fedx.specs.Lines.{cannot_read, query_refused, query_too_long, registry_too_long, registry_refused, unknown_service, member_failed, bad_reply, request_too_long, no_memory}
+use Rattle.fedx.specs.Query.{AsksFit}
 use Rattle.fedx.specs.Services.{first_unknown}
 
 -- ---- the text of the plan
@@ -48,23 +50,28 @@ IsExplanation wire r q text = IfSome r.content (λ registry. IfSome q.content (�
 abbrev pub FirstUnknown : FileRead → FileRead → Option (List ℕ) → Type 0
 FirstUnknown r q iri = (endpoints : List EndpointParts) × (asked : Query) × IsRegistryOf r endpoints × IsQueryOf q asked × (first_unknown endpoints (services asked) ≡ iri)
 
+-- there is none, and each endpoint was asked which of the query's patterns it has anything for, and nothing else
+abbrev pub IsExplained : Seen → Seen → FileRead → FileRead → Type 0
+IsExplained before after r q = (endpoints : List EndpointParts) × (asked : Query) × IsRegistryOf r endpoints × IsQueryOf q asked × (first_unknown endpoints (services asked) ≡ None) × HasAsked AsksNothing before after endpoints asked
+
 -- the cause of each status, and its line on standard error: the registry's file is read first, then its registry, then the
--- query's file and its query, then its occurrences of SERVICE are looked at, and then the members are asked
+-- query's file and its query, then its occurrences of SERVICE are looked at, and then the members are asked. Before that all that
+-- is seen of the wire is as it was.
 abbrev pub IsExplainReported : Seen → Seen → FileRead → FileRead → Status → List ℕ → Type 0
-IsExplainReported before after r q status.Done text = FirstUnknown r q None × (text ≡ [])
-IsExplainReported before after r q status.WriteFault text = FirstUnknown r q None × (text ≡ [])
+IsExplainReported before after r q status.Done text = IsExplained before after r q × (text ≡ [])
+IsExplainReported before after r q status.WriteFault text = IsExplained before after r q × (text ≡ [])
 IsExplainReported before after r q status.NoMemory text = text ≡ no_memory
 IsExplainReported before after r q status.Usage text = ⊥
 IsExplainReported before after r q status.GraphRefused text = ⊥
 IsExplainReported before after r q status.DoorFault text = ⊥
-IsExplainReported before after r q status.RegistryRefused text = (e : RegistryError) × IsNoRegistry r e × (text ≡ registry_refused e)
-IsExplainReported before after r q status.QueryRefused text = IsRegistryFile r × ((kind : SyntaxKind) × (at : ℕ) × IsNoQuery q kind at × (text ≡ query_refused kind at))
-IsExplainReported before after r q status.UnknownService text = (iri : List ℕ) × FirstUnknown r q (Some iri) × (text ≡ unknown_service iri) × (after.log ≡ before.log)
-IsExplainReported before after r q status.ReadFault text = (HasFailed r × (text ≡ cannot_read r.name)) ⊎ (IsRegistryFile r × HasFailed q × (text ≡ cannot_read q.name))
-IsExplainReported before after r q status.FileTooLong text = (IsTooLong REGISTRY_LIMIT r × (text ≡ registry_too_long r.name)) ⊎ (IsRegistryFile r × IsTooLong QUERY_LIMIT q × (text ≡ query_too_long q.name))
-IsExplainReported before after r q status.EndpointFault text = FirstUnknown r q None × ((e : EndpointParts) × IsMember r e × member.HasFailed before after e × (text ≡ member_failed e.name))
-IsExplainReported before after r q status.BadReply text = FirstUnknown r q None × ((e : EndpointParts) × (why : ReplyFault) × IsMember r e × member.HasBadReply before after why e × (text ≡ bad_reply e.name why))
-IsExplainReported before after r q status.RequestTooLong text = FirstUnknown r q None × ((e : EndpointParts) × (size : ℕ) × IsMember r e × (67108864 < size) × (text ≡ request_too_long e.name size))
+IsExplainReported before after r q status.RegistryRefused text = (e : RegistryError) × IsNoRegistry r e × (text ≡ registry_refused e) × (after ≡ before)
+IsExplainReported before after r q status.QueryRefused text = IsRegistryFile r × (after ≡ before) × ((kind : SyntaxKind) × (at : ℕ) × IsNoQuery q kind at × (text ≡ query_refused kind at))
+IsExplainReported before after r q status.UnknownService text = (iri : List ℕ) × FirstUnknown r q (Some iri) × (text ≡ unknown_service iri) × (after ≡ before)
+IsExplainReported before after r q status.ReadFault text = ((HasFailed r × (text ≡ cannot_read r.name)) ⊎ (IsRegistryFile r × HasFailed q × (text ≡ cannot_read q.name))) × (after ≡ before)
+IsExplainReported before after r q status.FileTooLong text = ((IsTooLong REGISTRY_LIMIT r × (text ≡ registry_too_long r.name)) ⊎ (IsRegistryFile r × IsTooLong QUERY_LIMIT q × (text ≡ query_too_long q.name))) × (after ≡ before)
+IsExplainReported before after r q status.EndpointFault text = FirstUnknown r q None × ((e : EndpointParts) × (question : Question) × IsQueryThat q (AsksFit question) × IsMember r e × member.HasFailed before after e × (text ≡ member_failed e.name))
+IsExplainReported before after r q status.BadReply text = FirstUnknown r q None × ((e : EndpointParts) × (question : Question) × (why : ReplyFault) × IsQueryThat q (AsksFit question) × IsMember r e × member.HasBadReply before after question why e × (text ≡ bad_reply e.name why))
+IsExplainReported before after r q status.RequestTooLong text = FirstUnknown r q None × ((e : EndpointParts) × (question : Question) × (size : ℕ) × IsQueryThat q (AsksFit question) × IsMember r e × member.IsTooLong question size × (text ≡ request_too_long e.name size))
 
 -- what each status leaves on standard output: the text, a front of it where a write failed, and else nothing new
 abbrev pub IsExplainWritten : Seen → FileRead → FileRead → Status → List ℕ → List ℕ → Type 0

@@ -1,5 +1,5 @@
 -- What the steps of `fedx explain` give. `IsExplainReported` and `IsExplainWritten` say what the whole gives.
-use Rattle.std.specs.Prelude.{◌≡◌, ℕ, List, ◌++◌, Option, Some, None, Result, Ok, Err, string_bytes}
+use Rattle.std.specs.Prelude.{◌≡◌, ℕ, List, [], ◌++◌, Option, Some, None, Result, Ok, Err, length, string_bytes}
 use Rattle.std.specs.declared.string.String.{String}
 use Rattle.std.specs.declared.alloc.Global.{Global}
 use Rattle.fx_outside.specs.Endpoints.{EndpointParts}
@@ -7,7 +7,7 @@ use Rattle.fx_outside.specs.Streams.{AppendsFront}
 use Rattle.fx_algebra.specs.Occurrences.{services}
 use Rattle.fx_algebra.specs.declared.queries.Query.{Query}
 use Rattle.fx_wire.specs.Exchanges.{Seen}
-use Rattle.fx_engine.specs.Federation.{IsRefused}
+use Rattle.fx_engine.specs.Federation.{AsksNothing, IsRefused, OfMissing}
 use Rattle.fx_engine.specs.declared.errors.FedError.{FedError}
 use Rattle.fedx.specs.declared.statuses.Status.{Status}
 use Rattle.fedx.specs.declared.statuses.Status.TheVariants as status
@@ -19,7 +19,7 @@ use Rattle.fedx.specs.Services.{first_unknown}
 -- the text of the plan, or the cause
 abbrev pub GivesPlanText : Seen → Seen → List EndpointParts → Query → Result (String Global) FedError → Type 0
 GivesPlanText before after endpoints q (Ok text) = IsPlanText before endpoints q (string_bytes text)
-GivesPlanText before after endpoints q (Err e) = IsRefused before after endpoints e
+GivesPlanText before after endpoints q (Err e) = IsRefused (OfMissing q (length endpoints) []) before after endpoints e
 
 -- the first SERVICE without SILENT that isn't registered
 abbrev pub unknown_of : List EndpointParts → Query → Option (List ℕ)
@@ -27,9 +27,9 @@ unknown_of endpoints q = first_unknown endpoints (services q)
 
 -- what explaining a query over endpoints reports
 abbrev pub IsPlanReported : Seen → Seen → List EndpointParts → Query → Status → List ℕ → Type 0
-IsPlanReported before after endpoints q status.UnknownService text = (iri : List ℕ) × (unknown_of endpoints q ≡ Some iri) × (text ≡ unknown_service iri) × (after.log ≡ before.log)
+IsPlanReported before after endpoints q status.UnknownService text = (iri : List ℕ) × (unknown_of endpoints q ≡ Some iri) × (text ≡ unknown_service iri) × (after ≡ before)
 IsPlanReported before after endpoints q status.NoMemory text = text ≡ no_memory
-IsPlanReported before after endpoints q s text = (unknown_of endpoints q ≡ None) × IsAskReported before after endpoints s text
+IsPlanReported before after endpoints q s text = (unknown_of endpoints q ≡ None) × IsAskReported AsksNothing (OfMissing q (length endpoints) []) before after endpoints q s text
 
 -- what explaining a query over endpoints leaves on standard output
 abbrev pub IsPlanWritten : Seen → List EndpointParts → Query → Status → List ℕ → List ℕ → Type 0

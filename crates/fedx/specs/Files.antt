@@ -65,6 +65,6 @@ IsRegistryOf f es = IfSome f.content (λ all. (length all ≤ REGISTRY_LIMIT) ×
 abbrev pub IsQueryOf : FileRead → Query → Type 0
 IsQueryOf f q = IfSome f.content (λ all. (length all ≤ QUERY_LIMIT) × Accepted all q)
 
--- where the content is told, the registry has this endpoint
+-- where the content is told, it is within its limit, and the registry has this endpoint
 abbrev pub IsMember : FileRead → EndpointParts → Type 0
-IsMember f e = IfSome f.content (λ all. (es : List EndpointParts) × (at : ℕ) × (read_registry all ≡ Ok es) × (slice_get es at ≡ Some e))
+IsMember f e = IfSome f.content (λ all. (length all ≤ REGISTRY_LIMIT) × ((es : List EndpointParts) × (at : ℕ) × (read_registry all ≡ Ok es) × (slice_get es at ≡ Some e)))

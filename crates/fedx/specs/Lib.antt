@@ -1,3 +1,4 @@
+pub mod Asking
 pub mod Commands
 pub mod Explain
 pub mod ExplainSteps
@@ -10,6 +11,7 @@ pub mod Query
 pub mod QuerySteps
 pub mod RefusalStatuses
 pub mod Runs
+pub mod Sinks
 pub mod Services
 pub mod Statuses
 pub mod Serving

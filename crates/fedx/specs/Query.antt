@@ -1,24 +1,28 @@
 -- What `fedx query` does.
-use Rattle.std.specs.Prelude.{◌≡◌, ◌⊎◌, ℕ, ◌<◌, List, [], ◌++◌, IfSome, Ok, false}
+use Rattle.std.specs.Prelude.{◌≡◌, ◌⊎◌, ℕ, ◌<◌, List, [], ◌++◌, IfSome, Ok, false, Contains}
 use Rattle.fx_outside.specs.Endpoints.{EndpointParts}
 use Rattle.fx_outside.specs.Streams.{AppendsFront}
 use Rattle.fx_terms.specs.Graphs.{union}
+use Rattle.fx_terms.specs.declared.patterns.Pattern.{Pattern}
 use Rattle.fx_terms.specs.declared.triples.Triple.{Triple}
 use Rattle.fx_algebra.specs.Answers.{answer_alone, is_plain, IsPlain}
 use Rattle.fx_algebra.specs.declared.queries.Query.{Query}
 use Rattle.fx_syntax.specs.Accepted.{Accepted}
 use Rattle.fx_syntax.specs.declared.kinds.SyntaxKind.{SyntaxKind}
 use Rattle.fx_results.specs.Documents.{document}
+use Rattle.fx_sources.specs.Keys.{key}
+use Rattle.fx_sources.specs.Patterns.{patterns}
 use Rattle.fx_sources.specs.Registries.{read_registry}
 use Rattle.fx_sources.specs.declared.errors.RegistryError.{RegistryError}
 use Rattle.fx_wire.specs.Exchanges.{Seen}
-use Rattle.fx_engine.specs.Federation.{Tells}
+use Rattle.fx_engine.specs.Federation.{AsksSources, Question, fit_of, OfPatterns, Tells}
 use Rattle.fx_engine.specs.Federation as member
 use Rattle.fx_engine.specs.declared.errors.ReplyFault.{ReplyFault}
 use Rattle.fedx.specs.declared.limits.TheConstants.{QUERY_LIMIT, REGISTRY_LIMIT}
 use Rattle.fedx.specs.declared.statuses.Status.{Status}
 use Rattle.fedx.specs.declared.statuses.Status.TheVariants as status
-use Rattle.fedx.specs.Files.{FileRead, HasFailed, IsTooLong, IsNoQuery, IsQueryThat, IsRegistryFile, IsNoRegistry, IsMember}
+use Rattle.fedx.specs.Asking.{HasAsked}
+use Rattle.fedx.specs.Files.{FileRead, HasFailed, IsTooLong, IsNoQuery, IsQueryOf, IsQueryThat, IsRegistryFile, IsRegistryOf, IsNoRegistry, IsMember}
 use Rattle.fedx.specs.Lines.{cannot_read, not_built, query_refused, query_too_long, registry_too_long, registry_refused, member_failed, bad_reply, request_too_long, no_memory}
 
 -- ---- the answer over the union
@@ -44,25 +48,39 @@ IsUnionAnswer wire r q text = IfSome r.content (λ registry. IfSome q.content (�
 abbrev pub IsOther : Query → Type 0
 IsOther asked = is_plain asked ≡ false
 
+-- ---- what members are asked
+
+-- whether one of the query's patterns fits, by the pattern's key
+abbrev pub AsksFit : Question → Query → Type 0
+AsksFit question asked = (p : Pattern) × Contains (patterns asked) p × (question ≡ fit_of (key p))
+
+-- that, or the rows of one of the query's patterns, where the query is plain
+abbrev pub AsksPlainly : Question → Query → Type 0
+AsksPlainly question asked = IsPlain asked × (AsksFit question asked ⊎ OfPatterns asked question)
+
 -- ---- statuses
 
+-- the query is plain, and each endpoint was asked first which of its patterns it has anything for, and then for the rows of these alone
+abbrev pub IsFederated : Seen → Seen → FileRead → FileRead → Type 0
+IsFederated before after r q = (endpoints : List EndpointParts) × (asked : Query) × IsRegistryOf r endpoints × IsQueryOf q asked × IsPlain asked × HasAsked (AsksSources endpoints asked []) before after endpoints asked
+
 -- the cause of each status, and its line on standard error: the registry's file is read first, then its registry, then the
--- query's file and its query, and then the members are asked
+-- query's file and its query, and then the members are asked. Before that all that is seen of the wire is as it was.
 abbrev pub IsQueryReported : Seen → Seen → FileRead → FileRead → Status → List ℕ → Type 0
-IsQueryReported before after r q status.Done text = IsRegistryFile r × IsQueryThat q IsPlain × (text ≡ [])
-IsQueryReported before after r q status.WriteFault text = IsRegistryFile r × IsQueryThat q IsPlain × (text ≡ [])
+IsQueryReported before after r q status.Done text = IsFederated before after r q × (text ≡ [])
+IsQueryReported before after r q status.WriteFault text = IsFederated before after r q × (text ≡ [])
 IsQueryReported before after r q status.NoMemory text = text ≡ no_memory
 IsQueryReported before after r q status.Usage text = ⊥
 IsQueryReported before after r q status.GraphRefused text = ⊥
-IsQueryReported before after r q status.RegistryRefused text = (e : RegistryError) × IsNoRegistry r e × (text ≡ registry_refused e)
-IsQueryReported before after r q status.QueryRefused text = IsRegistryFile r × (((kind : SyntaxKind) × (at : ℕ) × IsNoQuery q kind at × (text ≡ query_refused kind at)) ⊎ (IsQueryThat q IsOther × (text ≡ not_built)))
+IsQueryReported before after r q status.RegistryRefused text = (e : RegistryError) × IsNoRegistry r e × (text ≡ registry_refused e) × (after ≡ before)
+IsQueryReported before after r q status.QueryRefused text = IsRegistryFile r × (after ≡ before) × (((kind : SyntaxKind) × (at : ℕ) × IsNoQuery q kind at × (text ≡ query_refused kind at)) ⊎ (IsQueryThat q IsOther × (text ≡ not_built)))
 IsQueryReported before after r q status.UnknownService text = ⊥
 IsQueryReported before after r q status.DoorFault text = ⊥
-IsQueryReported before after r q status.ReadFault text = (HasFailed r × (text ≡ cannot_read r.name)) ⊎ (IsRegistryFile r × HasFailed q × (text ≡ cannot_read q.name))
-IsQueryReported before after r q status.FileTooLong text = (IsTooLong REGISTRY_LIMIT r × (text ≡ registry_too_long r.name)) ⊎ (IsRegistryFile r × IsTooLong QUERY_LIMIT q × (text ≡ query_too_long q.name))
-IsQueryReported before after r q status.EndpointFault text = IsQueryThat q IsPlain × ((e : EndpointParts) × IsMember r e × member.HasFailed before after e × (text ≡ member_failed e.name))
-IsQueryReported before after r q status.BadReply text = IsQueryThat q IsPlain × ((e : EndpointParts) × (why : ReplyFault) × IsMember r e × member.HasBadReply before after why e × (text ≡ bad_reply e.name why))
-IsQueryReported before after r q status.RequestTooLong text = IsQueryThat q IsPlain × ((e : EndpointParts) × (size : ℕ) × IsMember r e × (67108864 < size) × (text ≡ request_too_long e.name size))
+IsQueryReported before after r q status.ReadFault text = ((HasFailed r × (text ≡ cannot_read r.name)) ⊎ (IsRegistryFile r × HasFailed q × (text ≡ cannot_read q.name))) × (after ≡ before)
+IsQueryReported before after r q status.FileTooLong text = ((IsTooLong REGISTRY_LIMIT r × (text ≡ registry_too_long r.name)) ⊎ (IsRegistryFile r × IsTooLong QUERY_LIMIT q × (text ≡ query_too_long q.name))) × (after ≡ before)
+IsQueryReported before after r q status.EndpointFault text = (e : EndpointParts) × (question : Question) × IsQueryThat q (AsksPlainly question) × IsMember r e × member.HasFailed before after e × (text ≡ member_failed e.name)
+IsQueryReported before after r q status.BadReply text = (e : EndpointParts) × (question : Question) × (why : ReplyFault) × IsQueryThat q (AsksPlainly question) × IsMember r e × member.HasBadReply before after question why e × (text ≡ bad_reply e.name why)
+IsQueryReported before after r q status.RequestTooLong text = (e : EndpointParts) × (question : Question) × (size : ℕ) × IsQueryThat q (AsksPlainly question) × IsMember r e × member.IsTooLong question size × (text ≡ request_too_long e.name size)
 
 -- what each status leaves on standard output: the document, a front of it where a write failed, and else nothing new
 abbrev pub IsQueryWritten : Seen → FileRead → FileRead → Status → List ℕ → List ℕ → Type 0

@@ -1,5 +1,5 @@
 -- What the steps of `fedx query` give. `IsQueryReported` and `IsQueryWritten` say what the whole gives.
-use Rattle.std.specs.Prelude.{◌≡◌, ℕ, ◌<◌, ◌≤◌, List, [], ◌++◌, Result, Ok, Err, IfSome, length, slice_get, Some}
+use Rattle.std.specs.Prelude.{◌≡◌, ℕ, ◌<◌, ◌≤◌, Bool, List, [], ◌++◌, Result, Ok, Err, IfSome, length, slice_get, Some}
 use Rattle.std.specs.declared.vec.Vec.{Vec}
 use Rattle.std.specs.declared.alloc.Global.{Global}
 use Rattle.fx_outside.specs.Endpoints.{EndpointParts}
@@ -7,8 +7,8 @@ use Rattle.fx_outside.specs.Streams.{AppendsFront}
 use Rattle.fx_algebra.specs.declared.queries.Query.{Query}
 use Rattle.fx_sources.specs.Registries.{read_registry}
 use Rattle.fx_sources.specs.declared.errors.RegistryError.TheVariants as error
-use Rattle.fx_wire.specs.Exchanges.{Seen}
-use Rattle.fx_engine.specs.Federation.{IsRefused}
+use Rattle.fx_wire.specs.Exchanges.{Exchange, Seen}
+use Rattle.fx_engine.specs.Federation.{IsRefused, OfQuery, Question}
 use Rattle.fx_engine.specs.Federation as member
 use Rattle.fx_engine.specs.declared.errors.FedError.{FedError}
 use Rattle.fx_engine.specs.declared.errors.ReplyFault.{ReplyFault}
@@ -17,6 +17,7 @@ use Rattle.fedx.specs.declared.refusals.RegistryRefusal.{RegistryRefusal}
 use Rattle.fedx.specs.declared.refusals.RegistryRefusal.TheVariants as refusal
 use Rattle.fedx.specs.declared.statuses.Status.{Status}
 use Rattle.fedx.specs.declared.statuses.Status.TheVariants as status
+use Rattle.fedx.specs.Asking.{HasAsked}
 use Rattle.fedx.specs.Files.{FileRead, HasFailed, IsTooLong, IsNoRegistry}
 use Rattle.fedx.specs.Lines.{cannot_read, registry_too_long, registry_refused, member_failed, bad_reply, request_too_long, no_memory}
 use Rattle.fedx.specs.Query.{IsUnionDocument}
@@ -40,17 +41,18 @@ registry_line refusal.Memory name = no_memory
 -- the document of the answer over the union, or the cause
 abbrev pub GivesUnionDocument : Seen → Seen → List EndpointParts → Query → Result (Vec ℕ Global) FedError → Type 0
 GivesUnionDocument before after endpoints q (Ok text) = IsUnionDocument before endpoints q text.items
-GivesUnionDocument before after endpoints q (Err e) = IsRefused before after endpoints e
+GivesUnionDocument before after endpoints q (Err e) = IsRefused (OfQuery q (length endpoints) []) before after endpoints e
 
--- what asking the members reports
-abbrev pub IsAskReported : Seen → Seen → List EndpointParts → Status → List ℕ → Type 0
-IsAskReported before after endpoints status.Done text = text ≡ []
-IsAskReported before after endpoints status.WriteFault text = text ≡ []
-IsAskReported before after endpoints status.NoMemory text = text ≡ no_memory
-IsAskReported before after endpoints status.EndpointFault text = (e : EndpointParts) × (at : ℕ) × (slice_get endpoints at ≡ Some e) × member.HasFailed before after e × (text ≡ member_failed e.name)
-IsAskReported before after endpoints status.BadReply text = (e : EndpointParts) × (at : ℕ) × (why : ReplyFault) × (slice_get endpoints at ≡ Some e) × member.HasBadReply before after why e × (text ≡ bad_reply e.name why)
-IsAskReported before after endpoints status.RequestTooLong text = (e : EndpointParts) × (at : ℕ) × (size : ℕ) × (slice_get endpoints at ≡ Some e) × (67108864 < size) × (text ≡ request_too_long e.name size)
-IsAskReported before after endpoints s text = ⊥
+-- what asking the members for a query reports, where they may be asked these questions alone, each by its number, and what stands
+-- behind the ASKs in the log
+abbrev pub IsAskReported : (List Bool → List Exchange → Type 0) → (ℕ → Question → Type 0) → Seen → Seen → List EndpointParts → Query → Status → List ℕ → Type 0
+IsAskReported Rest Asks before after endpoints q status.Done text = HasAsked Rest before after endpoints q × (text ≡ [])
+IsAskReported Rest Asks before after endpoints q status.WriteFault text = HasAsked Rest before after endpoints q × (text ≡ [])
+IsAskReported Rest Asks before after endpoints q status.NoMemory text = text ≡ no_memory
+IsAskReported Rest Asks before after endpoints q status.EndpointFault text = (e : EndpointParts) × (at : ℕ) × (question : Question) × Asks at question × (slice_get endpoints at ≡ Some e) × member.HasFailed before after e × (text ≡ member_failed e.name)
+IsAskReported Rest Asks before after endpoints q status.BadReply text = (e : EndpointParts) × (at : ℕ) × (question : Question) × (why : ReplyFault) × Asks at question × (slice_get endpoints at ≡ Some e) × member.HasBadReply before after question why e × (text ≡ bad_reply e.name why)
+IsAskReported Rest Asks before after endpoints q status.RequestTooLong text = (e : EndpointParts) × (at : ℕ) × (question : Question) × (size : ℕ) × Asks at question × (slice_get endpoints at ≡ Some e) × member.IsTooLong question size × (text ≡ request_too_long e.name size)
+IsAskReported Rest Asks before after endpoints q s text = ⊥
 
 -- what asking the members leaves on standard output
 abbrev pub IsAskWritten : Seen → List EndpointParts → Query → Status → List ℕ → List ℕ → Type 0

@@ -105,10 +105,10 @@ IsServingReported before after address count graph status.NoMemory text = IsCut 
 IsServingReported before after address count graph s text = ⊥
 
 -- the cause of each status, and what it writes on standard error: the graph's file is read first, then its graph, and then the
--- door is opened at the address, for so many connections
+-- door is opened at the address, for so many connections. Before that all that is seen of the door is as it was.
 abbrev pub IsMemberReported : FileRead → DoorSeen → DoorSeen → List ℕ → ℕ → Status → List ℕ → Type 0
-IsMemberReported g before after address count status.GraphRefused text = (e : NtError) × IsNoGraph g e × (text ≡ graph_refused e)
-IsMemberReported g before after address count status.ReadFault text = HasFailed g × (text ≡ cannot_read g.name)
-IsMemberReported g before after address count status.FileTooLong text = IsTooLong GRAPH_LIMIT g × (text ≡ graph_too_long g.name)
-IsMemberReported g before after address count status.NoMemory text = (text ≡ no_memory) ⊎ ((graph : List Triple) × IsGraphOf g graph × IsServingReported before after address count graph status.NoMemory text)
+IsMemberReported g before after address count status.GraphRefused text = (e : NtError) × IsNoGraph g e × (text ≡ graph_refused e) × (after ≡ before)
+IsMemberReported g before after address count status.ReadFault text = HasFailed g × (text ≡ cannot_read g.name) × (after ≡ before)
+IsMemberReported g before after address count status.FileTooLong text = IsTooLong GRAPH_LIMIT g × (text ≡ graph_too_long g.name) × (after ≡ before)
+IsMemberReported g before after address count status.NoMemory text = ((text ≡ no_memory) × (after ≡ before)) ⊎ ((graph : List Triple) × IsGraphOf g graph × IsServingReported before after address count graph status.NoMemory text)
 IsMemberReported g before after address count s text = (graph : List Triple) × IsGraphOf g graph × IsServingReported before after address count graph s text

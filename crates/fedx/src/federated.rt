@@ -1,13 +1,14 @@
 //! The command `query`.
-ghost use Rattle.std.specs.Prelude.{◌≡◌, ◌≤◌, [], IsTrue, List, ℕ};
+ghost use Rattle.std.specs.Prelude.{◌≡◌, ◌≤◌, [], IsTrue, List, ℕ, length};
 ghost use Rattle.fx_algebra.specs.Answers.{IsPlain};
-ghost use Rattle.fx_engine.specs.Federation.{Federates};
-ghost use Rattle.fx_outside.specs.Faults.{HasRisen};
+ghost use Rattle.fx_engine.specs.Federation.{AsksSources, Federates, OfQuery};
 ghost use Rattle.fx_wire.specs.Exchanges.{IsAfter, seen};
+ghost use Rattle.fedx.specs.Asking.{GivesAsked};
 ghost use Rattle.fedx.specs.Files.{file_read};
 ghost use Rattle.fedx.specs.Lines.{Gains};
 ghost use Rattle.fedx.specs.Query.{IsQueryReported, IsQueryWritten};
 ghost use Rattle.fedx.specs.QuerySteps.{GivesUnionDocument, IsAskReported, IsAskWritten};
+ghost use Rattle.fedx.specs.Sinks.{IsCutOff, sink_written};
 
 use crate::loading::{load_query, load_registry};
 use crate::refusals::fed_status;
@@ -39,8 +40,9 @@ pub fn run_query<F: Files, W: Wire, O: Sink, E: Sink>(
     ensures reported { (text : List ℕ) × IsQueryReported (seen W.tells_log W.log W.graph W.faults wire.old) (seen W.tells_log W.log W.graph W.faults wire.new) (file_read F.content F.faults files.old files.new registry.now) (file_read F.content F.faults files.old files.new query.now) result text × (IsTrue E.tells_held → Gains (E.held err.old) (E.held err.new) (E.write_faults err.old) (E.write_faults err.new) text) }
     ensures written { IsTrue O.tells_held → IsQueryWritten (seen W.tells_log W.log W.graph W.faults wire.old) (file_read F.content F.faults files.old files.new registry.now) (file_read F.content F.faults files.old files.new query.now) result (O.held out.old) (O.held out.new) }
     ensures wired { IsAfter (seen W.tells_log W.log W.graph W.faults wire.old) (seen W.tells_log W.log W.graph W.faults wire.new) }
-    ensures write_fault { result ≡ Status.WriteFault → HasRisen (O.write_faults out.old) (O.write_faults out.new) }
+    ensures write_fault { result ≡ Status.WriteFault → IsCutOff (sink_written O.tells_held O.held O.write_faults out.old out.new) (sink_written E.tells_held E.held E.write_faults err.old err.new) }
     ensures unfailed { ¬ (result ≡ Status.WriteFault) → O.write_faults out.new ≡ O.write_faults out.old }
+    ensures unfailed_lines { result ≡ Status.Done → E.write_faults err.new ≡ E.write_faults err.old }
     ensures kept { (name : List ℕ) → F.faults files.old name ≤ F.faults files.new name }
     ensures same { (name : List ℕ) → F.content files.new name ≡ F.content files.old name }
 {
@@ -75,11 +77,12 @@ fn ask_members<W: Wire, O: Sink, E: Sink>(
     err: &mut E,
 ) -> Status
     requires { IsPlain query.now }
-    ensures reported { (text : List ℕ) × IsAskReported (seen W.tells_log W.log W.graph W.faults wire.old) (seen W.tells_log W.log W.graph W.faults wire.new) members.now result text × (IsTrue E.tells_held → Gains (E.held err.old) (E.held err.new) (E.write_faults err.old) (E.write_faults err.new) text) }
+    ensures reported { (text : List ℕ) × IsAskReported (AsksSources members.now query.now []) (OfQuery query.now (length members.now) []) (seen W.tells_log W.log W.graph W.faults wire.old) (seen W.tells_log W.log W.graph W.faults wire.new) members.now query.now result text × (IsTrue E.tells_held → Gains (E.held err.old) (E.held err.new) (E.write_faults err.old) (E.write_faults err.new) text) }
     ensures written { IsTrue O.tells_held → IsAskWritten (seen W.tells_log W.log W.graph W.faults wire.old) members.now query.now result (O.held out.old) (O.held out.new) }
     ensures wired { IsAfter (seen W.tells_log W.log W.graph W.faults wire.old) (seen W.tells_log W.log W.graph W.faults wire.new) }
-    ensures write_fault { result ≡ Status.WriteFault → HasRisen (O.write_faults out.old) (O.write_faults out.new) }
+    ensures write_fault { result ≡ Status.WriteFault → IsCutOff (sink_written O.tells_held O.held O.write_faults out.old out.new) (sink_written E.tells_held E.held E.write_faults err.old err.new) }
     ensures unfailed { ¬ (result ≡ Status.WriteFault) → O.write_faults out.new ≡ O.write_faults out.old }
+    ensures unfailed_lines { result ≡ Status.Done → E.write_faults err.new ≡ E.write_faults err.old }
 {
     match union_document(alloc, members, query, wire) {
         Ok(text) => match write_all(out, text.as_slice()) {
@@ -102,6 +105,7 @@ fn union_document<W: Wire>(
 ) -> Result<Vec<u8>, FedError>
     requires { IsPlain query.now }
     ensures document { GivesUnionDocument (seen W.tells_log W.log W.graph W.faults wire.old) (seen W.tells_log W.log W.graph W.faults wire.new) members.now query.now result }
+    ensures asked { GivesAsked (AsksSources members.now query.now []) (seen W.tells_log W.log W.graph W.faults wire.old) (seen W.tells_log W.log W.graph W.faults wire.new) members.now query.now result }
     ensures wired { IsAfter (seen W.tells_log W.log W.graph W.faults wire.old) (seen W.tells_log W.log W.graph W.faults wire.new) }
 {
     match union_answer(alloc, members, query, wire) {
@@ -122,6 +126,7 @@ fn union_answer<W: Wire>(
 ) -> Result<Answer, FedError>
     requires { IsPlain query.now }
     ensures answer { Federates (seen W.tells_log W.log W.graph W.faults wire.old) (seen W.tells_log W.log W.graph W.faults wire.new) members.now query.now [] result }
+    ensures asked { GivesAsked (AsksSources members.now query.now []) (seen W.tells_log W.log W.graph W.faults wire.old) (seen W.tells_log W.log W.graph W.faults wire.new) members.now query.now result }
     ensures wired { IsAfter (seen W.tells_log W.log W.graph W.faults wire.old) (seen W.tells_log W.log W.graph W.faults wire.new) }
 {
     match AskCache::new(alloc) {

@@ -40,6 +40,7 @@ pub fn run_member<F: Files, D: Door, E: Sink>(
 ) -> Status
     ensures reported { (text : List ℕ) × IsMemberReported (file_read F.content F.faults files.old files.new graph.now) (door_seen D.tells D.started D.inputs D.outputs D.faults door.old) (door_seen D.tells D.started D.inputs D.outputs D.faults door.new) address.now count result text × (IsTrue E.tells_held → Gains (E.held err.old) (E.held err.new) (E.write_faults err.old) (E.write_faults err.new) text) }
     ensures write_fault { result ≡ Status.WriteFault → HasRisen (E.write_faults err.old) (E.write_faults err.new) }
+    ensures unfailed_lines { result ≡ Status.Done → E.write_faults err.new ≡ E.write_faults err.old }
     ensures opened { D.faults door.old ≤ D.faults door.new }
     ensures kept { (name : List ℕ) → F.faults files.old name ≤ F.faults files.new name }
     ensures same { (name : List ℕ) → F.content files.new name ≡ F.content files.old name }
@@ -64,6 +65,7 @@ fn serve_store<D: Door, E: Sink>(
 ) -> Status
     ensures reported { (text : List ℕ) × IsServingReported (door_seen D.tells D.started D.inputs D.outputs D.faults door.old) (door_seen D.tells D.started D.inputs D.outputs D.faults door.new) address.now count store.now result text × (IsTrue E.tells_held → Gains (E.held err.old) (E.held err.new) (E.write_faults err.old) (E.write_faults err.new) text) }
     ensures write_fault { result ≡ Status.WriteFault → HasRisen (E.write_faults err.old) (E.write_faults err.new) }
+    ensures unfailed_lines { result ≡ Status.Done → E.write_faults err.new ≡ E.write_faults err.old }
     ensures opened { D.faults door.old ≤ D.faults door.new }
 {
     match door.start(alloc, address) {
@@ -84,6 +86,7 @@ fn serve<D: Door, E: Sink>(
     requires { IsTrue D.tells → D.started door.old ≡ Some address.now }
     ensures reported { (text : List ℕ) × IsServingReported (door_seen D.tells D.started D.inputs D.outputs D.faults door.old) (door_seen D.tells D.started D.inputs D.outputs D.faults door.new) address.now count store.now result text × (IsTrue E.tells_held → Gains (E.held err.old) (E.held err.new) (E.write_faults err.old) (E.write_faults err.new) text) }
     ensures write_fault { result ≡ Status.WriteFault → HasRisen (E.write_faults err.old) (E.write_faults err.new) }
+    ensures unfailed_lines { result ≡ Status.Done → E.write_faults err.new ≡ E.write_faults err.old }
     ensures opened { D.faults door.old ≤ D.faults door.new }
 {
     for number in 0..count {

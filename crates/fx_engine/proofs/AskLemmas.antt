@@ -41,7 +41,7 @@ use Rattle.fx_wire.specs.Exchanges.{exchanged}
 use Rattle.fx_wire.specs.Honest.{IsHonest}
 use Rattle.fx_engine.specs.MemberQueries.{columns_of, IsAsked}
 use Rattle.fx_engine.specs.Tables.{SameNames, HasTable, ReadsTable}
-use Rattle.fx_engine.specs.Federation.{Question, rows_of, query_of, wanted_of, IsBadExchange}
+use Rattle.fx_engine.specs.Federation.{Question, rows_of, query_of, text_of, wanted_of, IsBadExchange}
 use Rattle.fx_engine.specs.ReplyChecks.{Wanted, table_of, HasFault}
 use Rattle.fx_engine.specs.declared.errors.ReplyFault.{ReplyFault}
 use Rattle.fx_engine.specs.declared.errors.ReplyFault.TheVariants.{Http}
@@ -188,11 +188,9 @@ too_long (Some graph) request reply wanted why h refutes fault = pick (long_or_s
     pick (inr k) = absurd (refutes graph (h.1 k) k)
 
 -- a reply with a fault, which an honest one hasn't
-pub bad_exchange : (o : Option (List Triple)) (at : EndpointParts) (request text reply : List ℕ) (question : Question) (why : ReplyFault) → IsToldHonest o request reply → request ≡ request_of at text → Accepted text (query_of question)
-    → HasFault reply (wanted_of question) why → ((graph : List Triple) → IsHonest graph request reply → length reply ≤ 67108864 → ⊥) → IsBadExchange o why (exchanged at request reply)
-bad_exchange o at request text reply question why h e a fault refutes = record {
-  question = question;
-  text = text;
+pub bad_exchange : (o : Option (List Triple)) (at : EndpointParts) (request reply : List ℕ) (question : Question) (why : ReplyFault) → IsToldHonest o request reply → request ≡ request_of at (text_of question) → Accepted (text_of question) (query_of question)
+    → HasFault reply (wanted_of question) why → ((graph : List Triple) → IsHonest graph request reply → length reply ≤ 67108864 → ⊥) → IsBadExchange question o why (exchanged at request reply)
+bad_exchange o at request reply question why h e a fault refutes = record {
   requested = e;
   accepted = a;
   checked = fault;
@@ -200,9 +198,9 @@ bad_exchange o at request text reply question why h e a fault refutes = record {
 }
 
 pub bad_rows : (o : Option (List Triple)) (at : EndpointParts) (request text reply : List ℕ) (columns : List (List ℕ)) (p : Pattern) (why : ReplyFault) → IsToldHonest o request reply → IsRequest request text → request ≡ request_of at text → length text ≤ 67108864 → IsAsked p columns text
-    → HasFault reply (table_of columns) why → IsBadExchange o why (exchanged at request reply)
+    → HasFault reply (table_of columns) why → IsBadExchange (rows_of p) o why (exchanged at request reply)
 bad_rows o at request text reply columns p why h r e l a fault =
-    bad_exchange o at request text reply (rows_of p) why h e a.accepted (subst (λ (c : List (List ℕ)). HasFault reply (table_of c) why) a.named fault)
+    bad_exchange o at request reply (rows_of p) why h (e ∙ ap (request_of at) a.printed) (subst (λ (t : List ℕ). Accepted t (pattern_query p)) a.printed a.accepted) (subst (λ (c : List (List ℕ)). HasFault reply (table_of c) why) a.named fault)
     (λ graph honest s.
     let x = honest_told request text reply graph p honest r l a.accepted in
     fault_unread reply columns why fault x.rows (record { body = x.body; replied = (s, x.replied); table = record { told = x.table.told; read = x.table.read; same = λ name. x.table.same name ∙ ap (λ c. is_among c name) (sym a.named) } }))

@@ -108,7 +108,7 @@ fit_is o request reply p truth h r l t read graph e =
     cc
 
 pub bad_fit : (o : Option (List Triple)) (at : EndpointParts) (request reply : List ℕ) (p : Pattern) (why : ReplyFault) → IsToldHonest o request reply → IsRequest request (ask_text p) → request ≡ request_of at (ask_text p) → length (ask_text p) ≤ 67108864 → IsTriple p
-    → HasFault reply a_truth why → IsBadExchange o why (exchanged at request reply)
+    → HasFault reply a_truth why → IsBadExchange (fit_of p) o why (exchanged at request reply)
 bad_fit o at request reply p why h r e l t fault =
-    bad_exchange o at request (ask_text p) reply (fit_of p) why h e (ask_accepted p t) fault
+    bad_exchange o at request reply (fit_of p) why h e (ask_accepted p t) fault
     (λ graph honest s. let x = honest_truth request reply graph p honest r l t in truth_unread reply why fault (fits p graph) (record { body = x.0; replied = (s, x.1); read = x.2 }))

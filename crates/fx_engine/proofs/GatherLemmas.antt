@@ -1,5 +1,5 @@
 -- The rows of all endpoints, one endpoint after another.
-use Rattle.std.proofs.Common.{◌≡◌, ◌∙◌, ap, sym, subst, refl, ℕ, List, [], ◌∷◌, ◌++◌, Option, Some, Err, IsTrue, inl, inr, arith, append_assoc, append-nil}
+use Rattle.std.proofs.Common.{◌≡◌, ◌∙◌, ap, sym, subst, refl, ℕ, List, [], ◌∷◌, ◌++◌, Option, Some, IsTrue, inl, inr, arith, append_assoc, append-nil}
 use Rattle.std.specs.Prelude.{Contains, ◌⊎◌, reverse, slice_get}
 use Rattle.std.proofs.lemmas.List.Sorted.{Contains-permutation, IsPermutation-sym, IsPermutation-reverse}
 use Rattle.fx_terms.specs.Graphs.{union, set_of}
@@ -12,7 +12,7 @@ use Rattle.fx_algebra.specs.Solutions.{Bindings, SameRows, solution_cmp}
 use Rattle.fx_algebra.proofs.MemberLemmas.{among_left, among_right, among_cases}
 use Rattle.fx_algebra.proofs.UnionLemmas.{rows_of_union}
 use Rattle.fx_wire.specs.Exchanges.{Seen, IsAfter}
-use Rattle.fx_engine.specs.Federation.{Tells, AreRowsOf, IsBadExchange, HasBadReply, IsRefused, GivesRows, GivesFit}
+use Rattle.fx_engine.specs.Federation.{Question, Tells, AreRowsOf, IsBadExchange, HasBadReply, IsCause, IsRefused}
 use Rattle.fx_engine.specs.Refusals.{refusal_at}
 use Rattle.fx_engine.specs.declared.errors.ReplyFault.{ReplyFault}
 use Rattle.fx_engine.specs.declared.errors.AskError.{AskError}
@@ -35,23 +35,24 @@ after_both s t u e h k = record {
   kept = λ a. omega (arith, h.kept a, k.kept a);
 }
 
-bad_later : (s t u : Seen) (why : ReplyFault) (e : EndpointParts) → s.tells_log ≡ t.tells_log → IsAfter s t → HasBadReply t u why e → HasBadReply s u why e
-bad_later s t u why e same h k = record {
+bad_later : (s t u : Seen) (question : Question) (why : ReplyFault) (e : EndpointParts) → s.tells_log ≡ t.tells_log → IsAfter s t → HasBadReply t u question why e → HasBadReply s u question why e
+bad_later s t u question why e same h k = record {
   exchange = k.exchange;
   at = k.at;
-  bad = subst (λ (g : Option (List Triple)). IsBadExchange g why k.exchange) (h.same e.iri) k.bad;
+  bad = subst (λ (g : Option (List Triple)). IsBadExchange question g why k.exchange) (h.same e.iri) k.bad;
   logged = λ told.
       let a = h.logged told in
       let b = k.logged (subst IsTrue same told) in
       (a.0 ++ b.0, b.1 ∙ ap (λ v. v ++ (b.0 ++ k.exchange ∷ [])) a.1 ∙ append_assoc s.log a.0 (b.0 ++ k.exchange ∷ []) ∙ ap (λ v. s.log ++ v) (sym (append_assoc a.0 b.0 (k.exchange ∷ []))));
 }
 
--- a refusal after other exchanges is a refusal of all
-pub refused_later : (s t u : Seen) (es : List EndpointParts) (r : FedError) → s.tells_log ≡ t.tells_log → IsAfter s t → IsRefused t u es r → IsRefused s u es r
-refused_later s t u es (fed.Member at) same h k = (k.0, k.1, omega (arith, h.kept k.0.iri, k.2))
-refused_later s t u es (fed.BadReply at why) same h k = (k.0, k.1, bad_later s t u why k.0 same h k.2)
-refused_later s t u es (fed.RequestTooLong at size) same h k = k
-refused_later s t u es fed.Memory same h k = tt
+-- a refusal after other exchanges is a refusal of all, and one by some of the questions is one by more of them
+pub refused_later : (P Q : ℕ → Question → Type 0) → ((at : ℕ) (question : Question) → P at question → Q at question) → (s t u : Seen) (es : List EndpointParts) (r : FedError) → s.tells_log ≡ t.tells_log → IsAfter s t
+    → IsRefused P t u es r → IsRefused Q s u es r
+refused_later P Q f s t u es (fed.Member at) same h (x, asks, (e, stands, k)) = (x, f at x asks, (e, stands, omega (arith, h.kept e.iri, k)))
+refused_later P Q f s t u es (fed.BadReply at why) same h (x, asks, (e, stands, k)) = (x, f at x asks, (e, stands, bad_later s t u x why e same h k))
+refused_later P Q f s t u es (fed.RequestTooLong at size) same h (x, asks, k) = (x, f at x asks, k)
+refused_later P Q f s t u es fed.Memory same h k = tt
 
 -- ---- the rows of one more graph
 
@@ -92,18 +93,13 @@ gathered graphs p rows all h e =
     (λ s m. let x = h.only s (contains_from rows s m) in (x.0, among_from graphs x.0 x.1, among_from (bgp x.0 (p ∷ [])) s x.2))
     (λ s graph m n. among_from rows s (h.all s graph (contains_from graphs graph m) (contains_from (bgp graph (p ∷ [])) s n))))
 
--- the refusal of one endpoint, by its number
-pub refused_at : (t u : Seen) (es : List EndpointParts) (at : ℕ) (e : EndpointParts) (columns : List (List ℕ)) (text : List ℕ) (r : AskError) → slice_get es at ≡ Some e → GivesRows t u e columns text (Err r) → IsRefused t u es (refusal_at at r)
-refused_at t u es at e columns text ask.Failed s h = (e, s, h)
-refused_at t u es at e columns text (ask.Bad why) s h = (e, s, h)
-refused_at t u es at e columns text (ask.TooLong size) s h = (e, s, h.1)
-refused_at t u es at e columns text ask.Memory s h = tt
-
-pub refused_fit : (t u : Seen) (es : List EndpointParts) (at : ℕ) (e : EndpointParts) (p : Pattern) (r : AskError) → slice_get es at ≡ Some e → GivesFit t u e p (Err r) → IsRefused t u es (refusal_at at r)
-refused_fit t u es at e p ask.Failed s h = (e, s, h)
-refused_fit t u es at e p (ask.Bad why) s h = (e, s, h)
-refused_fit t u es at e p (ask.TooLong size) s h = (e, s, h.1)
-refused_fit t u es at e p ask.Memory s h = tt
+-- the refusal of one endpoint, by its number, where it may be asked the question
+pub refused_at : (Asks : ℕ → Question → Type 0) (t u : Seen) (es : List EndpointParts) (at : ℕ) (e : EndpointParts) (question : Question) (r : AskError) → Asks at question → slice_get es at ≡ Some e → IsCause question t u e r
+    → IsRefused Asks t u es (refusal_at at r)
+refused_at Asks t u es at e question ask.Failed asks s h = (question, asks, (e, s, h))
+refused_at Asks t u es at e question (ask.Bad why) asks s h = (question, asks, (e, s, h))
+refused_at Asks t u es at e question (ask.TooLong size) asks s h = (question, asks, (e, s, h))
+refused_at Asks t u es at e question ask.Memory asks s h = tt
 
 -- graphs that no exchange changed are told as before
 pub tells_same : (f g : List ℕ → Option (List Triple)) → ((address : List ℕ) → g address ≡ f address) → (es : List EndpointParts) (gs : List (List Triple)) → Tells f es gs → Tells g es gs

@@ -19,7 +19,7 @@ use Rattle.fx_sources.specs.Sources.{fits, graph_of}
 use Rattle.fx_sources.specs.Sources as source
 use Rattle.fx_sources.specs.declared.probes.Probe.{Probe}
 use Rattle.fx_sources.proofs.SourceLemmas.{learned_tells, kept_tells}
-use Rattle.fx_engine.specs.Federation.{Tells, IsAnswered, AreAnswered, TellsFit, TellsFits, Learns, HasKept, HasLearned}
+use Rattle.fx_engine.specs.Federation.{Gained, Tells, IsAnswered, AreAnswered, TellsFit, TellsFits, Learns, HasKept, HasLearned}
 use Rattle.fx_engine.specs.declared.errors.FedError.{FedError}
 use Rattle.fx_engine.specs.declared.errors.FedError.TheVariants as fed
 use Rattle.fx_engine.proofs.PatternLemmas.{no_rows}
@@ -104,11 +104,7 @@ rest_of s t u es ps truths same h k told =
     let a = k.logged (subst IsTrue same told) in
     (a.0, a.1 ∙ ap (λ (v : List Exchange). v ++ a.0) (h.logged told) ∙ append_assoc s.log h.asked a.0)
 
--- the log gained exchanges that are as they have to be, where it is told
-abbrev pub GainsRest : (List Exchange → Type 0) → Seen → Seen → Type 0
-GainsRest Own t u = IsTrue t.tells_log → (rest : List Exchange) × (u.log ≡ t.log ++ rest) × Own rest
-
-pub learned_so : (Rest : List Bool → List Exchange → Type 0) (s t u : Seen) (es : List EndpointParts) (q : Query) (old new : List Entry) (ps : List Probe) (truths : List Bool) → s.tells_log ≡ t.tells_log → TellsFits s t es ps truths → GainsRest (Rest truths) t u
+abbrev pub learned_so : (Rest : List Bool → List Exchange → Type 0) (s t u : Seen) (es : List EndpointParts) (q : Query) (old new : List Entry) (ps : List Probe) (truths : List Bool) → s.tells_log ≡ t.tells_log → TellsFits s t es ps truths → Gained (Rest truths) t u
     → ps ≡ missing q (length es) old → new ≡ learned old ps truths → HasLearned Rest s u es q old new
 learned_so Rest s t u es q old new ps truths same h k e f = record {
   truths = truths;

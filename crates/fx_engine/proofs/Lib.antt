@@ -10,5 +10,6 @@ pub mod LearnLemmas
 pub mod SectionLemmas
 pub mod PartLemmas
 pub mod GainLemmas
+pub mod QuestionLemmas
 pub mod PlanLemmas
 pub mod UnitLemmas

@@ -1,5 +1,5 @@
 -- The plan of a query by the answers to its probes.
-use Rattle.std.proofs.Common.{◌≡◌, ◌∙◌, ◌++◌, ap, sym, subst, ℕ, List, map, length, Bool, Option}
+use Rattle.std.proofs.Common.{◌≡◌, ◌∙◌, ◌++◌, ap, sym, subst, refl, ℕ, List, [], map, length, Bool, Option, append-nil}
 use Rattle.std.proofs.lemmas.List.{length-map}
 use Rattle.std.specs.Prelude.{All}
 use Rattle.std.specs.List.{flat_map, zip}
@@ -7,11 +7,15 @@ use Rattle.fx_terms.specs.declared.triples.Triple.{Triple}
 use Rattle.fx_outside.specs.Endpoints.{EndpointParts}
 use Rattle.fx_algebra.specs.declared.queries.Query.{Query}
 use Rattle.fx_sources.specs.Patterns.{patterns}
-use Rattle.fx_sources.specs.Probes.{Entry, chosen, members_of, missing, key_of, told}
+use Rattle.fx_sources.specs.Probes.{Entry, chosen, learned, members_of, missing, key_of, told}
 use Rattle.fx_sources.specs.Sources as source
 use Rattle.fx_sources.specs.declared.probes.Probe.{Probe}
 use Rattle.fx_sources.proofs.SourceLemmas.{chooses}
-use Rattle.fx_engine.specs.Federation.{Tells}
+use Rattle.fx_plan.specs.declared.parts.Part.{Part}
+use Rattle.fx_wire.specs.Exchanges.{Seen}
+use Rattle.fx_engine.specs.Federation.{AsksNothing, Tells, TellsFits}
+use Rattle.fx_engine.specs.Planning.{IsByAnswers}
+use Rattle.fx_engine.proofs.LearnLemmas.{learned_so}
 use Rattle.fx_engine.specs.Sections.{parts_by, parts_with, run_patterns, sections}
 use Rattle.fx_engine.proofs.PartLemmas.{by_function}
 use Rattle.fx_engine.proofs.SectionLemmas.{runs_have}
@@ -34,3 +38,11 @@ parts_from graph es graphs t q cache probes truths these lengths held answers =
     ∙ chooses q graphs cache truths (sym lengths ∙ ap length asked) held (subst (λ (ps : List Probe). All (source.Tells graphs) (zip ps truths)) asked answers) in
     ap (parts_by (sections q)) (found ∙ ap (map (source.sources graphs)) (sym (runs_have q)))
     ∙ by_function (source.sources graphs) (sections q)
+
+-- what was asked, what the cache learned and the parts are by the same answers
+pub by_answers : (s t : Seen) (es : List EndpointParts) (q : Query) (old new : List Entry) (ps : List Probe) (truths : List Bool) (parts : List Part) → s.tells_log ≡ t.tells_log → TellsFits s t es ps truths
+    → ps ≡ missing q (length es) old → new ≡ learned old ps truths → parts ≡ parts_by (sections q) (chosen q (length es) (told ps truths ++ old)) → IsByAnswers s t es q old new parts
+by_answers s t es q old new ps truths parts same h e f given = record {
+  answers = learned_so AsksNothing s t t es q old new ps truths same h (λ says. ([], sym (append-nil t.log), refl)) e f;
+  parts_are = given ∙ ap (λ (v : List Probe). parts_by (sections q) (chosen q (length es) (told v truths ++ old))) e;
+}

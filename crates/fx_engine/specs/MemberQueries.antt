@@ -4,6 +4,7 @@ use Rattle.fx_terms.specs.declared.terms.Term.TheVariants.{Iri, Literal}
 use Rattle.fx_terms.specs.declared.patterns.Pattern.{Pattern}
 use Rattle.fx_terms.specs.declared.patterns.PatternTerm.{PatternTerm}
 use Rattle.fx_terms.specs.declared.patterns.PatternTerm.TheVariants.{Variable, Constant}
+use Rattle.fx_algebra.specs.Printed.{printed_query}
 use Rattle.fx_algebra.specs.Scopes.{once, pattern_names}
 use Rattle.fx_syntax.specs.Accepted.{Accepted}
 use Rattle.fx_syntax.specs.Printable.{pattern_query}
@@ -21,4 +22,5 @@ is_literal (Constant (Literal literal)) = true
 -- the columns and the text are those of the pattern's query
 pub record IsAsked (p : Pattern) (columns : List (List ℕ)) (text : List ℕ) : Type 0 where
   pub named : columns ≡ columns_of p
+  pub printed : text ≡ printed_query (pattern_query p)
   pub accepted : Accepted text (pattern_query p)

@@ -1,6 +1,6 @@
 //! The answer of a query over several endpoints.
 ghost use Rattle.std.specs.Prelude.{◌≡◌, ◌<◌, ◌++◌, ◌∷◌, [], true, All, IfOk, length};
-ghost use Rattle.std.specs.List.{list_any, zip};
+ghost use Rattle.std.specs.List.{list_any};
 ghost use Rattle.fx_algebra.specs.Answers.{IsPlain, is_empty_list};
 ghost use Rattle.fx_terms.specs.declared.triples.Triple.{Triple as TripleParts};
 ghost use Rattle.fx_outside.specs.Endpoints.{is_sendable};
@@ -8,7 +8,7 @@ ghost use Rattle.fx_sources.specs.Patterns.{patterns as patterns_of};
 ghost use Rattle.fx_sources.specs.Probes.{chosen, missing as missing_probes, told};
 ghost use Rattle.fx_sources.specs.Sources as source;
 ghost use Rattle.fx_wire.specs.Exchanges.{IsAfter, seen};
-ghost use Rattle.fx_engine.specs.Federation.{AnswersBy, AsksSource, AsksSources, Federates, GainsOnly, GathersRows, Learns, Tells};
+ghost use Rattle.fx_engine.specs.Federation.{AnswersBy, AreSent, AsksSources, Federates, GainsOnly, GathersRows, Learns, Tells, row_questions};
 ghost use Rattle.std.specs.Prelude.{List};
 
 use crate::errors::FedError;
@@ -82,7 +82,7 @@ fn answer_by<W: Wire>(
     requires asked { probes.now ≡ missing_probes query.now (length registry.now) cache.now }
     requires lengths { length probes.now ≡ length truths.now }
     ensures answer { AnswersBy (seen W.tells_log W.log W.graph W.faults wire.old) (seen W.tells_log W.log W.graph W.faults wire.new) registry.now query.now cache.now probes.now truths.now result }
-    ensures alone { GainsOnly (AsksSource registry.now (zip (patterns_of query.now) (chosen query.now (length registry.now) (told probes.now truths.now ++ cache.now)))) (seen W.tells_log W.log W.graph W.faults wire.old) (seen W.tells_log W.log W.graph W.faults wire.new) result }
+    ensures alone { GainsOnly (AreSent registry.now (row_questions (patterns_of query.now) (chosen query.now (length registry.now) (told probes.now truths.now ++ cache.now)))) (seen W.tells_log W.log W.graph W.faults wire.old) (seen W.tells_log W.log W.graph W.faults wire.new) result }
     ensures after { IsAfter (seen W.tells_log W.log W.graph W.faults wire.old) (seen W.tells_log W.log W.graph W.faults wire.new) }
 {
     let Ok(sources) = choose(alloc, query, registry, cache, probes, truths) else {
@@ -119,7 +119,7 @@ fn join_all<W: Wire>(
     requires lengths { length patterns.now ≡ length sources.now }
     requires within { All (All (λ at. at < length endpoints.now)) sources.now }
     ensures rows { GathersRows (seen W.tells_log W.log W.graph W.faults wire.old) (seen W.tells_log W.log W.graph W.faults wire.new) endpoints.now patterns.now sources.now result }
-    ensures alone { GainsOnly (AsksSource endpoints.now (zip patterns.now sources.now)) (seen W.tells_log W.log W.graph W.faults wire.old) (seen W.tells_log W.log W.graph W.faults wire.new) result }
+    ensures alone { GainsOnly (AreSent endpoints.now (row_questions patterns.now sources.now)) (seen W.tells_log W.log W.graph W.faults wire.old) (seen W.tells_log W.log W.graph W.faults wire.new) result }
     ensures after { IsAfter (seen W.tells_log W.log W.graph W.faults wire.old) (seen W.tells_log W.log W.graph W.faults wire.new) }
 {
     if lacks_one(sources) {

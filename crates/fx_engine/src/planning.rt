@@ -6,7 +6,7 @@ ghost use Rattle.fx_sources.specs.Probes.{chosen, missing as missing_probes, tol
 ghost use Rattle.fx_sources.specs.Sources as source;
 ghost use Rattle.fx_wire.specs.Exchanges.{IsAfter, seen};
 ghost use Rattle.fx_engine.specs.Federation.{AsksNothing, Learns, Tells};
-ghost use Rattle.fx_engine.specs.Planning.{Plans};
+ghost use Rattle.fx_engine.specs.Planning.{IsByAnswers, Plans};
 ghost use Rattle.fx_engine.specs.Sections as spec;
 
 use crate::errors::FedError;
@@ -33,6 +33,7 @@ pub fn plan_parts<W: Wire>(
     wire: &mut W,
 ) -> Result<Vec<Part>, FedError>
     ensures parts { Plans (seen W.tells_log W.log W.graph W.faults wire.old) (seen W.tells_log W.log W.graph W.faults wire.new) registry.now query.now cache.old result }
+    ensures by_answers { IfOk result (λ parts. IsByAnswers (seen W.tells_log W.log W.graph W.faults wire.old) (seen W.tells_log W.log W.graph W.faults wire.new) registry.now query.now cache.old cache.new parts.items) }
     ensures within { IfOk result (λ parts. All (HasMembers (length registry.now)) parts.items) }
     ensures learns { Learns AsksNothing (seen W.tells_log W.log W.graph W.faults wire.old) (seen W.tells_log W.log W.graph W.faults wire.new) registry.now query.now cache.old cache.new result }
     ensures tells { (graphs : List (List TripleParts)) → Tells (W.graph wire.old) registry.now graphs → All (source.Tells graphs) cache.old → All (source.Tells graphs) cache.new }

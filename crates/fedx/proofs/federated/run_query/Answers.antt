@@ -17,7 +17,7 @@ returns-in-Err-clause-reported g c =
     let query = read c.args.query.now in
     let text = registry_line c.in-Err.refusal c.args.registry.now in (
       text,
-      subst (λ (s : Status). IsQueryReported wire wire registry query s text) (sym c.status.ensures) (registry_reported wire wire registry query c.in-Err.refusal c.in-Err.ensures.outcome),
+      subst (λ (s : Status). IsQueryReported wire wire registry query s text) (sym c.status.ensures) (registry_reported wire registry query c.in-Err.refusal c.in-Err.ensures.outcome),
       c.write_registry_refusal.ensures,
     )
 
@@ -30,7 +30,7 @@ returns-in-Err-load_query-clause-reported g c =
     let text = query_line c.in-Err-load_query.refusal c.args.query.now in (
       text,
       subst (λ (s : Status). IsQueryReported wire wire registry query s text) (sym c.status-in-Err-load_query.ensures) (
-          query_reported wire wire registry query _ c.in-Err-load_query.refusal c.in-Ok.ensures.outcome
+          query_reported wire registry query _ c.in-Err-load_query.refusal c.in-Ok.ensures.outcome
           (query_since c.args.query.now _ _ (g.F.Files.faults c.args.files.now c.args.query.now) (g.F.Files.faults c.load_registry.new.files c.args.query.now) (g.F.Files.faults c.load_query.new.files c.args.query.now) (Err c.in-Err-load_query.refusal) (c.load_registry.ensures.same c.args.query.now) (c.load_registry.ensures.kept c.args.query.now) c.in-Err-load_query.ensures.outcome)
           ),
       c.write_query_refusal.ensures,
@@ -43,7 +43,7 @@ returns-then-not-is_plain-clause-reported g c =
     let registry = read c.args.registry.now in
     let query = read c.args.query.now in (
       not_built,
-      other_reported wire wire registry query _ c.in-Ok-load_query.asked c.in-Ok.ensures.outcome
+      other_reported wire registry query _ c.in-Ok-load_query.asked c.in-Ok.ensures.outcome
           (query_since c.args.query.now _ _ (g.F.Files.faults c.args.files.now c.args.query.now) (g.F.Files.faults c.load_registry.new.files c.args.query.now) (g.F.Files.faults c.load_query.new.files c.args.query.now) (Ok c.in-Ok-load_query.asked) (c.load_registry.ensures.same c.args.query.now) (c.load_registry.ensures.kept c.args.query.now) c.in-Ok-load_query.ensures.outcome)
           (sym c.is_plain.ensures ∙ c.if-not-is_plain.true),
       c.write_not_built.ensures,

@@ -3,7 +3,7 @@ use Rattle.fedx.specs.declared.statuses.Status.{Status}
 use Rattle.fedx.specs.Files.{file_read}
 use Rattle.fedx.specs.Local.{IsReported}
 use Rattle.fedx.specs.LocalSteps.{refusal_line}
-use Rattle.fedx.proofs.ReportLemmas.{reported, lines_reported, document_written}
+use Rattle.fedx.proofs.ReportLemmas.{cut_short, reported, lines_reported, document_written}
 use Rattle.fedx.proofs.running.run_local.Goals as goal
 
 pub returns-in-Err-clause-reported : goal.returns-in-Err-clause-reported
@@ -29,3 +29,8 @@ pub returns-in-Ok-clause-written : goal.returns-in-Ok-clause-written
 returns-in-Ok-clause-written g c =
     let read = file_read g.F.Files.content g.F.Files.faults c.args.files.now c.local.new.files in
     λ told. document_written (read c.args.graph.now) (read c.args.query.now) c.in-Ok.report c.write_report.result _ _ c.in-Ok.ensures.outcome (c.write_report.ensures.written told)
+
+pub returns-in-Ok-clause-write_fault : goal.returns-in-Ok-clause-write_fault
+returns-in-Ok-clause-write_fault g c =
+    let read = file_read g.F.Files.content g.F.Files.faults c.args.files.now c.local.new.files in
+    λ is. cut_short (read c.args.graph.now) (read c.args.query.now) c.in-Ok.report _ _ c.in-Ok.ensures.outcome (c.write_report.ensures.write_fault is)

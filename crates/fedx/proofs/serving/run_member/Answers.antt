@@ -12,6 +12,6 @@ returns-in-Err-clause-reported g c =
     let seen = door_seen g.D.Door.tells g.D.Door.started g.D.Door.inputs g.D.Door.outputs g.D.Door.faults c.args.door.now in
     let text = graph_line c.in-Err.refusal c.args.graph.now in (
       text,
-      subst (λ (s : Status). IsMemberReported read seen seen c.args.address.now c.args.count s text) (sym c.status.ensures) (no_graph_reported read seen seen c.args.address.now c.args.count c.in-Err.refusal c.in-Err.ensures.outcome),
+      subst (λ (s : Status). IsMemberReported read seen seen c.args.address.now c.args.count s text) (sym c.status.ensures) (no_graph_reported read seen c.args.address.now c.args.count c.in-Err.refusal c.in-Err.ensures.outcome),
       c.write_graph_refusal.ensures,
     )

@@ -4,7 +4,7 @@ use Rattle.fx_wire.specs.Exchanges.{exchanged, seen}
 use Rattle.fx_engine.specs.Tables.{ReadsTable}
 use Rattle.fx_engine.specs.ReplyChecks.{table_of, HasFault, GivesTable}
 use Rattle.fx_engine.specs.declared.errors.TableError.{TableError}
-use Rattle.fx_engine.specs.Federation.{IsPosted}
+use Rattle.fx_engine.specs.Federation.{IsPostedOnce}
 use Rattle.fx_engine.proofs.AskLemmas.{rows_are, bad_rows}
 use Rattle.fx_engine.proofs.GainLemmas.{gained_one}
 use Rattle.fx_engine.proofs.asking.ask.Goals as goal
@@ -22,6 +22,7 @@ returns-in-Ok-read_table-clause-rows g c =
 
 pub returns-in-Err-Bad-clause-rows : goal.returns-in-Err-Bad-clause-rows
 returns-in-Err-Bad-clause-rows g c =
+    λ p asked.
     let request = c.as_slice.result.now in
     let text = c.args.text.now in
     let columns = c.args.columns.now in
@@ -34,7 +35,7 @@ returns-in-Err-Bad-clause-rows g c =
       exchange = exchanged c.args.at.now request reply;
       at = refl;
       bad =
-          bad_rows (g.W.Wire.graph c.args.wire.now c.args.at.now.iri) c.args.at.now request text reply columns c.requires.asked.0 c.in-Err-Bad.why c.in-Ok-exchange.ensures.honest whole (c.as_slice.ensures.value ∙ c.in-Ok.ensures.exact) short c.requires.asked.1
+          bad_rows (g.W.Wire.graph c.args.wire.now c.args.at.now.iri) c.args.at.now request text reply columns p c.in-Err-Bad.why c.in-Ok-exchange.ensures.honest whole (c.as_slice.ensures.value ∙ c.in-Ok.ensures.exact) short asked
           (subst (λ (r : List ℕ). HasFault r (table_of columns) c.in-Err-Bad.why) c.as_slice-in-Ok-exchange.ensures.value fault);
       logged = λ told. ([], c.in-Ok-exchange.ensures.logged told);
     }
@@ -42,6 +43,6 @@ returns-in-Err-Bad-clause-rows g c =
 pub returns-in-Ok-read_table-clause-alone : goal.returns-in-Ok-read_table-clause-alone
 returns-in-Ok-read_table-clause-alone g c =
     let see = seen g.W.Wire.tells_log g.W.Wire.log g.W.Wire.graph g.W.Wire.faults in
-    gained_one (IsPosted c.args.at.now c.args.text.now) (see c.args.wire.now) (see c.exchange.new.self) (exchanged c.args.at.now c.as_slice.result.now c.in-Ok-exchange.reply.items)
-    (refl, c.as_slice.ensures.value ∙ c.in-Ok.ensures.exact)
+    gained_one (IsPostedOnce c.args.at.now c.args.text.now) (see c.args.wire.now) (see c.exchange.new.self) (exchanged c.args.at.now c.as_slice.result.now c.in-Ok-exchange.reply.items)
+    (exchanged c.args.at.now c.as_slice.result.now c.in-Ok-exchange.reply.items, refl, refl, c.as_slice.ensures.value ∙ c.in-Ok.ensures.exact)
     c.in-Ok-exchange.ensures.logged

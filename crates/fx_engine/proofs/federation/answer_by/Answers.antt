@@ -1,4 +1,4 @@
-use Rattle.std.proofs.Common.{◌≡◌, ◌∙◌, ◌++◌, ap, sym, subst, ℕ, List, map, length}
+use Rattle.std.proofs.Common.{◌≡◌, ◌∙◌, ◌++◌, ap, sym, subst, refl, ℕ, List, map, length}
 use Rattle.std.specs.Prelude.{All}
 use Rattle.std.specs.List.{zip}
 use Rattle.fx_terms.specs.declared.patterns.Pattern.{Pattern}
@@ -13,11 +13,25 @@ use Rattle.fx_sources.specs.Sources as source
 use Rattle.fx_sources.specs.declared.probes.Probe.{Probe}
 use Rattle.fx_sources.proofs.SourceLemmas.{chooses}
 use Rattle.fx_wire.specs.Exchanges.{seen}
-use Rattle.fx_engine.specs.Federation.{AsksSource, Gained, Tells}
+use Rattle.fx_engine.specs.Federation.{AreSent, row_questions, Gained, IsRefused, OfPatterns, OfSources, Tells}
+use Rattle.fx_engine.proofs.GatherLemmas.{after_itself, refused_later}
+use Rattle.fx_engine.proofs.QuestionLemmas.{of_patterns}
 use Rattle.fx_engine.proofs.FederationLemmas.{answer_from}
 use Rattle.fx_engine.proofs.LearnLemmas.{plain_patterns}
 use Rattle.fx_engine.proofs.SourceLemmas.{as_many}
 use Rattle.fx_engine.proofs.federation.answer_by.Goals as goal
+
+pub returns-in-Err-clause-answer : goal.returns-in-Err-clause-answer
+returns-in-Err-clause-answer g c =
+    let see = seen g.W.Wire.tells_log g.W.Wire.log g.W.Wire.graph g.W.Wire.faults in
+    let q = c.args.query.now in
+    let s = see c.args.wire.now in
+    let u = see c.join_all.new.wire in
+    let ps = c.as_slice.result.now in
+    let ms = c.as_slice-2.result.now in
+    let own : ps ≡ patterns q = c.as_slice.ensures.value ∙ c.in-Ok-patterns.ensures in
+    refused_later (OfSources (zip ps ms)) (λ at. OfPatterns q) (of_patterns q ps ms own) s s u c.args.registry.now c.in-Err.error refl (after_itself s)
+    (subst (λ (es : List EndpointParts). IsRefused (OfSources (zip ps ms)) s u es c.in-Err.error) c.endpoints.ensures.value c.in-Err.ensures.rows)
 
 pub returns-in-Ok-answer_of_rows-clause-answer : goal.returns-in-Ok-answer_of_rows-clause-answer
 returns-in-Ok-answer_of_rows-clause-answer g c =
@@ -49,6 +63,6 @@ returns-in-Ok-answer_of_rows-clause-alone g c =
     let s = see c.args.wire.now in
     let u = see c.join_all.new.wire in
     let q = c.args.query.now in
-    subst (λ (ms : List (List ℕ)). Gained (AsksSource c.args.registry.now (zip (patterns q) ms)) s u) (c.as_slice-2.ensures ∙ c.in-Ok.ensures.chosen)
-    (subst (λ (ps : List Pattern). Gained (AsksSource c.args.registry.now (zip ps c.as_slice-2.result.now)) s u) (c.as_slice.ensures.value ∙ c.in-Ok-patterns.ensures)
-    (subst (λ (es : List EndpointParts). Gained (AsksSource es (zip c.as_slice.result.now c.as_slice-2.result.now)) s u) c.endpoints.ensures.value c.in-Ok-join_all.ensures.alone))
+    subst (λ (ms : List (List ℕ)). Gained (AreSent c.args.registry.now (row_questions (patterns q) ms)) s u) (c.as_slice-2.ensures ∙ c.in-Ok.ensures.chosen)
+    (subst (λ (ps : List Pattern). Gained (AreSent c.args.registry.now (row_questions ps c.as_slice-2.result.now)) s u) (c.as_slice.ensures.value ∙ c.in-Ok-patterns.ensures)
+    (subst (λ (es : List EndpointParts). Gained (AreSent es (row_questions c.as_slice.result.now c.as_slice-2.result.now)) s u) c.endpoints.ensures.value c.in-Ok-join_all.ensures.alone))

@@ -1,4 +1,4 @@
-use Rattle.std.proofs.Common.{◌≡◌, ◌∙◌, ◌++◌, ap, sym, subst, refl, List, length, Bool, Ok, Err}
+use Rattle.std.proofs.Common.{◌≡◌, ◌∙◌, ◌++◌, ap, sym, subst, refl, List, length, Bool, Ok, Err, inl, inr}
 use Rattle.std.specs.Prelude.{All, Contains, ◌⊎◌}
 use Rattle.std.specs.List.{zip}
 use Rattle.fx_outside.specs.Endpoints.{EndpointParts}
@@ -9,7 +9,8 @@ use Rattle.fx_sources.specs.Patterns.{patterns}
 use Rattle.fx_sources.specs.Probes.{chosen, learned, missing, told as told_by}
 use Rattle.fx_sources.specs.declared.probes.Probe.{Probe}
 use Rattle.fx_engine.specs.declared.errors.FedError.TheVariants.{Memory}
-use Rattle.fx_engine.specs.Federation.{AsksSource, AsksSources, Gained, Tells, TellsFits}
+use Rattle.fx_engine.proofs.QuestionLemmas.{of_missing}
+use Rattle.fx_engine.specs.Federation.{IsRefused, OfPatterns, OfProbes, OfQuery, AreSent, AsksSources, row_questions, Gained, Tells, TellsFits}
 use Rattle.fx_engine.proofs.GatherLemmas.{after_itself, after_both, refused_later, tells_same}
 use Rattle.fx_engine.proofs.LearnLemmas.{answers_tell, as_many_truths, kept_all, kept_so, learned_so, not_learned, tells_again}
 use Rattle.fx_engine.proofs.federation.federate.Goals as goal
@@ -18,6 +19,18 @@ pub returns-in_default-clause-learns : goal.returns-in_default-clause-learns
 returns-in_default-clause-learns g c =
     let see = seen g.W.Wire.tells_log g.W.Wire.log g.W.Wire.graph g.W.Wire.faults in
     kept_all (see c.args.wire.now) (see c.args.wire.now) c.args.registry.now c.args.query.now c.args.cache.now (after_itself (see c.args.wire.now))
+
+pub returns-in-Err-clause-answer : goal.returns-in-Err-clause-answer
+returns-in-Err-clause-answer g c =
+    let see = seen g.W.Wire.tells_log g.W.Wire.log g.W.Wire.graph g.W.Wire.faults in
+    let q = c.args.query.now in
+    let n = length c.args.registry.now in
+    let old = c.args.cache.now in
+    let s = see c.args.wire.now in
+    let u = see c.ask_all.new.wire in
+    let ps = c.as_slice.result.now in
+    refused_later (OfProbes ps) (OfQuery q n old) (λ at question h. inl (of_missing q n old ps (c.as_slice.ensures.value ∙ c.in-Ok.ensures.probes) at question h)) s s u c.args.registry.now c.in-Err.error refl (after_itself s)
+    (subst (λ (es : List EndpointParts). IsRefused (OfProbes ps) s u es c.in-Err.error) c.endpoints.ensures.value c.in-Err.ensures.answers)
 
 pub returns-in-Err-clause-learns : goal.returns-in-Err-clause-learns
 returns-in-Err-clause-learns g c =
@@ -34,7 +47,10 @@ answer_by-requires-clause-lengths g c =
 pub returns-in-Err-answer_by-clause-answer : goal.returns-in-Err-answer_by-clause-answer
 returns-in-Err-answer_by-clause-answer g c =
     let see = seen g.W.Wire.tells_log g.W.Wire.log g.W.Wire.graph g.W.Wire.faults in
-    refused_later (see c.args.wire.now) (see c.ask_all.new.wire) (see c.answer_by.new.wire) c.args.registry.now c.in-Err-answer_by.error refl c.in-Ok-ask_all.ensures.after c.in-Err-answer_by.ensures.answer
+    let q = c.args.query.now in
+    let n = length c.args.registry.now in
+    let old = c.args.cache.now in
+    refused_later (λ at. OfPatterns q) (OfQuery q n old) (λ at question h. inr h) (see c.args.wire.now) (see c.ask_all.new.wire) (see c.answer_by.new.wire) c.args.registry.now c.in-Err-answer_by.error refl c.in-Ok-ask_all.ensures.after c.in-Err-answer_by.ensures.answer
 
 pub returns-in-Err-answer_by-clause-learns : goal.returns-in-Err-answer_by-clause-learns
 returns-in-Err-answer_by-clause-learns g c =
@@ -78,9 +94,9 @@ returns-in-Ok-learn-clause-learns g c =
     subst (λ (v : List Probe). TellsFits s t es v truths) c.as_slice.ensures.value
     (subst (λ (v : List EndpointParts). TellsFits s t v c.as_slice.result.now truths) c.endpoints.ensures.value c.in-Ok-ask_all.ensures.answers) in
     let probes : c.as_slice-in-Ok-ask_all.result.now ≡ missing q (length es) old = c.as_slice-in-Ok-ask_all.ensures.value ∙ c.in-Ok.ensures.probes in
-    let alone : Gained (AsksSource es (zip (patterns q) (chosen q (length es) (told_by (missing q (length es) old) truths ++ old)))) t (see c.answer_by.new.wire) =
-    subst (λ (v : List Bool). Gained (AsksSource es (zip (patterns q) (chosen q (length es) (told_by (missing q (length es) old) v ++ old)))) t (see c.answer_by.new.wire)) c.as_slice-in-Ok-ask_all-2.ensures.value
-    (subst (λ (v : List Probe). Gained (AsksSource es (zip (patterns q) (chosen q (length es) (told_by v c.as_slice-in-Ok-ask_all-2.result.now ++ old)))) t (see c.answer_by.new.wire)) probes c.in-Ok-answer_by.ensures.alone) in
+    let alone : Gained (AreSent es (row_questions (patterns q) (chosen q (length es) (told_by (missing q (length es) old) truths ++ old)))) t (see c.answer_by.new.wire) =
+    subst (λ (v : List Bool). Gained (AreSent es (row_questions (patterns q) (chosen q (length es) (told_by (missing q (length es) old) v ++ old)))) t (see c.answer_by.new.wire)) c.as_slice-in-Ok-ask_all-2.ensures.value
+    (subst (λ (v : List Probe). Gained (AreSent es (row_questions (patterns q) (chosen q (length es) (told_by v c.as_slice-in-Ok-ask_all-2.result.now ++ old)))) t (see c.answer_by.new.wire)) probes c.in-Ok-answer_by.ensures.alone) in
     learned_so (AsksSources es q old) s t (see c.answer_by.new.wire) es q old c.learn.new.self c.in-Ok.probes.items truths refl told alone c.in-Ok.ensures.probes
     (c.in-Ok-learn.ensures.learned ∙ ap (learned old c.in-Ok.probes.items) c.as_slice-in-Ok-answer_by.ensures.value)
 

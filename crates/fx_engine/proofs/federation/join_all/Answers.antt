@@ -1,6 +1,6 @@
-use Rattle.std.proofs.Common.{◌≡◌, ◌∙◌, ◌+◌, ◌++◌, ◌∷◌, [], ap, sym, subst, refl, rules, ℕ, List, take, IsPermutation, Some}
+use Rattle.std.proofs.Common.{◌≡◌, ◌∙◌, ◌+◌, ◌++◌, ◌∷◌, [], ap, sym, subst, refl, rules, ℕ, List, take, IsPermutation, Some, arith}
 use Rattle.std.specs.Prelude.{Contains, slice_get}
-use Rattle.std.specs.List.{zip}
+use Rattle.std.specs.List.{flat_map, zip}
 use Rattle.std.proofs.lemmas.List.{take_more}
 use Rattle.std.proofs.lemmas.Option.{slice_get_read}
 use Rattle.fx_terms.specs.Graphs.{union}
@@ -10,11 +10,15 @@ use Rattle.fx_algebra.specs.Operators.{join}
 use Rattle.fx_algebra.specs.Solutions.{Bindings, SameRows}
 use Rattle.fx_wire.specs.Exchanges.{seen}
 use Rattle.fx_engine.proofs.GatherLemmas.{after_both, refused_later, tells_same}
-use Rattle.fx_engine.specs.Federation.{AsksSource}
+use Rattle.fx_engine.specs.Federation.{Question, AreSent, OfSources, row_questions, source_questions}
+use Rattle.fx_engine.proofs.QuestionLemmas.{of_sources, stands_beside}
 use Rattle.fx_engine.proofs.FederationLemmas.{joined_more}
-use Rattle.fx_engine.proofs.GainLemmas.{asks_among, gained_as, gained_both, gained_none, stands_beside}
+use Rattle.fx_engine.proofs.GainLemmas.{gained_as, gained_both, gained_none, sent_all, sent_none, sent_pattern}
 use Rattle.fx_engine.proofs.SourceLemmas.{members_at, none_of_all}
 use Rattle.fx_engine.proofs.federation.join_all.Goals as goal
+
+abbrev questions_of : List (Pattern × List ℕ) → List (ℕ × Question)
+questions_of asked = flat_map (λ a. source_questions a.0 a.1) asked
 
 pub returns-then-lacks_one-clause-rows : goal.returns-then-lacks_one-clause-rows
 returns-then-lacks_one-clause-rows g c =
@@ -26,7 +30,15 @@ returns-then-lacks_one-clause-rows g c =
 pub returns-in-Err-clause-rows : goal.returns-in-Err-clause-rows
 returns-in-Err-clause-rows g c =
     let see = seen g.W.Wire.tells_log g.W.Wire.log g.W.Wire.graph g.W.Wire.faults in
-    refused_later (see c.args.wire.now) (see c.loop-at.wire) (see c.gather.new.wire) c.args.endpoints.now c.in-Err.error refl c.loop-at.invariant.after c.in-Err.ensures.rows
+    let ps = c.args.patterns.now in
+    let ss = c.args.sources.now in
+    let at = c.loop-at.at in
+    let p = c.index-patterns-at.result in
+    let ms = c.as_slice.result.now in
+    let stands : slice_get ps at ≡ Some p = search (rules, slice_get_read) in
+    let chosen : slice_get ss at ≡ Some c.index-sources-at.result = search (rules, slice_get_read) in
+    let there : Contains (zip ps ss) (p, ms) = stands_beside ps ss at p ms stands (chosen ∙ ap Some (sym c.as_slice.ensures)) in
+    refused_later (OfSources ((p, ms) ∷ [])) (OfSources (zip ps ss)) (of_sources (zip ps ss) (p, ms) there) (see c.args.wire.now) (see c.loop-at.wire) (see c.gather.new.wire) c.args.endpoints.now c.in-Err.error refl c.loop-at.invariant.after c.in-Err.ensures.rows
 
 pub loop-at-preserved : goal.loop-at-preserved
 loop-at-preserved g c =
@@ -43,9 +55,8 @@ loop-at-preserved g c =
           let ss = c.args.sources.now in
           let es = c.args.endpoints.now in
           let ms = c.as_slice.result.now in
-          let there : Contains (zip ps ss) (p, ms) = stands_beside ps ss at p ms stands (chosen ∙ ap Some (sym c.as_slice.ensures)) in
-          gained_both (AsksSource es (zip ps ss)) (see c.args.wire.now) (see c.loop-at.wire) (see c.gather.new.wire) refl c.loop-at.invariant.alone
-          (gained_as (AsksSource es ((p, ms) ∷ [])) (AsksSource es (zip ps ss)) (see c.loop-at.wire) (see c.gather.new.wire) (asks_among es (zip ps ss) (p, ms) there) c.in-Ok-gather.ensures.alone);
+          gained_both (AreSent es (questions_of (take at (zip ps ss)))) (AreSent es (source_questions p ms)) (AreSent es (questions_of (take (at + 1) (zip ps ss))))
+          (sent_pattern es ps ss at (at + 1) p ms stands (chosen ∙ ap Some (sym c.as_slice.ensures)) (omega arith)) (see c.args.wire.now) (see c.loop-at.wire) (see c.gather.new.wire) refl c.loop-at.invariant.alone c.in-Ok-gather.ensures.alone;
       rows = λ graphs t m.
           let u = union graphs in
           let found = c.in-Ok-gather.found.items in
@@ -60,4 +71,16 @@ loop-at-preserved g c =
 
 pub returns-then-lacks_one-clause-alone : goal.returns-then-lacks_one-clause-alone
 returns-then-lacks_one-clause-alone g c =
-    gained_none (AsksSource c.args.endpoints.now (zip c.args.patterns.now c.args.sources.now)) (seen g.W.Wire.tells_log g.W.Wire.log g.W.Wire.graph g.W.Wire.faults c.args.wire.now)
+    let es = c.args.endpoints.now in
+    let ps = c.args.patterns.now in
+    let ss = c.args.sources.now in
+    gained_none (AreSent es (row_questions ps ss)) (seen g.W.Wire.tells_log g.W.Wire.log g.W.Wire.graph g.W.Wire.faults c.args.wire.now) (sent_none es ps ss (sym c.lacks_one.ensures ∙ c.if-lacks_one.true))
+
+pub returns-clause-alone : goal.returns-clause-alone
+returns-clause-alone g c =
+    let see = seen g.W.Wire.tells_log g.W.Wire.log g.W.Wire.graph g.W.Wire.faults in
+    let es = c.args.endpoints.now in
+    let ps = c.args.patterns.now in
+    let ss = c.args.sources.now in
+    let at = c.loop-at.at in
+    gained_as (AreSent es (questions_of (take at (zip ps ss)))) (AreSent es (row_questions ps ss)) (sent_all es ps ss at (omega arith) (sym c.lacks_one.ensures ∙ c.if-lacks_one.false)) (see c.args.wire.now) (see c.loop-at.wire) c.loop-at.invariant.alone

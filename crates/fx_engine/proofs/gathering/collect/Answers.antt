@@ -1,4 +1,4 @@
-use Rattle.std.proofs.Common.{◌≡◌, ◌∙◌, ◌+◌, ◌++◌, ◌∷◌, [], ap, sym, subst, refl, rules, ℕ, List, map, take, get_or, Some, arith}
+use Rattle.std.proofs.Common.{◌≡◌, ◌∙◌, ◌+◌, ◌++◌, ◌∷◌, [], ap, sym, subst, refl, rules, ℕ, List, map, take, get_or, Some, arith, inl}
 use Rattle.std.specs.Prelude.{reverse, slice_get}
 use Rattle.std.proofs.lemmas.List.{take_more, take_all}
 use Rattle.std.proofs.lemmas.Option.{slice_get_read}
@@ -6,22 +6,27 @@ use Rattle.fx_terms.specs.declared.triples.Triple.{Triple}
 use Rattle.fx_wire.specs.Exchanges.{seen}
 use Rattle.fx_sources.specs.Sources.{graph_of}
 use Rattle.std.proofs.lemmas.List.Elements.{Contains-get_or}
-use Rattle.fx_engine.specs.Federation.{IsRefused, AreRowsOf, AsksMember, IsPosted}
-use Rattle.fx_engine.proofs.GainLemmas.{gained_as, gained_both}
+use Rattle.fx_terms.proofs.SetLemmas.{contains_from}
+use Rattle.fx_engine.specs.Federation.{rows_of, OfSources, IsRefused, AreRowsOf, AreSent, Gained, IsPostedOnce, member_questions}
+use Rattle.fx_engine.proofs.GainLemmas.{gained_both, sent_next}
 use Rattle.fx_engine.proofs.GatherLemmas.{after_both, refused_later, refused_at, more_rows}
 use Rattle.fx_engine.proofs.SourceLemmas.{graph_at, map_both}
 use Rattle.fx_engine.proofs.gathering.collect.Goals as goal
 
 pub returns-in-Err-clause-rows : goal.returns-in-Err-clause-rows
 returns-in-Err-clause-rows g c =
+    λ p asked.
     let see = seen g.W.Wire.tells_log g.W.Wire.log g.W.Wire.graph g.W.Wire.faults in
     let es = c.args.endpoints.now in
-    let at = get_or c.args.members.now c.loop-member.member-index 0 in
+    let ms = c.args.members.now in
+    let at = get_or ms c.loop-member.member-index 0 in
     let e = c.index-endpoints-at.result in
     let stands : slice_get es at ≡ Some e = search (rules, slice_get_read) in
-    subst (IsRefused (see c.args.wire.now) (see c.ask.new.wire) es) (sym c.of.ensures)
-    (refused_later (see c.args.wire.now) (see c.loop-member.wire) (see c.ask.new.wire) es _ refl c.loop-member.invariant.after
-    (refused_at (see c.loop-member.wire) (see c.ask.new.wire) es at e c.args.columns.now c.args.text.now c.in-Err.error stands c.in-Err.ensures.rows))
+    let Asks = OfSources ((p, ms) ∷ []) in
+    let own : Asks at (rows_of p) = (p, ms, contains_from ((p, ms) ∷ []) (p, ms) (inl refl), Contains-get_or ms c.loop-member.member-index 0 c.loop-member-test.true, refl) in
+    subst (IsRefused Asks (see c.args.wire.now) (see c.ask.new.wire) es) (sym c.of.ensures)
+    (refused_later Asks Asks (λ number question h. h) (see c.args.wire.now) (see c.loop-member.wire) (see c.ask.new.wire) es _ refl c.loop-member.invariant.after
+    (refused_at Asks (see c.loop-member.wire) (see c.ask.new.wire) es at e (rows_of p) c.in-Err.error own stands (c.in-Err.ensures.rows p asked)))
 
 pub loop-member-preserved : goal.loop-member-preserved
 loop-member-preserved g c =
@@ -37,8 +42,9 @@ loop-member-preserved g c =
     record {
       after = after_both (see c.args.wire.now) (see c.loop-member.wire) (see c.ask.new.wire) refl c.loop-member.invariant.after c.in-Ok.ensures.after;
       alone =
-          gained_both (AsksMember es ms c.args.text.now) (see c.args.wire.now) (see c.loop-member.wire) (see c.ask.new.wire) refl c.loop-member.invariant.alone
-          (gained_as (IsPosted e c.args.text.now) (AsksMember es ms c.args.text.now) (see c.loop-member.wire) (see c.ask.new.wire) (λ x h. (at, Contains-get_or ms k 0 c.loop-member-test.true, stands ∙ ap Some (sym h.0), h.1)) c.in-Ok.ensures.alone);
+          λ p a.
+          gained_both (AreSent es (member_questions p (take k ms))) (IsPostedOnce e c.args.text.now) (AreSent es (member_questions p (take (k + 1) ms)))
+          (sent_next es (take k ms) (take (k + 1) ms) at e p c.args.columns.now c.args.text.now stands a more) (see c.args.wire.now) (see c.loop-member.wire) (see c.ask.new.wire) refl (c.loop-member.invariant.alone p a) c.in-Ok.ensures.alone;
       rows = λ p graphs a t.
           let all = c.loop-member.all.items ++ reverse c.in-Ok.rows in
           let whole : map (graph_of graphs) (take (k + 1) ms) ≡ map (graph_of graphs) (take k ms) ++ graph_of graphs at ∷ [] = ap (map (graph_of graphs)) more ∙ map_both (graph_of graphs) (take k ms) (at ∷ []) in
@@ -54,3 +60,10 @@ returns-clause-rows g c =
     λ p graphs a t.
     let whole : take c.loop-member.member-index c.args.members.now ≡ c.args.members.now = take_all c.loop-member.member-index c.args.members.now (omega arith) in
     subst (λ (v : List ℕ). AreRowsOf (map (graph_of graphs) v) p c.loop-member.all.items) whole (c.loop-member.invariant.rows p graphs a t)
+
+pub returns-clause-alone : goal.returns-clause-alone
+returns-clause-alone g c =
+    λ p a.
+    let see = seen g.W.Wire.tells_log g.W.Wire.log g.W.Wire.graph g.W.Wire.faults in
+    let whole : take c.loop-member.member-index c.args.members.now ≡ c.args.members.now = take_all c.loop-member.member-index c.args.members.now (omega arith) in
+    subst (λ (v : List ℕ). Gained (AreSent c.args.endpoints.now (member_questions p v)) (see c.args.wire.now) (see c.loop-member.wire)) whole (c.loop-member.invariant.alone p a)

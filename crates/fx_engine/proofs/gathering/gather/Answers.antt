@@ -1,4 +1,4 @@
-use Rattle.std.proofs.Common.{◌≡◌, ◌∙◌, sym, subst, List, [], ◌∷◌, ℕ, map, rules}
+use Rattle.std.proofs.Common.{◌≡◌, ◌∙◌, sym, subst, List, [], ℕ, map, rules}
 use Rattle.std.proofs.lemmas.List.Sorted.{IsPermutation-refl}
 use Rattle.fx_terms.specs.Graphs.{union}
 use Rattle.fx_algebra.specs.Solutions.{Bindings, SameRows}
@@ -7,9 +7,9 @@ use Rattle.fx_syntax.specs.Accepted.{Accepted}
 use Rattle.fx_syntax.specs.Printable.{pattern_query}
 use Rattle.fx_syntax.proofs.printing.PatternQuery.{pattern_query_is_accepted}
 use Rattle.fx_wire.specs.Exchanges.{seen}
-use Rattle.fx_engine.specs.Federation.{AreRowsOf, AsksMember, AsksSource}
+use Rattle.fx_engine.specs.Federation.{AreRowsOf, AreSent, member_questions, source_questions}
 use Rattle.fx_engine.specs.MemberQueries.{IsAsked}
-use Rattle.fx_engine.proofs.GainLemmas.{asks_source, gained_as, gained_none}
+use Rattle.fx_engine.proofs.GainLemmas.{gained_as, gained_none, sent_literal, sent_sources}
 use Rattle.fx_engine.proofs.GatherLemmas.{gathered}
 use Rattle.fx_engine.proofs.PatternLemmas.{no_rows}
 use Rattle.fx_engine.proofs.SourceLemmas.{rows_of_sources}
@@ -28,15 +28,27 @@ collect-requires-clause-asked g c =
       p,
       record {
         named = c.as_slice.ensures.value ∙ c.in-Ok.ensures;
+        printed = c.as_str.ensures.value ∙ c.in-Ok-text_of.ensures;
         accepted = subst (λ (text : List ℕ). Accepted text (pattern_query p)) (sym (c.as_str.ensures.value ∙ c.in-Ok-text_of.ensures)) (pattern_query_is_accepted p c.known_pattern.ensures);
       },
     )
+
+pub returns-in-Err-clause-rows : goal.returns-in-Err-clause-rows
+returns-in-Err-clause-rows g c =
+    let p = c.args.pattern.now in
+    c.in-Err.ensures.rows p
+    (record {
+      named = c.as_slice.ensures.value ∙ c.in-Ok.ensures;
+      printed = c.as_str.ensures.value ∙ c.in-Ok-text_of.ensures;
+      accepted = subst (λ (text : List ℕ). Accepted text (pattern_query p)) (sym (c.as_str.ensures.value ∙ c.in-Ok-text_of.ensures)) (pattern_query_is_accepted p c.known_pattern.ensures);
+    })
 
 pub returns-in-Ok-each_once-clause-rows : goal.returns-in-Ok-each_once-clause-rows
 returns-in-Ok-each_once-clause-rows g c =
     let p = c.args.pattern.now in
     let asked : IsAsked p c.as_slice.result.now c.as_str.result.now = record {
       named = c.as_slice.ensures.value ∙ c.in-Ok.ensures;
+      printed = c.as_str.ensures.value ∙ c.in-Ok-text_of.ensures;
       accepted = subst (λ (text : List ℕ). Accepted text (pattern_query p)) (sym (c.as_str.ensures.value ∙ c.in-Ok-text_of.ensures)) (pattern_query_is_accepted p c.known_pattern.ensures);
     } in
     λ graphs t m.
@@ -48,7 +60,10 @@ returns-in-Ok-each_once-clause-rows g c =
 
 pub returns-then-is_literal-clause-alone : goal.returns-then-is_literal-clause-alone
 returns-then-is_literal-clause-alone g c =
-    gained_none (AsksSource c.args.endpoints.now ((c.args.pattern.now, c.args.members.now) ∷ [])) (seen g.W.Wire.tells_log g.W.Wire.log g.W.Wire.graph g.W.Wire.faults c.args.wire.now)
+    let es = c.args.endpoints.now in
+    let p = c.args.pattern.now in
+    let ms = c.args.members.now in
+    gained_none (AreSent es (source_questions p ms)) (seen g.W.Wire.tells_log g.W.Wire.log g.W.Wire.graph g.W.Wire.faults c.args.wire.now) (sent_literal es p ms (sym c.is_literal.ensures ∙ c.if-is_literal.true))
 
 pub returns-in-Ok-each_once-clause-alone : goal.returns-in-Ok-each_once-clause-alone
 returns-in-Ok-each_once-clause-alone g c =
@@ -56,7 +71,10 @@ returns-in-Ok-each_once-clause-alone g c =
     let es = c.args.endpoints.now in
     let p = c.args.pattern.now in
     let ms = c.args.members.now in
-    let text = c.as_str.result.now in
-    gained_as (AsksMember es ms text) (AsksSource es ((p, ms) ∷ [])) (see c.args.wire.now) (see c.collect.new.wire)
-    (asks_source es p ms text (subst (λ (t : List ℕ). Accepted t (pattern_query p)) (sym (c.as_str.ensures.value ∙ c.in-Ok-text_of.ensures)) (pattern_query_is_accepted p c.known_pattern.ensures)))
-    c.in-Ok-collect.ensures.alone
+    gained_as (AreSent es (member_questions p ms)) (AreSent es (source_questions p ms)) (sent_sources es p ms (sym c.is_literal.ensures ∙ c.if-is_literal.false)) (see c.args.wire.now) (see c.collect.new.wire)
+    (c.in-Ok-collect.ensures.alone p
+    (record {
+      named = c.as_slice.ensures.value ∙ c.in-Ok.ensures;
+      printed = c.as_str.ensures.value ∙ c.in-Ok-text_of.ensures;
+      accepted = subst (λ (text : List ℕ). Accepted text (pattern_query p)) (sym (c.as_str.ensures.value ∙ c.in-Ok-text_of.ensures)) (pattern_query_is_accepted p c.known_pattern.ensures);
+    }))

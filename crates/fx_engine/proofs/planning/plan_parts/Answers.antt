@@ -1,4 +1,4 @@
-use Rattle.std.proofs.Common.{◌∙◌, ap, sym, subst, refl, List, [], length, Bool, Ok, Err, append-nil}
+use Rattle.std.proofs.Common.{◌++◌, ◌∙◌, ap, sym, subst, refl, List, length, Bool, Ok, Err}
 use Rattle.std.specs.Prelude.{All, Contains, ◌⊎◌}
 use Rattle.std.specs.List.{zip}
 use Rattle.std.specs.declared.vec.Vec.{Vec}
@@ -6,20 +6,34 @@ use Rattle.std.specs.declared.alloc.Global.{Global}
 use Rattle.fx_outside.specs.Endpoints.{EndpointParts}
 use Rattle.fx_plan.specs.declared.parts.Part.{Part}
 use Rattle.fx_wire.specs.Exchanges.{seen}
-use Rattle.fx_sources.specs.Probes.{learned}
+use Rattle.fx_sources.specs.Probes.{chosen, learned, told}
 use Rattle.fx_sources.specs.Sources as source
 use Rattle.fx_sources.specs.declared.probes.Probe.{Probe}
 use Rattle.fx_engine.specs.declared.errors.FedError.TheVariants.{Memory}
-use Rattle.fx_engine.specs.Federation.{AsksNothing, Tells, TellsFits}
-use Rattle.fx_engine.proofs.GatherLemmas.{after_itself}
-use Rattle.fx_engine.proofs.LearnLemmas.{answers_tell, as_many_truths, kept_all, kept_so, learned_so, not_learned, tells_again}
-use Rattle.fx_engine.proofs.PlanLemmas.{parts_from}
+use Rattle.fx_engine.specs.Sections.{parts_by, sections}
+use Rattle.fx_engine.specs.Federation.{AsksNothing, IsRefused, OfMissing, OfProbes, Tells, TellsFits}
+use Rattle.fx_engine.proofs.QuestionLemmas.{of_missing}
+use Rattle.fx_engine.proofs.GatherLemmas.{after_itself, refused_later}
+use Rattle.fx_engine.proofs.LearnLemmas.{answers_tell, as_many_truths, kept_all, kept_so, not_learned, tells_again}
+use Rattle.fx_engine.proofs.PlanLemmas.{by_answers, parts_from}
 use Rattle.fx_engine.proofs.planning.plan_parts.Goals as goal
 
 pub returns-in_default-clause-learns : goal.returns-in_default-clause-learns
 returns-in_default-clause-learns g c =
     let see = seen g.W.Wire.tells_log g.W.Wire.log g.W.Wire.graph g.W.Wire.faults in
     kept_all (see c.args.wire.now) (see c.args.wire.now) c.args.registry.now c.args.query.now c.args.cache.now (after_itself (see c.args.wire.now))
+
+pub returns-in-Err-clause-parts : goal.returns-in-Err-clause-parts
+returns-in-Err-clause-parts g c =
+    let see = seen g.W.Wire.tells_log g.W.Wire.log g.W.Wire.graph g.W.Wire.faults in
+    let q = c.args.query.now in
+    let n = length c.args.registry.now in
+    let old = c.args.cache.now in
+    let s = see c.args.wire.now in
+    let u = see c.ask_all.new.wire in
+    let ps = c.as_slice.result.now in
+    refused_later (OfProbes ps) (OfMissing q n old) (of_missing q n old ps (c.as_slice.ensures.value ∙ c.in-Ok.ensures.probes)) s s u c.args.registry.now c.in-Err.error refl (after_itself s)
+    (subst (λ (es : List EndpointParts). IsRefused (OfProbes ps) s u es c.in-Err.error) c.endpoints.ensures.value c.in-Err.ensures.answers)
 
 pub returns-in-Err-clause-learns : goal.returns-in-Err-clause-learns
 returns-in-Err-clause-learns g c =
@@ -65,20 +79,29 @@ returns-in-Ok-learn-clause-parts g c =
     ∙ ap length (sym c.as_slice-in-Ok-ask_all-2.ensures.value))
     held all
 
-pub returns-in-Ok-learn-clause-learns : goal.returns-in-Ok-learn-clause-learns
-returns-in-Ok-learn-clause-learns g c =
+pub returns-in-Ok-learn-clause-by_answers : goal.returns-in-Ok-learn-clause-by_answers
+returns-in-Ok-learn-clause-by_answers g c =
     let see = seen g.W.Wire.tells_log g.W.Wire.log g.W.Wire.graph g.W.Wire.faults in
     let es = c.args.registry.now in
     let q = c.args.query.now in
     let old = c.args.cache.now in
+    let ps = c.in-Ok.probes.items in
     let truths = c.in-Ok-ask_all.truths.items in
     let s = see c.args.wire.now in
     let t = see c.ask_all.new.wire in
-    let told : TellsFits s t es c.in-Ok.probes.items truths =
+    let asked : TellsFits s t es ps truths =
     subst (λ (v : List Probe). TellsFits s t es v truths) c.as_slice.ensures.value
     (subst (λ (v : List EndpointParts). TellsFits s t v c.as_slice.result.now truths) c.endpoints.ensures.value c.in-Ok-ask_all.ensures.answers) in
-    learned_so AsksNothing s t t es q old c.learn.new.self c.in-Ok.probes.items truths refl told (λ says. ([], sym (append-nil t.log), refl)) c.in-Ok.ensures.probes
-    (c.in-Ok-learn.ensures.learned ∙ ap (learned old c.in-Ok.probes.items) c.as_slice-in-Ok-parts_by.ensures.value)
+    by_answers s t es q old c.learn.new.self ps truths c.in-Ok-parts_by.parts.items refl asked c.in-Ok.ensures.probes
+    (c.in-Ok-learn.ensures.learned ∙ ap (learned old ps) c.as_slice-in-Ok-parts_by.ensures.value)
+    (c.in-Ok-parts_by.ensures.parts
+    ∙ ap (λ (v : List Probe). parts_by (sections q) (chosen q (length es) (told v c.as_slice-in-Ok-ask_all-2.result.now ++ old))) c.as_slice-in-Ok-ask_all.ensures.value
+    ∙ ap (λ (v : List Bool). parts_by (sections q) (chosen q (length es) (told ps v ++ old))) c.as_slice-in-Ok-ask_all-2.ensures.value)
+
+pub returns-in-Ok-learn-clause-learns : goal.returns-in-Ok-learn-clause-learns
+returns-in-Ok-learn-clause-learns g c =
+    let known = returns-in-Ok-learn-clause-by_answers g c in
+    known.answers
 
 pub returns-in-Ok-learn-clause-tells : goal.returns-in-Ok-learn-clause-tells
 returns-in-Ok-learn-clause-tells g c =

@@ -2,7 +2,10 @@ use Rattle.std.proofs.Common.{◌≡◌, ◌∙◌, ◌+◌, ◌++◌, ◌∷◌
 use Rattle.std.proofs.lemmas.List.{take_more}
 use Rattle.fx_wire.specs.Exchanges.{seen}
 use Rattle.fx_sources.specs.declared.probes.Probe.{Probe}
-use Rattle.fx_engine.specs.Federation.{TellsFits}
+use Rattle.std.specs.Prelude.{Contains}
+use Rattle.std.proofs.lemmas.List.Elements.{Contains-get_or}
+use Rattle.fx_engine.specs.Federation.{OfProbes, TellsFits}
+use Rattle.fx_engine.proofs.QuestionLemmas.{of_probes}
 use Rattle.fx_engine.proofs.GatherLemmas.{after_both, refused_later}
 use Rattle.fx_engine.proofs.LearnLemmas.{fits_more}
 use Rattle.fx_engine.proofs.selection.ask_all.Goals as goal
@@ -10,7 +13,10 @@ use Rattle.fx_engine.proofs.selection.ask_all.Goals as goal
 pub returns-in-Err-clause-answers : goal.returns-in-Err-clause-answers
 returns-in-Err-clause-answers g c =
     let see = seen g.W.Wire.tells_log g.W.Wire.log g.W.Wire.graph g.W.Wire.faults in
-    refused_later (see c.args.wire.now) (see c.loop-probe.wire) (see c.ask_one.new.wire) c.args.endpoints.now c.in-Err.error refl c.loop-probe.invariant.after c.in-Err.ensures.answer
+    let ps = c.args.probes.now in
+    let p = c.probe-item.result in
+    let there : Contains ps p = subst (Contains ps) (sym c.probe-item.is) (Contains-get_or ps c.loop-probe.probe-index p c.loop-probe-test.true) in
+    refused_later (OfProbes (p ∷ [])) (OfProbes ps) (of_probes ps p there) (see c.args.wire.now) (see c.loop-probe.wire) (see c.ask_one.new.wire) c.args.endpoints.now c.in-Err.error refl c.loop-probe.invariant.after c.in-Err.ensures.answer
 
 pub loop-probe-preserved : goal.loop-probe-preserved
 loop-probe-preserved g c =
