@@ -1,12 +1,11 @@
 -- What a refusal reports is its cause, for `query`.
-use Rattle.std.proofs.Common.{◌≡◌, ◌∙◌, ap, sym, subst, refl, ℕ, ◌≤◌, Bool, false, List, [], Option, Some, None, Ok, Err, length, inl, inr, arith}
+use Rattle.std.proofs.Common.{◌≡◌, ap, subst, refl, ℕ, ◌≤◌, Bool, false, List, [], Option, Some, None, Ok, Err, length, inl, inr, arith}
 use Rattle.std.specs.Prelude.{IfSome, slice_get, Result}
 use Rattle.fx_outside.specs.Endpoints.{EndpointParts}
 use Rattle.fx_algebra.specs.Answers.{is_plain, IsPlain}
 use Rattle.fx_algebra.specs.declared.queries.Query.{Query}
 use Rattle.fx_syntax.specs.Accepted.{Accepted}
-use Rattle.fx_sources.specs.Registries.{read_registry, AnswersRegistry}
-use Rattle.fx_sources.specs.declared.errors.RegistryError.{RegistryError}
+use Rattle.fx_sources.specs.Registries.{read_registry}
 use Rattle.fx_sources.specs.declared.errors.RegistryError.TheVariants as error
 use Rattle.fx_wire.specs.Exchanges.{Exchange, Seen}
 use Rattle.fx_engine.specs.Federation.{AsksSources, IsRefused, OfQuery, Question}
@@ -20,39 +19,12 @@ use Rattle.fedx.specs.declared.refusals.RegistryRefusal.TheVariants as registry
 use Rattle.fedx.specs.declared.statuses.Status.{Status}
 use Rattle.fedx.specs.declared.statuses.Status.TheVariants as status
 use Rattle.fedx.specs.FedRefusals.{fed_status_of, fed_line, name_at, name_of}
-use Rattle.fedx.specs.Files.{FileRead, IsRegistryFile, IsQueryThat, IsMember, IsNoRegistry}
+use Rattle.fedx.specs.Files.{FileRead, IsRegistryFile, IsQueryThat, IsMember}
 use Rattle.fedx.specs.Lines.{not_built, member_failed, bad_reply, request_too_long}
 use Rattle.fedx.specs.LocalSteps.{GivesQuery, query_line}
-use Rattle.fedx.specs.Query.{AsksPlainly, IsOther, IsUnionDocument, IsUnionAnswer, IsUnionAnswerOf, IsQueryReported, IsQueryWritten}
-use Rattle.fedx.specs.QuerySteps.{GivesRegistry, registry_line, IsAskReported, IsAskWritten}
+use Rattle.fedx.specs.Query.{AsksPlainly, IsOther, IsUnionDocument, IsUnionAnswer, IsUnionAnswerOf, IsQueryReported}
+use Rattle.fedx.specs.QuerySteps.{GivesRegistry, registry_line, IsAskReported}
 use Rattle.fedx.specs.RefusalStatuses.{query_status, registry_status}
-
--- ---- the registry
-
--- a text that is refused as a registry
-pub no_registry : (f : FileRead) (bytes text : List ℕ) (e : RegistryError) → IfSome f.content (λ all. (bytes ≡ all) × (length all ≤ REGISTRY_LIMIT)) → text ≡ bytes → AnswersRegistry (Err e) (read_registry text) → GivesRegistry f (Err (registry.Refused e))
-no_registry f bytes text e h same k = by_error e k
-  where
-    told : (e : RegistryError) → read_registry text ≡ Err e → IsNoRegistry f e
-    told e k = pick f.content h
-      where
-        pick : (o : Option (List ℕ)) → IfSome o (λ all. (bytes ≡ all) × (length all ≤ REGISTRY_LIMIT)) → IfSome o (λ all. (length all ≤ REGISTRY_LIMIT) × (read_registry all ≡ Err e))
-        pick None h = tt
-        pick (Some all) h = (h.1, ap read_registry (sym (same ∙ h.0)) ∙ k)
-
-    by_error : (e : RegistryError) → AnswersRegistry (Err e) (read_registry text) → GivesRegistry f (Err (registry.Refused e))
-    by_error (error.Bad n) k = told (error.Bad n) k
-    by_error (error.TooMany n) k = told (error.TooMany n) k
-    by_error (error.RepeatedName n) k = told (error.RepeatedName n) k
-    by_error (error.RepeatedUrl n) k = told (error.RepeatedUrl n) k
-    by_error error.Memory k = tt
-
-pub some_registry : (f : FileRead) (bytes text : List ℕ) (es : List EndpointParts) → IfSome f.content (λ all. (bytes ≡ all) × (length all ≤ REGISTRY_LIMIT)) → text ≡ bytes → read_registry text ≡ Ok es → IfSome f.content (λ all. (length all ≤ REGISTRY_LIMIT) × (read_registry all ≡ Ok es))
-some_registry f bytes text es h same k = pick f.content h
-  where
-    pick : (o : Option (List ℕ)) → IfSome o (λ all. (bytes ≡ all) × (length all ≤ REGISTRY_LIMIT)) → IfSome o (λ all. (length all ≤ REGISTRY_LIMIT) × (read_registry all ≡ Ok es))
-    pick None h = tt
-    pick (Some all) h = (h.1, ap read_registry (sym (same ∙ h.0)) ∙ k)
 
 -- ---- refusals
 
@@ -65,16 +37,6 @@ registry_reported wire r q (registry.Refused (error.RepeatedName n)) h = (error.
 registry_reported wire r q (registry.Refused (error.RepeatedUrl n)) h = (error.RepeatedUrl n, h, refl, refl)
 registry_reported wire r q (registry.Refused error.Memory) h = refl
 registry_reported wire r q registry.Memory h = refl
-
-pub registry_written : (before : Seen) (r q : FileRead) (e : RegistryRefusal) (old new : List ℕ) → new ≡ old → IsQueryWritten before r q (registry_status e) old new
-registry_written before r q registry.Fault old new h = h
-registry_written before r q registry.TooLong old new h = h
-registry_written before r q (registry.Refused (error.Bad n)) old new h = h
-registry_written before r q (registry.Refused (error.TooMany n)) old new h = h
-registry_written before r q (registry.Refused (error.RepeatedName n)) old new h = h
-registry_written before r q (registry.Refused (error.RepeatedUrl n)) old new h = h
-registry_written before r q (registry.Refused error.Memory) old new h = h
-registry_written before r q registry.Memory old new h = h
 
 pub a_registry : (r : FileRead) (es : List EndpointParts) → GivesRegistry r (Ok es) → IsRegistryFile r
 a_registry r es h = pick r.content h
@@ -103,12 +65,6 @@ query_reported wire r q es query.TooLong g h = (inr (a_registry r es g, h, refl)
 query_reported wire r q es (query.Refused kind at) g h = (a_registry r es g, refl, inl (kind, at, h, refl))
 query_reported wire r q es query.Memory g h = refl
 
-pub query_written : (before : Seen) (r q : FileRead) (e : QueryRefusal) (old new : List ℕ) → new ≡ old → IsQueryWritten before r q (query_status e) old new
-query_written before r q query.Fault old new h = h
-query_written before r q query.TooLong old new h = h
-query_written before r q (query.Refused kind at) old new h = h
-query_written before r q query.Memory old new h = h
-
 -- a query that isn't plain
 pub other_reported : (wire : Seen) (r q : FileRead) (es : List EndpointParts) (asked : Query) → GivesRegistry r (Ok es) → GivesQuery q (Ok asked) → is_plain asked ≡ false → IsQueryReported wire wire r q status.QueryRefused not_built
 other_reported wire r q es asked g h p = (a_registry r es g, refl, inr (query_that q asked IsOther p h, refl))
@@ -134,12 +90,6 @@ fed_reported Rest Asks before after es q (fed.Member at) h = (h.2.0, at, h.0, h.
 fed_reported Rest Asks before after es q (fed.BadReply at why) h = (h.2.0, at, h.0, why, h.1, h.2.1, h.2.2, ap (λ n. bad_reply n why) (named es at h.2.0 h.2.1))
 fed_reported Rest Asks before after es q (fed.RequestTooLong at size) h = (h.2.0, at, h.0, size, h.1, h.2.1, h.2.2, ap (λ n. request_too_long n size) (named es at h.2.0 h.2.1))
 fed_reported Rest Asks before after es q fed.Memory h = refl
-
-pub fed_written : (before : Seen) (es : List EndpointParts) (q : Query) (e : FedError) (old new : List ℕ) → new ≡ old → IsAskWritten before es q (fed_status_of e) old new
-fed_written before es q (fed.Member at) old new h = h
-fed_written before es q (fed.BadReply at why) old new h = h
-fed_written before es q (fed.RequestTooLong at size) old new h = h
-fed_written before es q fed.Memory old new h = h
 
 -- ---- the whole
 
@@ -174,19 +124,3 @@ a_union before r q es asked text g h p k = pick r.content g
     pick : (o : Option (List ℕ)) → IfSome o (λ all. (length all ≤ REGISTRY_LIMIT) × (read_registry all ≡ Ok es)) → IfSome o (λ all. IfSome q.content (λ query. IsUnionAnswerOf before all query text))
     pick None g = tt
     pick (Some all) g = both all g.1 q.content h
-
-pub ask_written : (before : Seen) (r q : FileRead) (es : List EndpointParts) (asked : Query) (s : Status) (old new : List ℕ) → GivesRegistry r (Ok es) → GivesQuery q (Ok asked) → IsPlain asked → IsAskWritten before es asked s old new → IsQueryWritten before r q s old new
-ask_written before r q es asked status.Done old new g h p k = (k.0, a_union before r q es asked k.0 g h p k.1, k.2)
-ask_written before r q es asked status.WriteFault old new g h p k = (k.0, a_union before r q es asked k.0 g h p k.1, k.2)
-ask_written before r q es asked status.NoMemory old new g h p k = k
-ask_written before r q es asked status.EndpointFault old new g h p k = k
-ask_written before r q es asked status.BadReply old new g h p k = k
-ask_written before r q es asked status.RequestTooLong old new g h p k = k
-ask_written before r q es asked status.Usage old new g h p k = k
-ask_written before r q es asked status.GraphRefused old new g h p k = k
-ask_written before r q es asked status.RegistryRefused old new g h p k = k
-ask_written before r q es asked status.QueryRefused old new g h p k = k
-ask_written before r q es asked status.UnknownService old new g h p k = k
-ask_written before r q es asked status.DoorFault old new g h p k = k
-ask_written before r q es asked status.ReadFault old new g h p k = k
-ask_written before r q es asked status.FileTooLong old new g h p k = k

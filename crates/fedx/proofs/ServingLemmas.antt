@@ -1,6 +1,6 @@
 -- Connections that were served, one after another.
-use Rattle.std.proofs.Common.{length-append, ◌≡◌, ◌∙◌, ap, sym, subst, ℕ, Bool, suc, ◌+◌, ◌<◌, ◌≤◌, List, [], ◌∷◌, ◌++◌, map, length, append_assoc, append-nil, arith, refl, Some, Option, Result, Ok, Err, inl, inr}
-use Rattle.std.specs.Prelude.{IsTrue, IfSome}
+use Rattle.std.proofs.Common.{length-append, ◌≡◌, ◌∙◌, ap, sym, subst, ℕ, Bool, suc, ◌+◌, ◌<◌, ◌≤◌, List, [], ◌∷◌, ◌++◌, map, length, append_assoc, append-nil, arith, refl, Some, Ok, Err, inl, inr}
+use Rattle.std.specs.Prelude.{◌⊎◌, IsTrue}
 use Rattle.std.specs.List.{All}
 use Rattle.std.proofs.lemmas.List.Elements.{All-append, All-cons, All-nil}
 use Rattle.std.proofs.lemmas.List.{map-append}
@@ -13,7 +13,7 @@ use Rattle.fedx.specs.LocalSteps.{GivesGraph, graph_line}
 use Rattle.fedx.specs.RefusalStatuses.{graph_status}
 use Rattle.fedx.specs.declared.refusals.GraphRefusal.{GraphRefusal}
 use Rattle.fedx.specs.declared.refusals.GraphRefusal.TheVariants as refusal
-use Rattle.fedx.specs.Serving.{DoorSeen, Visit, IsVisit, IsEnded, HasVisits, Serves, ending_line, ending_lines, IsServingReported, IsDone, IsUnwritten, IsCut, IsOneAtMost, IsGraphOf, IsMemberReported}
+use Rattle.fedx.specs.Serving.{DoorSeen, Visit, IsVisit, IsEnded, HasVisits, Serves, ending_line, ending_lines, IsServingReported, IsDone, IsUnwritten, IsCut, IsOneAtMost, IsOpen, IsShut, HasStopped, IsGraphOf, IsMemberReported}
 use Rattle.fedx.specs.ServingSteps.{IsServedNext, IsLost, GivesEnding, end_status, end_line}
 use Rattle.fedx.specs.declared.serving.Ending.{Ending}
 use Rattle.fedx.specs.declared.statuses.Status.{Status}
@@ -108,43 +108,87 @@ module _ (graph : List Triple) (before : DoorSeen) (is_told : Bool) (held_before
       faultless = f ∙ so.faultless;
     }
 
-    -- the line could not be written
-    pub unwritten : (ending : Ending) → GivesEnding graph mid after (Ok ending) → IsUnwritten before after graph (ending_lines 1 so.endings ++ ending_line (number + 1) ending)
-    unwritten ending h = (so.endings ++ ending ∷ [], served_more ending h, sym (lines_more 1 (number + 1) so.endings ending (omega (arith, so.count))))
+    module _ (address : List ℕ) (total : ℕ) (opens : IsTrue before.tells → before.started ≡ Some address) (below : number < total) where
+      -- the line could not be written
+      pub unwritten : (ending : Ending) → GivesEnding graph mid after (Ok ending) → (IsTrue mid.tells → after.started ≡ mid.started) → IsUnwritten before after address total graph (ending_lines 1 so.endings ++ ending_line (number + 1) ending)
+      unwritten ending h s =
+          let one_longer : length (so.endings ++ ending ∷ []) ≡ number + 1 = length-append so.endings (ending ∷ []) ∙ omega (arith, so.count) in (
+            so.endings ++ ending ∷ [],
+            served_more ending h,
+            omega (arith, one_longer, below),
+            λ t. s (told t) ∙ so.started t ∙ opens t,
+            sym (lines_more 1 (number + 1) so.endings ending (omega (arith, so.count))),
+          )
 
-    -- the door did nothing
-    pub cut : (e : DoorError) → GivesEnding graph mid after (Err e) → (last : List ℕ) → IsCut before after graph last (ending_lines 1 so.endings ++ last)
-    cut e h last = (so.endings, λ t. let lost = h (told t) in (lost.unanswered, cut_off graph before mid after so.endings (so.serves t) lost, lost.few), refl)
+      -- the door did nothing
+      pub cut : (e : DoorError) → GivesEnding graph mid after (Err e) → (IsTrue mid.tells → after.started ≡ mid.started) → (last : List ℕ) → IsCut before after address total graph last (ending_lines 1 so.endings ++ last)
+      cut e h s last = (so.endings, omega (arith, so.count, below), λ t. stopped t (h (told t)), refl)
+        where
+          stopped : IsTrue before.tells → IsLost mid after → HasStopped graph before after address total so.endings
+          stopped t lost = record {
+            unanswered = lost.unanswered;
+            visits = cut_off graph before mid after so.endings (so.serves t) lost;
+            few = lost.few;
+            within = omega (arith, so.count, below, lost.few);
+            opened = inl (s (told t) ∙ so.started t ∙ opens t);
+          }
 
 -- ---- statuses
 
-pub ended : (before after : DoorSeen) (address : List ℕ) (count : ℕ) (graph : List Triple) (e : DoorError) (text : List ℕ) → (e ≡ door.Failed → before.faults < after.faults) → IsCut before after graph (end_line e) text → IsServingReported before after address count graph (end_status e) text
+pub ended : (before after : DoorSeen) (address : List ℕ) (count : ℕ) (graph : List Triple) (e : DoorError) (text : List ℕ) → (e ≡ door.Failed → before.faults < after.faults) → IsCut before after address count graph (end_line e) text → IsServingReported before after address count graph (end_status e) text
 ended before after address count graph door.Failed text f cut = (f refl, cut)
 ended before after address count graph door.Memory text f cut = cut
 
+-- a door that could not be opened
+pub not_opened : (graph : List Triple) (before after : DoorSeen) (address : List ℕ) (count : ℕ) (last : List ℕ) → (IsTrue before.tells → after.started ≡ before.started) → (IsTrue before.tells → after.outputs ≡ before.outputs) → (IsTrue before.tells → after.inputs ≡ before.inputs)
+    → IsCut before after address count graph last last
+not_opened graph before after address count last s o i = ([], omega arith, λ t. stopped (s t) (o t) (i t), refl)
+  where
+    stopped : after.started ≡ before.started → after.outputs ≡ before.outputs → after.inputs ≡ before.inputs → HasStopped graph before after address count []
+    stopped s o i = record {
+      unanswered = [];
+      visits = nothing_yet graph before after o i;
+      few = omega arith;
+      within = omega arith;
+      opened = inr (record { started = s; outputs = o; inputs = i });
+    }
+
 -- a door that was opened and served
-module _ (graph : List Triple) (before mid after : DoorSeen) (tells : IsTrue before.tells → IsTrue mid.tells) (o : IsTrue before.tells → mid.outputs ≡ before.outputs) (i : IsTrue before.tells → mid.inputs ≡ before.inputs) (k : before.faults ≤ mid.faults) where
+module _ (graph : List Triple) (before mid after : DoorSeen) (address : List ℕ) (tells : IsTrue before.tells → IsTrue mid.tells) (s : IsTrue before.tells → mid.started ≡ Some address) (o : IsTrue before.tells → mid.outputs ≡ before.outputs) (i : IsTrue before.tells → mid.inputs ≡ before.inputs) (k : before.faults ≤ mid.faults) where
   serves_from : (endings : List Ending) → Serves graph mid after endings [] → Serves graph before after endings []
   serves_from endings h t = from_same graph before mid after endings [] (o t) (i t) (h (tells t))
 
-  cut_from : (last text : List ℕ) → IsCut mid after graph last text → IsCut before after graph last text
-  cut_from last text h = (h.0, λ t. let c = h.1 (tells t) in (c.0, from_same graph before mid after h.0 c.0 (o t) (i t) c.1, c.2), h.2)
+  is_open : IsTrue before.tells → IsOpen after address ⊎ IsShut mid after → IsOpen after address
+  is_open t (inl here) = here
+  is_open t (inr shut) = shut.started ∙ s t
 
-  pub opened_reported : (address : List ℕ) (count : ℕ) (s : Status) (text : List ℕ) → IsServingReported mid after address count graph s text → IsServingReported before after address count graph s text
-  opened_reported address count status.Done text h = (h.0, serves_from h.0 h.1, h.2, λ t. h.3 (tells t), h.4)
-  opened_reported address count status.WriteFault text h = (h.0, serves_from h.0 h.1, h.2)
-  opened_reported address count status.DoorFault text h = (omega (arith, h.0), cut_from cannot_serve text h.1)
-  opened_reported address count status.NoMemory text h = cut_from no_memory text h
-  opened_reported address count status.Usage text h = absurd h
-  opened_reported address count status.QueryRefused text h = absurd h
-  opened_reported address count status.RegistryRefused text h = absurd h
-  opened_reported address count status.EndpointFault text h = absurd h
-  opened_reported address count status.BadReply text h = absurd h
-  opened_reported address count status.UnknownService text h = absurd h
-  opened_reported address count status.ReadFault text h = absurd h
-  opened_reported address count status.RequestTooLong text h = absurd h
-  opened_reported address count status.GraphRefused text h = absurd h
-  opened_reported address count status.FileTooLong text h = absurd h
+  stopped_from : (count : ℕ) (endings : List Ending) → IsTrue before.tells → HasStopped graph mid after address count endings → HasStopped graph before after address count endings
+  stopped_from count endings t h = record {
+    unanswered = h.unanswered;
+    visits = from_same graph before mid after endings h.unanswered (o t) (i t) h.visits;
+    few = h.few;
+    within = h.within;
+    opened = inl (is_open t h.opened);
+  }
+
+  cut_from : (count : ℕ) (last text : List ℕ) → IsCut mid after address count graph last text → IsCut before after address count graph last text
+  cut_from count last text h = (h.0, h.1, λ t. stopped_from count h.0 t (h.2 (tells t)), h.3)
+
+  pub opened_reported : (count : ℕ) (s : Status) (text : List ℕ) → IsServingReported mid after address count graph s text → IsServingReported before after address count graph s text
+  opened_reported count status.Done text h = (h.0, serves_from h.0 h.1, h.2, λ t. h.3 (tells t), h.4)
+  opened_reported count status.WriteFault text h = (h.0, serves_from h.0 h.1, h.2, λ t. h.3 (tells t), h.4)
+  opened_reported count status.DoorFault text h = (omega (arith, h.0), cut_from count cannot_serve text h.1)
+  opened_reported count status.NoMemory text h = cut_from count no_memory text h
+  opened_reported count status.Usage text h = absurd h
+  opened_reported count status.QueryRefused text h = absurd h
+  opened_reported count status.RegistryRefused text h = absurd h
+  opened_reported count status.EndpointFault text h = absurd h
+  opened_reported count status.BadReply text h = absurd h
+  opened_reported count status.UnknownService text h = absurd h
+  opened_reported count status.ReadFault text h = absurd h
+  opened_reported count status.RequestTooLong text h = absurd h
+  opened_reported count status.GraphRefused text h = absurd h
+  opened_reported count status.FileTooLong text h = absurd h
 
 -- the file's graph was served
 pub graph_reported : (g : FileRead) (before after : DoorSeen) (address : List ℕ) (count : ℕ) (graph : List Triple) (s : Status) (text : List ℕ) → IsGraphOf g graph → IsServingReported before after address count graph s text → IsMemberReported g before after address count s text

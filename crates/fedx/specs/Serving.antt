@@ -80,28 +80,47 @@ ending_lines number (ending ∷ endings) = ending_line number ending ++ ending_l
 abbrev pub IsGraphOf : FileRead → List Triple → Type 0
 IsGraphOf g graph = IfSome g.content (λ all. (length all ≤ GRAPH_LIMIT) × IsDocument all graph)
 
+-- the door is open at the address
+abbrev pub IsOpen : DoorSeen → List ℕ → Type 0
+IsOpen seen address = seen.started ≡ Some address
+
 -- so many connections were served
 abbrev pub IsDone : ℕ → DoorSeen → DoorSeen → List ℕ → List Triple → List ℕ → Type 0
-IsDone count before after address graph text = (endings : List Ending) × Serves graph before after endings [] × (length endings ≡ count) × (IsTrue before.tells → after.started ≡ Some address) × (text ≡ ending_lines 1 endings)
+IsDone count before after address graph text = (endings : List Ending) × Serves graph before after endings [] × (length endings ≡ count) × (IsTrue before.tells → IsOpen after address) × (text ≡ ending_lines 1 endings)
 
--- a line could not be written
-abbrev pub IsUnwritten : DoorSeen → DoorSeen → List Triple → List ℕ → Type 0
-IsUnwritten before after graph text = (endings : List Ending) × Serves graph before after endings [] × (text ≡ ending_lines 1 endings)
+-- the door could not be opened
+pub record IsShut (before after : DoorSeen) : Type 0 where
+  pub started : after.started ≡ before.started
+  pub outputs : after.outputs ≡ before.outputs
+  pub inputs : after.inputs ≡ before.inputs
+
+-- a line could not be written, and no more connections were served than are to be
+abbrev pub IsUnwritten : DoorSeen → DoorSeen → List ℕ → ℕ → List Triple → List ℕ → Type 0
+IsUnwritten before after address count graph text = (endings : List Ending) × Serves graph before after endings [] × (length endings ≤ count) × (IsTrue before.tells → IsOpen after address) × (text ≡ ending_lines 1 endings)
 
 -- at most one
 abbrev pub IsOneAtMost : List (List ℕ) → Type 0
 IsOneAtMost inputs = length inputs ≤ 1
 
--- connections were served, and then the door failed or memory ran out: at most one input was taken and not answered
-abbrev pub IsCut : DoorSeen → DoorSeen → List Triple → List ℕ → List ℕ → Type 0
-IsCut before after graph last text = (endings : List Ending) × (IsTrue before.tells → (unanswered : List (List ℕ)) × HasVisits graph before after endings unanswered × IsOneAtMost unanswered) × (text ≡ ending_lines 1 endings ++ last)
+-- what a door tells where serving was cut: at most one input was taken and not answered, no more were taken than are to be served,
+-- and the door is open at the address, or could not be opened
+pub record HasStopped (graph : List Triple) (before after : DoorSeen) (address : List ℕ) (count : ℕ) (endings : List Ending) : Type 0 where
+  pub unanswered : List (List ℕ)
+  pub visits : HasVisits graph before after endings unanswered
+  pub few : IsOneAtMost unanswered
+  pub within : length endings + length unanswered ≤ count
+  pub opened : IsOpen after address ⊎ IsShut before after
+
+-- connections were served, and then the door failed or memory ran out
+abbrev pub IsCut : DoorSeen → DoorSeen → List ℕ → ℕ → List Triple → List ℕ → List ℕ → Type 0
+IsCut before after address count graph last text = (endings : List Ending) × (length endings ≤ count) × (IsTrue before.tells → HasStopped graph before after address count endings) × (text ≡ ending_lines 1 endings ++ last)
 
 -- what serving reports, over a graph
 abbrev pub IsServingReported : DoorSeen → DoorSeen → List ℕ → ℕ → List Triple → Status → List ℕ → Type 0
 IsServingReported before after address count graph status.Done text = IsDone count before after address graph text
-IsServingReported before after address count graph status.WriteFault text = IsUnwritten before after graph text
-IsServingReported before after address count graph status.DoorFault text = (before.faults < after.faults) × IsCut before after graph cannot_serve text
-IsServingReported before after address count graph status.NoMemory text = IsCut before after graph no_memory text
+IsServingReported before after address count graph status.WriteFault text = IsUnwritten before after address count graph text
+IsServingReported before after address count graph status.DoorFault text = (before.faults < after.faults) × IsCut before after address count graph cannot_serve text
+IsServingReported before after address count graph status.NoMemory text = IsCut before after address count graph no_memory text
 IsServingReported before after address count graph s text = ⊥
 
 -- the cause of each status, and what it writes on standard error: the graph's file is read first, then its graph, and then the

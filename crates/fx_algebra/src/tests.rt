@@ -1,7 +1,7 @@
 //! What the calls answer at given values.
 use crate::{
-    Answer, Compare, Element, Expr, Form, Function, Group, Inline, Order, Query, Sign, Solution,
-    scope, scopes, services,
+    Answer, Compare, Element, Expr, Form, Function, Group, Inline, Order, Query, Row, Sign,
+    Solution, Unit, patterns_of, scope, scopes, services,
 };
 use fx_terms::{Boxed, Iri, Items, Name, Pattern, PatternTerm, Term};
 use std::alloc::Global;
@@ -126,6 +126,74 @@ fn a_copy_has_what_the_query_has(rt: HostRuntime) -> Result<(), Fail> {
         Answer::Truth(_) => return Err("no table")?,
     }
     Ok(())
+}
+
+#[test]
+fn a_unit_and_a_row_have_copies(rt: HostRuntime) -> Result<(), Fail> {
+    let unit = copied_unit(rt.alloc()).ok_or("no unit")?;
+    assert_eq!(rt; unit.as_str(), " a b c c d a f g 7 3 group");
+    let row = Row {
+        origin: 5,
+        solution: solution(rt.alloc(), "a=x:1 b=x:2").ok_or("no solution")?,
+    };
+    let copy = row.copy(rt.alloc())?;
+    assert_eq!(rt; copy.origin, 5);
+    has_pairs(&rt, &copy.solution, "a=x:1 b=x:2");
+    Ok(())
+}
+
+// The copy of a group of two patterns, two filters and two members, as a text.
+fn copied_unit(alloc: Global) -> Option<String> {
+    let mut elements = Items::new(alloc);
+    for texts in ["a b c", "c d a"] {
+        elements.push(Element::Triple(pattern(alloc, texts)?)).ok()?;
+    }
+    let patterns = patterns_of(alloc, &Group { elements }).ok()?;
+    let mut members = Items::new(alloc);
+    for member in [7, 3] {
+        members.push(member).ok()?;
+    }
+    let unit = Unit {
+        patterns: Items::from_vec(patterns),
+        filters: variables(alloc, "f g")?,
+        members,
+        group: true,
+    };
+    unit_text(alloc, &unit.copy(alloc).ok()?)
+}
+
+fn unit_text(alloc: Global, unit: &Unit) -> Option<String> {
+    let mut text = String::new(alloc);
+    for pattern in unit.patterns.as_slice() {
+        for part in [&pattern.subject, &pattern.predicate, &pattern.object] {
+            push_variable(&mut text, part)?;
+        }
+    }
+    for filter in unit.filters.as_slice() {
+        match filter {
+            Expr::Variable(name) => push_word(&mut text, name.text())?,
+            _ => return None,
+        }
+    }
+    for member in unit.members.as_slice() {
+        push_word(&mut text, format!(in alloc; "{member}").ok()?.as_str())?;
+    }
+    if unit.group {
+        push_word(&mut text, "group")?;
+    }
+    Some(text)
+}
+
+fn push_variable(text: &mut String, part: &PatternTerm) -> Option<()> {
+    match part {
+        PatternTerm::Variable(name) => push_word(text, name.text()),
+        PatternTerm::Constant(_) => None,
+    }
+}
+
+fn push_word(text: &mut String, word: &str) -> Option<()> {
+    text.push_str(" ").ok()?;
+    text.push_str(word).ok()
 }
 
 // A query with one of each thing: SERVICE in a group, in OPTIONAL, in a union and in MINUS.

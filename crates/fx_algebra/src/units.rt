@@ -49,7 +49,8 @@ impl Row {
     }
 }
 
-fn copy_patterns(alloc: Global, patterns: &[Pattern]) -> Result<Items<Pattern>, Memory>
+/// Equal patterns, which share the texts.
+pub fn copy_patterns(alloc: Global, patterns: &[Pattern]) -> Result<Items<Pattern>, Memory>
     ensures { IfOk result (λ copies. copies ≡ patterns.now) }
 {
     let mut copies = Items::new(alloc);
@@ -59,7 +60,8 @@ fn copy_patterns(alloc: Global, patterns: &[Pattern]) -> Result<Items<Pattern>, 
     Ok(copies)
 }
 
-fn copy_filters(alloc: Global, filters: &[Expr]) -> Result<Items<Expr>, Memory>
+/// Equal filters, which share the texts.
+pub fn copy_filters(alloc: Global, filters: &[Expr]) -> Result<Items<Expr>, Memory>
     ensures { IfOk result (λ copies. copies ≡ filters.now) }
 {
     let mut copies = Items::new(alloc);

@@ -44,9 +44,6 @@ joined_more graph ps p rows found all h k m =
     subst (λ (v : List Bindings). IsPermutation v all) (sym more)
     (IsPermutation-trans (join before (bgp graph (p ∷ []))) (join rows found) all (same_join before rows (bgp graph (p ∷ [])) found h k) m)
 
-pub no_patterns : (graph : List Triple) → SameRows (bgp graph []) ([] ∷ [])
-no_patterns graph = IsPermutation-refl ([] ∷ [])
-
 -- ---- the answer
 
 true_from : (b : Bool) → T b → b ≡ true

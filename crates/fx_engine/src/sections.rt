@@ -6,6 +6,7 @@ ghost use Rattle.fx_engine.specs.Sections as spec;
 
 use crate::queries::push_names;
 use fx_algebra::scopes::{add_element as add_names, once};
+use fx_algebra::units::{copy_filters, copy_patterns};
 use fx_algebra::{Element, Expr, Group, Query};
 use fx_terms::{Iri, Items, Memory, Name, Pattern};
 use std::alloc::Global;
@@ -142,33 +143,13 @@ fn end_run(
         return Ok(());
     }
     sections.push(Section::Run {
-        patterns: copied_patterns(alloc, pending.run.as_slice())?,
-        filters: copied_filters(alloc, filters)?,
+        patterns: copy_patterns(alloc, pending.run.as_slice())?,
+        filters: copy_filters(alloc, filters)?,
         bound: Items::from_vec(once(alloc, pending.known.as_slice())?),
     })?;
     push_variables(&mut pending.known, pending.run.as_slice())?;
     pending.run.clear();
     Ok(())
-}
-
-fn copied_patterns(alloc: Global, patterns: &[Pattern]) -> Result<Items<Pattern>, Memory>
-    ensures { IfOk result (λ copies. copies ≡ patterns.now) }
-{
-    let mut copies = Items::new(alloc);
-    for pattern in patterns {
-        copies.push(pattern.copy()?)?;
-    }
-    Ok(copies)
-}
-
-fn copied_filters(alloc: Global, filters: &[Expr]) -> Result<Items<Expr>, Memory>
-    ensures { IfOk result (λ copies. copies ≡ filters.now) }
-{
-    let mut copies = Items::new(alloc);
-    for filter in filters {
-        copies.push(filter.copy(alloc)?)?;
-    }
-    Ok(copies)
 }
 
 // The variables of patterns, behind the names that were there, with repeats.

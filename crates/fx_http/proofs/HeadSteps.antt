@@ -1,15 +1,16 @@
 -- A head of a request ends in an empty line behind a line, so no head is missed by looking only there.
 use Rattle.std.proofs.Common.{◌≡◌, ◌∙◌, ℕ, ◌-◌, ◌<◌, ◌≤◌, Bool, true, false, List, [], ◌∷◌, ◌++◌, length, drop, refl, sym, ap, subst, arith, tests, append_assoc, inl, inr, ◌||◌, ◌&&◌, Option, Some, option_to_list}
-use Rattle.std.specs.Prelude.{◌⊎◌, flat_map, nat_eq}
+use Rattle.std.specs.Prelude.{◌⊎◌, flat_map, nat_eq, Result, Ok, Err, OnErr}
 use Rattle.std.specs.List.{list_any, ends_with}
 use Rattle.std.specs.Cmp.Lexicographic.{pointwise}
 use Rattle.std.proofs.Math.Seq.{drop-append_seam}
 use Rattle.std.proofs.lemmas.List.{length-append, append-nil}
 use Rattle.std.proofs.lemmas.List.Elements.{All-head}
 use Rattle.std.proofs.lemmas.List.Folds.{list_any-append}
+use Rattle.std.proofs.lemmas.Bool.{cases_lt}
 use Rattle.httparse.specs.Grammar.{LineEnd, crlf, lf, print_end, print_blank, print_version, Field, print_field, print_section, is_token_byte, IsToken, RequestHead, print_request, ReadsRequest}
 use Rattle.fx_http.specs.RequestHeads.{is_of_line, ends_in_empty_line, HasNoHeadYet, BeginsWithSome, IsWholeHead}
-use Rattle.fx_http.specs.Requests.{HasNoRequestHead}
+use Rattle.fx_http.specs.Requests.{BeginsWithRequest, HasNoRequestHead, TakesOfHead}
 
 -- ---- lists
 
@@ -213,3 +214,38 @@ headless_long input bytes left none e long h rest x =
     let t = within (print_request h) rest bytes left (sym e ∙ x.reads.1) (omega arith) in
     let many : 100 < length h.fields = none h t.0 (x.reads.0, t.1) in
     omega arith
+
+-- ---- what was taken before a head has come
+
+-- the input's head is longer than bytes at its front in which no head has come
+longer : (input bytes left : List ℕ) → HasNoHeadYet bytes → input ≡ bytes ++ left → (h : RequestHead) (rest : List ℕ) → BeginsWithRequest input h rest → length bytes < length (print_request h)
+longer input bytes left none e h rest x = by (cases_lt (length bytes) (length (print_request h)))
+  where
+    by : (length bytes < length (print_request h)) ⊎ (length (print_request h) ≤ length bytes) → length bytes < length (print_request h)
+    by (inl less) = less
+    by (inr more) =
+        let few = x.few in
+        let t = within (print_request h) rest bytes left (sym e ∙ x.reads.1) more in
+        let many : 100 < length h.fields = none h t.0 (x.reads.0, t.1) in
+        absurd (omega arith)
+
+pub head_part : (input bytes left : List ℕ) → HasNoHeadYet bytes → input ≡ bytes ++ left → length bytes ≤ 65536 → TakesOfHead input left
+head_part input bytes left none e short = record {
+  bytes = bytes;
+  taken = e;
+  near = short;
+  within = λ h rest x. (let t = longer input bytes left none e h rest x in omega arith);
+}
+
+-- with the byte that came last
+pub head_part_more : (input bytes left : List ℕ) (b : ℕ) → HasNoHeadYet bytes → input ≡ (bytes ++ b ∷ []) ++ left → length bytes < 65536 → TakesOfHead input left
+head_part_more input bytes left b none e short = record {
+  bytes = bytes ++ b ∷ [];
+  taken = e;
+  near = one_more bytes b 65536 short;
+  within = λ h rest x. one_more bytes b (length (print_request h)) (longer input bytes (b ∷ left) none (e ∙ append_assoc bytes (b ∷ []) left) h rest x);
+}
+
+pub on_err : {A E : Type 0} (r : Result A E) (P : Type 0) → P → OnErr r P
+on_err (Ok x) P p = tt
+on_err (Err e) P p = p

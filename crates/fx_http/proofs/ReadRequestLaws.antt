@@ -8,11 +8,11 @@ use Rattle.httparse.specs.declared.spans.RequestSpans.{RequestSpans}
 use Rattle.httparse.specs.Grammar.{RequestHead, ReadsRequest}
 use Rattle.httparse.specs.Spans.{span_bytes, header_bytes}
 use Rattle.httparse.proofs.GrammarLemmas.{request_unique, ReadsRequest-append}
-use Rattle.fx_http.specs.Answers.{GivesAsked, IsOrLost}
+use Rattle.fx_http.specs.Answers.{GivesAsked, IsOrLost, IsRestWithin}
 use Rattle.fx_http.specs.Fields.{named}
 use Rattle.fx_http.specs.Forms.{query_part}
-use Rattle.fx_http.specs.Requests.{stated_length, post_fault, get_answer, body_answer, post_answer, parts_answer, answer_of, body_length, AsksByHead, Asks, IsRequest}
-use Rattle.fx_http.specs.RequestHeads.{IsWholeHead, IsHeadless, IsRequestSpans, AsksBehind, IsBodyTaken, IsBodyBehind}
+use Rattle.fx_http.specs.Requests.{stated_length, post_fault, get_answer, body_answer, post_answer, parts_answer, answer_of, body_length, length_behind, AsksByHead, Asks, IsRequest, TakesOfRequest}
+use Rattle.fx_http.specs.RequestHeads.{IsWholeHead, IsHeadless, IsRequestSpans, AsksBehind, IsBodyTaken, IsBodyBehind, IsPartBehind}
 use Rattle.fx_http.specs.declared.read_requests.RequestError.{RequestError}
 use Rattle.fx_http.specs.declared.read_requests.RequestError.TheVariants.{Fault, Malformed, Method, Memory}
 
@@ -135,7 +135,19 @@ module _ (front : List ℕ) (headers : List HeaderSpan) (spans : RequestSpans) (
       let f : body_length s.head.method (named s.head.fields) ≡ body_length head.method (named head.fields) = ap (λ (k : RequestHead). body_length k.method (named k.fields)) (same_head head x) in
       subst (λ (n : ℕ). IsBodyTaken n before after) (e ∙ f) h
 
+  pub part_behind : (before after : List ℕ) → IsRestWithin (length_behind method fields) before after → IsPartBehind front before after
+  part_behind before after h head x =
+      let e : length_behind method fields ≡ length_behind s.head.method (named s.head.fields) = rw (method_is, fields_are, s.method, s.fields) refl in
+      let f : length_behind s.head.method (named s.head.fields) ≡ length_behind head.method (named head.fields) = ap (λ (k : RequestHead). length_behind k.method (named k.fields)) (same_head head x) in
+      subst (λ (n : ℕ). IsRestWithin n before after) (e ∙ f) h
+
 -- ---- the whole
+
+-- a whole head was taken, and at most its body behind it
+pub takes_behind : (input front rest after : List ℕ) → IsWholeHead front → input ≡ front ++ rest → IsPartBehind front rest after → TakesOfRequest input after
+takes_behind input front rest after w e h =
+    let reads : ReadsRequest input w.head rest = subst (λ (t : List ℕ). ReadsRequest t w.head rest) (sym e) (ReadsRequest-append front w.head [] rest w.reads) in
+    inr (record { head = w.head; rest = rest; begins = record { reads = reads; near = w.near; few = w.few }; within = h w.head w.reads })
 
 -- what a whole head and what is behind it ask, the input asks
 pub asks_whole : (input front rest : List ℕ) → IsWholeHead front → input ≡ front ++ rest → (answer : Result (List ℕ) RequestError) → AsksBehind front rest answer → Asks input answer

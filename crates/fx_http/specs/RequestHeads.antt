@@ -5,8 +5,9 @@ use Rattle.httparse.specs.declared.spans.HeaderSpan.{HeaderSpan}
 use Rattle.httparse.specs.declared.spans.RequestSpans.{RequestSpans}
 use Rattle.httparse.specs.Grammar.{RequestHead, ReadsRequest, print_request}
 use Rattle.httparse.specs.Spans.{IsWithin, IsHeaderWithin, span_bytes, header_bytes}
+use Rattle.fx_http.specs.Answers.{IsRestWithin}
 use Rattle.fx_http.specs.Fields.{named}
-use Rattle.fx_http.specs.Requests.{answer_of, body_length, HasNoRequestHead}
+use Rattle.fx_http.specs.Requests.{answer_of, body_length, length_behind, HasNoRequestHead}
 use Rattle.fx_http.specs.declared.request_heads.Looked.{Looked}
 use Rattle.fx_http.specs.declared.request_heads.Looked.TheVariants.{Head, Open, Never}
 use Rattle.fx_http.specs.declared.read_requests.RequestError.{RequestError}
@@ -74,3 +75,7 @@ IsBodyTaken size before after = (size ≤ length before) × (after ≡ drop size
 -- the body that a head gives was taken
 abbrev pub IsBodyBehind : List ℕ → List ℕ → List ℕ → Type 0
 IsBodyBehind front before after = (head : RequestHead) → ReadsRequest front head [] → IsBodyTaken (body_length head.method (named head.fields)) before after
+
+-- at most the bytes that are of a head's request were taken behind it
+abbrev pub IsPartBehind : List ℕ → List ℕ → List ℕ → Type 0
+IsPartBehind front before after = (head : RequestHead) → ReadsRequest front head [] → IsRestWithin (length_behind head.method (named head.fields)) before after

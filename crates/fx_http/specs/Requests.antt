@@ -6,6 +6,7 @@ use Rattle.std.specs.Str.{str_eq_ignore_ascii_case}
 use Rattle.std.specs.Str.Parse.{digits_value}
 use Rattle.httparse.specs.Grammar.{RequestHead, ReadsRequest, print_request}
 use Rattle.fx_outside.specs.Endpoints.{EndpointParts}
+use Rattle.fx_http.specs.Answers.{IsRestWithin}
 use Rattle.fx_http.specs.Fields.{named, values, only, is_missing, is_repeated, has_one, media_type, is_number}
 use Rattle.fx_http.specs.Forms.{query_part, form_values, names_dataset}
 use Rattle.fx_http.specs.declared.read_requests.RequestError.{RequestError}
@@ -144,6 +145,36 @@ Asks input answer = AsksByHead input answer ⊎ (HasNoRequestHead input × (answ
 -- how many bytes the body has; a GET has none
 abbrev pub body_length : List ℕ → List (List ℕ × List ℕ) → ℕ
 body_length method fields = if bytes_eq method (codes "GET") then 0 else stated_length fields
+
+-- how many bytes are behind the head of a POST, of which nothing is looked at where its fields break a rule
+abbrev pub post_length : Option RequestError → List (List ℕ × List ℕ) → ℕ
+post_length (Some _) fields = 0
+post_length None fields = stated_length fields
+
+-- how many bytes behind a head are of its request at most, whether or not it is refused
+abbrev pub length_behind : List ℕ → List (List ℕ × List ℕ) → ℕ
+length_behind method fields =
+    if bytes_eq method (codes "GET") then 0
+    else if bytes_eq method (codes "POST") then post_length (post_fault fields) fields
+    else 0
+
+-- of an input at most 65,536 bytes were taken, and none behind the head of its request
+pub record TakesOfHead (before after : List ℕ) : Type 0 where
+  pub bytes : List ℕ
+  pub taken : before ≡ bytes ++ after
+  pub near : length bytes ≤ 65536
+  pub within : (head : RequestHead) (rest : List ℕ) → BeginsWithRequest before head rest → length bytes ≤ length (print_request head)
+
+-- of an input the head of its request was taken, and nothing behind the body
+pub record TakesOfBody (before after : List ℕ) : Type 0 where
+  pub head : RequestHead
+  pub rest : List ℕ
+  pub begins : BeginsWithRequest before head rest
+  pub within : IsRestWithin (length_behind head.method (named head.fields)) rest after
+
+-- nothing behind its request was taken of an input
+abbrev pub TakesOfRequest : List ℕ → List ℕ → Type 0
+TakesOfRequest before after = TakesOfHead before after ⊎ TakesOfBody before after
 
 -- the bytes are one whole request that breaks no rule, with nothing behind it, and ask the text
 pub record IsRequest (bytes text : List ℕ) : Type 0 where

@@ -2,7 +2,7 @@
 ghost use Rattle.std.specs.Prelude.{◌≡◌, ◌≢◌, ◌≤◌, ◌++◌, ℕ, List, Result as Answer, IsTrue, IfOk, IfSome, true};
 ghost use Rattle.fx_outside.specs.Faults.{HasRisen};
 ghost use Rattle.fx_http.specs.Answers.{GivesAsked, IsOrLost, IsRestWithin};
-ghost use Rattle.fx_http.specs.Requests.{Asks, IsRequest, request_error_name, status_of};
+ghost use Rattle.fx_http.specs.Requests.{Asks, IsRequest, TakesOfRequest, request_error_name, status_of};
 ghost use Rattle.fx_http.specs.WrittenReplies.{is_written_status};
 
 use crate::request_heads::read_head;
@@ -137,9 +137,9 @@ impl Asked {
 /// the text itself (SPARQL 1.1 Protocol, 2.1). Of a source that tells what is left, the answer is what that asks, however
 /// the reads cut it.
 ///
-/// What is behind the request isn't read. `Fault` comes where a read failed; each other error comes exactly where
-/// `RequestError` says, and none of those before it does. After an error at most 65,536 bytes of a head and 67,108,864 of a
-/// body were taken.
+/// What is behind the request isn't read, also where it is refused. Of an input without a head at most 65,536 bytes are taken,
+/// and behind a head at most the body of a POST whose fields break no rule, which is 67,108,864 bytes at most. `Fault` comes
+/// where a read failed; each other error comes exactly where `RequestError` says, and none of those before it does.
 pub fn read_request<S: Source>(alloc: Global, source: &mut S) -> Result<Asked, RequestError>
     ensures found { IsTrue S.tells_left → GivesAsked result (Asks (S.left source.old)) }
 
@@ -147,6 +147,9 @@ pub fn read_request<S: Source>(alloc: Global, source: &mut S) -> Result<Asked, R
     ensures only { IsTrue S.tells_left → (answer : Answer (List ℕ) RequestError) → Asks (S.left source.old) answer → IsOrLost result answer }
     ensures taken { IsTrue S.tells_left → IfOk result (λ text. (bytes : List ℕ) × (S.left source.old ≡ bytes ++ S.left source.new) × IsRequest bytes text) }
     ensures rest { IsTrue S.tells_left → IsRestWithin 67174400 (S.left source.old) (S.left source.new) }
+
+    // Whatever the answer, nothing behind the request was taken.
+    ensures within { IsTrue S.tells_left → TakesOfRequest (S.left source.old) (S.left source.new) }
     ensures kept { S.read_faults source.old ≤ S.read_faults source.new }
     ensures failed { result ≡ Err RequestError.Fault → HasRisen (S.read_faults source.old) (S.read_faults source.new) }
     ensures faultless { result ≢ Err RequestError.Fault → S.read_faults source.new ≡ S.read_faults source.old }

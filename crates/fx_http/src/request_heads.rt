@@ -1,7 +1,8 @@
 //! Heads of requests, as they are read.
-ghost use Rattle.std.specs.Prelude.{◌≡◌, ◌≢◌, ◌≤◌, ◌++◌, ◌&&◌, ◌||◌, length, IsTrue, IfOk, IfErr};
+ghost use Rattle.std.specs.Prelude.{◌≡◌, ◌≢◌, ◌≤◌, ◌++◌, ◌&&◌, ◌||◌, length, IsTrue, IfOk, IfErr, OnErr};
 ghost use Rattle.fx_outside.specs.Faults.{HasRisen};
 ghost use Rattle.fx_http.specs.Answers.{IsRestWithin};
+ghost use Rattle.fx_http.specs.Requests.{TakesOfHead};
 ghost use Rattle.fx_http.specs.RequestHeads.{IsHeadless, IsLooked, IsRequestSpans, IsWholeHead, ends_in_empty_line, is_of_line};
 
 use crate::heads::{LONGEST_HEAD, MOST_FIELDS};
@@ -25,6 +26,7 @@ pub fn read_head<S: Source>(alloc: Global, source: &mut S) -> Result<Vec<u8>, Re
     ensures taken { IsTrue S.tells_left → IfOk result (λ front. S.left source.old ≡ front.items ++ S.left source.new) }
     ensures refused { IsTrue S.tells_left → IfErr result (IsHeadless (S.left source.old)) }
     ensures rest { IsTrue S.tells_left → IsRestWithin 65536 (S.left source.old) (S.left source.new) }
+    ensures stopped { IsTrue S.tells_left → OnErr result (TakesOfHead (S.left source.old) (S.left source.new)) }
     ensures kept { S.read_faults source.old ≤ S.read_faults source.new }
     ensures failed { result ≡ Err RequestError.Fault → HasRisen (S.read_faults source.old) (S.read_faults source.new) }
     ensures faultless { result ≢ Err RequestError.Fault → S.read_faults source.new ≡ S.read_faults source.old }

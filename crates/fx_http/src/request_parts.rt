@@ -3,7 +3,7 @@ ghost use Rattle.std.specs.Prelude.{◌≡◌, ◌≢◌, ◌≤◌, All, Some, 
 ghost use Rattle.httparse.specs.Spans.{IsHeaderWithin, header_bytes};
 ghost use Rattle.fx_outside.specs.Faults.{HasRisen};
 ghost use Rattle.fx_http.specs.Answers.{GivesAsked, IsRestWithin};
-ghost use Rattle.fx_http.specs.RequestHeads.{AsksBehind, IsBodyBehind, IsBodyTaken, IsWholeHead};
+ghost use Rattle.fx_http.specs.RequestHeads.{AsksBehind, IsBodyBehind, IsBodyTaken, IsPartBehind, IsWholeHead};
 ghost use Rattle.fx_http.specs.Requests as request;
 
 use crate::fields::{
@@ -30,6 +30,7 @@ pub fn read_behind<S: Source>(
     ensures found { IsTrue S.tells_left → GivesAsked result (AsksBehind front.now (S.left source.old)) }
     ensures taken { IsTrue S.tells_left → IfOk result (λ text. IsBodyBehind front.now (S.left source.old) (S.left source.new)) }
     ensures rest { IsTrue S.tells_left → IsRestWithin 67108864 (S.left source.old) (S.left source.new) }
+    ensures within { IsTrue S.tells_left → IsPartBehind front.now (S.left source.old) (S.left source.new) }
     ensures kept { S.read_faults source.old ≤ S.read_faults source.new }
     ensures failed { result ≡ Err RequestError.Fault → HasRisen (S.read_faults source.old) (S.read_faults source.new) }
     ensures faultless { result ≢ Err RequestError.Fault → S.read_faults source.new ≡ S.read_faults source.old }
@@ -61,6 +62,7 @@ fn read_parts<S: Source>(
     ensures found { IsTrue S.tells_left → GivesAsked result (λ answer. request.parts_answer method.now (map (header_bytes front.now) headers.now) query.now (S.left source.old) ≡ answer) }
     ensures taken { IsTrue S.tells_left → IfOk result (λ text. IsBodyTaken (request.body_length method.now (map (header_bytes front.now) headers.now)) (S.left source.old) (S.left source.new)) }
     ensures rest { IsTrue S.tells_left → IsRestWithin 67108864 (S.left source.old) (S.left source.new) }
+    ensures within { IsTrue S.tells_left → IsRestWithin (request.length_behind method.now (map (header_bytes front.now) headers.now)) (S.left source.old) (S.left source.new) }
     ensures kept { S.read_faults source.old ≤ S.read_faults source.new }
     ensures failed { result ≡ Err RequestError.Fault → HasRisen (S.read_faults source.old) (S.read_faults source.new) }
     ensures faultless { result ≢ Err RequestError.Fault → S.read_faults source.new ≡ S.read_faults source.old }
@@ -88,6 +90,7 @@ fn read_post<S: Source>(
     ensures found { IsTrue S.tells_left → GivesAsked result (λ answer. let fields = map (header_bytes front.now) headers.now in request.post_answer (request.post_fault fields) fields query.now (S.left source.old) ≡ answer) }
     ensures taken { IsTrue S.tells_left → IfOk result (λ text. IsBodyTaken (request.stated_length (map (header_bytes front.now) headers.now)) (S.left source.old) (S.left source.new)) }
     ensures rest { IsTrue S.tells_left → IsRestWithin 67108864 (S.left source.old) (S.left source.new) }
+    ensures within { IsTrue S.tells_left → let fields = map (header_bytes front.now) headers.now in IsRestWithin (request.post_length (request.post_fault fields) fields) (S.left source.old) (S.left source.new) }
     ensures kept { S.read_faults source.old ≤ S.read_faults source.new }
     ensures failed { result ≡ Err RequestError.Fault → HasRisen (S.read_faults source.old) (S.read_faults source.new) }
     ensures faultless { result ≢ Err RequestError.Fault → S.read_faults source.new ≡ S.read_faults source.old }

@@ -1,5 +1,6 @@
 -- What a wire that fails where it is to holds.
-use Rattle.std.specs.Prelude.{◌≡◌, ◌+◌, ◌&&◌, ◌==◌, ℕ, Bool, List, Option}
+use Rattle.std.specs.Prelude.{◌≡◌, ◌+◌, ◌&&◌, ◌||◌, ◌==◌, ℕ, Bool, List, Option, cond, bytes_eq}
+use Rattle.std.specs.List.{list_any}
 use Rattle.std.specs.Ordering.{is_eq}
 use Rattle.fx_outside.specs.NameCounts.{count_of}
 use Rattle.fx_terms.specs.Texts.{text_cmp}
@@ -23,8 +24,31 @@ log_in wire = graph.log_in wire.wire
 abbrev pub faults_in : FaultWire → List ℕ → ℕ
 faults_in wire address = count_of wire.faults address + graph.faults_in wire.wire address
 
+-- the number of the next exchange on the wire, from 1
+abbrev pub next_exchange : FaultWire → ℕ
+next_exchange wire = wire.exchanges + 1
+
+-- the number of the next exchange at an address, from 1
+abbrev pub next_at : FaultWire → List ℕ → ℕ
+next_at wire address = count_of wire.exchanges_at address + 1
+
+-- whether the next exchange is to fail where it is one at this address
+abbrev pub fails_next : FaultWire → List ℕ → Bool
+fails_next wire address = list_any (λ (number : ℕ). number == next_exchange wire) wire.fails.items || list_any (names address (next_at wire address)) wire.fails_at.items
+
 -- a wire that was just made
-pub record IsFreshWire (made : FaultWire) (wire : GraphWire) : Type 0 where
+pub record IsFreshWire (made : FaultWire) (wire : GraphWire) (fails : List ℕ) (fails_at : List (List ℕ × ℕ)) : Type 0 where
   pub told : (address : List ℕ) → graph_in made address ≡ graph.graph_in wire address
   pub log : log_in made ≡ graph.log_in wire
   pub faults : (address : List ℕ) → faults_in made address ≡ graph.faults_in wire address
+  pub first : next_exchange made ≡ 1
+  pub first_at : (address : List ℕ) → next_at made address ≡ 1
+  pub failing : made.fails.items ≡ fails
+  pub failing_at : made.fails_at.items ≡ fails_at
+
+-- a wire after one exchange at an address: its exchanges are one more, there and altogether, and the same are to fail
+pub record IsAfterExchange (before after : FaultWire) (address : List ℕ) : Type 0 where
+  pub next : next_exchange after ≡ next_exchange before + 1
+  pub there : (other : List ℕ) → next_at after other ≡ next_at before other + cond (bytes_eq address other) 1 0
+  pub failing : after.fails ≡ before.fails
+  pub failing_at : after.fails_at ≡ before.fails_at

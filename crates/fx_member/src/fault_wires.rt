@@ -1,7 +1,11 @@
 //! A wire in memory whose exchanges fail where they are to.
-ghost use Rattle.std.specs.Prelude.{◌≡◌, IsOkAnd};
+ghost use Rattle.std.specs.Prelude.{◌≡◌, ◌+◌, ◌<◌, ◌≤◌, ◌++◌, ◌∷◌, [], ℕ, List, IfOk, IfSome, IsErrOf, IsOkAnd, MatchResult, OnOk, cond, bytes_eq, length, vec_len};
 ghost use Rattle.std.specs.List.{list_any};
 ghost use Rattle.fx_member.specs.FaultWires as spec;
+ghost use Rattle.fx_member.specs.GraphWires.{IsFrontServed};
+ghost use Rattle.fx_terms.specs.Graphs.{IsGraph};
+ghost use Rattle.fx_wire.specs.Exchanges.{exchanged};
+ghost use Rattle.fx_wire.specs.Honest.{IsHonest};
 
 use crate::graph_wires::GraphWire;
 use fx_outside::{Endpoint, NameCounts};
@@ -30,7 +34,7 @@ impl FaultWire {
         fails: Vec<u64>,
         fails_at: Vec<(Iri, u64)>,
     ) -> Result<FaultWire, Memory>
-        ensures { IsOkAnd result (λ made. spec.IsFreshWire made wire) }
+        ensures { IsOkAnd result (λ made. spec.IsFreshWire made wire fails.items fails_at.items) }
     {
         Ok(FaultWire {
             wire,
@@ -46,6 +50,8 @@ impl FaultWire {
     fn counts_a_failure(&mut self, address: &Iri) -> Result<bool, AllocError>
         ensures wire { self.new.wire ≡ self.old.wire }
         ensures faults { self.new.faults ≡ self.old.faults }
+        ensures failing { IfOk result (λ failing. failing ≡ spec.fails_next self.old address.now) }
+        ensures after { OnOk result (spec.IsAfterExchange self.old self.new address.now) }
     {
         if self.exchanges == u64::MAX {
             return Err(AllocError);
@@ -61,8 +67,8 @@ impl FaultWire {
 }
 
 impl Wire for FaultWire {
-    ghost use Rattle.std.specs.Prelude.{true};
-    ghost use Rattle.fx_member.specs.FaultWires.{faults_in, graph_in, log_in};
+    ghost use Rattle.std.specs.Prelude.{◌⊎◌, true, false, None};
+    ghost use Rattle.fx_member.specs.FaultWires.{faults_in, fails_next, graph_in, log_in, IsAfterExchange};
 
     ghost tells_log = { true };
 
@@ -72,17 +78,34 @@ impl Wire for FaultWire {
 
     ghost faults = { λ wire address. faults_in wire address };
 
-    /// The first bytes of the reply to a request: all of them where it has at most `limit` bytes, and else `limit + 1`.
+    /// The first bytes of the reply that a member serves to a request: all of them where it has at most `limit` bytes, and
+    /// else `limit + 1`.
     ///
-    /// `Failed` comes where the exchange is to fail, and where the address has no graph. `Memory` comes where memory runs
-    /// out, or where a count stands at the end of `u64`.
+    /// `Failed` comes exactly where the exchange is to fail, and where the address has no graph. `Memory` comes where memory
+    /// runs out, or where a count stands at the end of `u64`: the exchange is counted or not then.
     fn exchange(
         &mut self,
         alloc: Global,
         at: &Endpoint,
         request: &[u8],
         limit: u64,
-    ) -> Result<Vec<u8>, WireError> {
+    ) -> Result<Vec<u8>, WireError>
+        requires { limit ≤ 134217728 }
+        ensures size { IfOk result (λ reply. vec_len reply ≤ limit + 1) }
+        ensures logged { MatchResult result
+            (λ reply. log_in self.new ≡ log_in self.old ++ exchanged at.now request.now reply.items ∷ [])
+            (λ _. log_in self.new ≡ log_in self.old) }
+        ensures honest { IfOk result (λ reply. IfSome (graph_in self.old at.now.iri) (λ told. IsGraph told × (length reply.items ≤ limit → IsHonest told request.now reply.items))) }
+        ensures same { (address : List ℕ) → graph_in self.new address ≡ graph_in self.old address }
+        ensures kept { (address : List ℕ) → faults_in self.old address ≤ faults_in self.new address }
+        ensures failed { IsErrOf result WireError.Failed → faults_in self.old at.now.iri < faults_in self.new at.now.iri }
+        ensures given { IfOk result (λ reply. IsFrontServed (graph_in self.old at.now.iri) request.now (limit + 1) reply.items) }
+        ensures unfailing { OnOk result (fails_next self.old at.now.iri ≡ false) }
+        ensures refused { IsErrOf result WireError.Failed → (fails_next self.old at.now.iri ≡ true) ⊎ (graph_in self.old at.now.iri ≡ None) }
+        ensures faultless { ¬ IsErrOf result WireError.Failed → (address : List ℕ) → faults_in self.new address ≡ faults_in self.old address }
+        ensures counted { IsErrOf result WireError.Failed → (address : List ℕ) → faults_in self.new address ≡ faults_in self.old address + cond (bytes_eq at.now.iri address) 1 0 }
+        ensures after { ¬ IsErrOf result WireError.Memory → IsAfterExchange self.old self.new at.now.iri }
+    {
         let place = self.faults.place(at.iri().text())?;
         if self.counts_a_failure(at.iri())? {
             self.faults.raise(place);

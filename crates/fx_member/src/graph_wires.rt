@@ -1,5 +1,5 @@
 //! A wire in memory that answers by the SPARQL algebra over graphs.
-ghost use Rattle.std.specs.Prelude.{◌≡◌, ◌<◌, ◌≤◌, ◌++◌, ◌∷◌, [], IfOk, OnOk, OnErr, List, ℕ, length, option_copied};
+ghost use Rattle.std.specs.Prelude.{◌≡◌, ◌<◌, ◌≤◌, ◌+◌, ◌++◌, ◌∷◌, [], Some, IfOk, IfSome, OnOk, OnErr, IsErrOf, MatchResult, List, ℕ, cond, bytes_eq, length, option_copied, take, vec_len};
 ghost use Rattle.fx_member.specs.GraphWires as spec;
 ghost use Rattle.fx_outside.specs.MemoryLinks.{left_in};
 ghost use Rattle.fx_terms.specs.Graphs.{IsGraph};
@@ -38,7 +38,7 @@ impl GraphWire {
 
     /// The exchanges that were answered, in order.
     pub fn log(&self) -> &[Answered]
-        ensures { result.now ≡ self.now.log.items }
+        ensures { result.now ≡ spec.answered_in self.now }
     {
         self.log.as_slice()
     }
@@ -65,8 +65,8 @@ impl GraphWire {
 }
 
 impl Wire for GraphWire {
-    ghost use Rattle.std.specs.Prelude.{true};
-    ghost use Rattle.fx_member.specs.GraphWires.{faults_in, graph_in, log_in};
+    ghost use Rattle.std.specs.Prelude.{true, None};
+    ghost use Rattle.fx_member.specs.GraphWires.{faults_in, graph_in, log_in, IsFrontServed};
 
     ghost tells_log = { true };
 
@@ -76,17 +76,32 @@ impl Wire for GraphWire {
 
     ghost faults = { λ wire address. faults_in wire address };
 
-    /// The first bytes of the reply to a request: all of them where it has at most `limit` bytes, and else `limit + 1`.
+    /// The first bytes of the reply that a member serves to a request: all of them where it has at most `limit` bytes, and
+    /// else `limit + 1`.
     ///
-    /// `Failed` comes where the address has no graph. `Memory` comes where memory runs out, or where the count of faults of
-    /// the address stands at the end of `u64`.
+    /// `Failed` comes exactly where the address has no graph. `Memory` comes where memory runs out, or where the count of
+    /// faults of the address stands at the end of `u64`.
     fn exchange(
         &mut self,
         alloc: Global,
         at: &Endpoint,
         request: &[u8],
         limit: u64,
-    ) -> Result<Vec<u8>, WireError> {
+    ) -> Result<Vec<u8>, WireError>
+        requires { limit ≤ 134217728 }
+        ensures size { IfOk result (λ reply. vec_len reply ≤ limit + 1) }
+        ensures logged { MatchResult result
+            (λ reply. log_in self.new ≡ log_in self.old ++ exchanged at.now request.now reply.items ∷ [])
+            (λ _. log_in self.new ≡ log_in self.old) }
+        ensures honest { IfOk result (λ reply. IfSome (graph_in self.old at.now.iri) (λ told. IsGraph told × (length reply.items ≤ limit → IsHonest told request.now reply.items))) }
+        ensures same { (address : List ℕ) → graph_in self.new address ≡ graph_in self.old address }
+        ensures kept { (address : List ℕ) → faults_in self.old address ≤ faults_in self.new address }
+        ensures failed { IsErrOf result WireError.Failed → faults_in self.old at.now.iri < faults_in self.new at.now.iri }
+        ensures given { IfOk result (λ reply. IsFrontServed (graph_in self.old at.now.iri) request.now (limit + 1) reply.items) }
+        ensures refused { IsErrOf result WireError.Failed → graph_in self.old at.now.iri ≡ None }
+        ensures faultless { ¬ IsErrOf result WireError.Failed → (address : List ℕ) → faults_in self.new address ≡ faults_in self.old address }
+        ensures counted { IsErrOf result WireError.Failed → (address : List ℕ) → faults_in self.new address ≡ faults_in self.old address + cond (bytes_eq at.now.iri address) 1 0 }
+    {
         let place = self.faults.place(at.iri().text())?;
         let Some(store) = store_at(self.stores.as_slice(), at.iri()) else {
             self.faults.raise(place);
@@ -97,12 +112,8 @@ impl Wire for GraphWire {
                 self.keep(alloc, at, request, reply.as_slice())?;
                 Ok(reply)
             }
-            Err(ServeError::Memory) => Err(WireError::Memory),
-            // A link in memory whose reads are not to fail has no fault.
-            Err(_) => {
-                self.faults.raise(place);
-                Err(WireError::Failed)
-            }
+            // A link in memory whose reads are not to fail has no fault: what is left is want of memory.
+            Err(_) => Err(WireError::Memory),
         }
     }
 }
@@ -140,6 +151,7 @@ fn front_of_reply(
     ensures size { IfOk result (λ reply. length reply.items ≤ most) }
     ensures graph { IsGraph store.now }
     ensures honest { IfOk result (λ reply. length reply.items < most → IsHonest store.now request.now reply.items) }
+    ensures served { IfOk result (λ reply. spec.IsFrontServed (Some store.now) request.now most reply.items) }
 {
     // Its contract tells that it holds a graph.
     let _triples = store.triples();
@@ -161,6 +173,7 @@ fn link_with(alloc: Global, request: &[u8]) -> Result<MemoryLink, Memory>
 fn front(alloc: Global, bytes: Vec<u8>, most: usize) -> Result<Vec<u8>, Memory>
     ensures size { IfOk result (λ front. length front.items ≤ most) }
     ensures whole { IfOk result (λ front. length front.items < most → front.items ≡ bytes.items) }
+    ensures front { IfOk result (λ front. front.items ≡ take most bytes.items) }
 {
     if bytes.len() <= most {
         return Ok(bytes);

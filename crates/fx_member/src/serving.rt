@@ -3,6 +3,7 @@ ghost use Rattle.std.specs.Prelude.{◌≡◌, ◌≢◌, ◌≤◌, ◌++◌, [
 ghost use Rattle.fx_algebra.specs.Answers.{answer_alone};
 ghost use Rattle.fx_algebra.specs.Occurrences.{services};
 ghost use Rattle.fx_http.specs.Replies.{IsReply};
+ghost use Rattle.fx_http.specs.Requests.{TakesOfRequest};
 ghost use Rattle.fx_http.specs.WrittenReplies.{is_written_status};
 ghost use Rattle.fx_member.specs.GraphWires.{RepliesTo};
 ghost use Rattle.fx_member.specs.Served.{IsLaidOut, IsServed, IsTextTold, Told, own_line, query_told, syntax_told, told};
@@ -59,7 +60,7 @@ pub struct Reply {
 }
 
 /// Reads one request from a link and writes the whole reply to it (SPARQL 1.1 Protocol, 2.1). What is behind the request isn't
-/// read.
+/// read, also where it is refused.
 ///
 /// The status is 200 with the results of a query without SERVICE; 400, 405, 411, 413 or 415 with the name of what the request is
 /// refused for, on a line; 400 with `KIND at PLACE` where the text is no query, and with `ServiceHere` where the query has a
@@ -74,6 +75,7 @@ pub fn serve_one<L: Source + Sink>(
 ) -> Result<Served, ServeError>
     ensures served { IsTrue L.tells_left → IsTrue L.tells_held → IfOk result (λ served. (reply : List ℕ) × IsServed store.now (L.left link.old) served.status reply × (L.held link.new ≡ L.held link.old ++ reply)) }
     ensures honest { IsTrue L.tells_left → IsTrue L.tells_held → IfOk result (λ _. (reply : List ℕ) × IsHonest store.now (L.left link.old) reply × (L.held link.new ≡ L.held link.old ++ reply)) }
+    ensures within { IsTrue L.tells_left → TakesOfRequest (L.left link.old) (L.left link.new) }
     ensures front { IsTrue L.tells_left → IsTrue L.tells_held → result ≡ Err ServeError.WriteFault → (status : ℕ) × (reply : List ℕ) × IsServed store.now (L.left link.old) status reply × AppendsFront (L.held link.old) (L.held link.new) reply }
     ensures nothing { IsTrue L.tells_held → result ≡ Err ServeError.ReadFault → L.held link.new ≡ L.held link.old }
     ensures no_memory { IsTrue L.tells_held → result ≡ Err ServeError.Memory → L.held link.new ≡ L.held link.old }
@@ -97,6 +99,7 @@ pub fn serve_one<L: Source + Sink>(
 pub fn prepare<S: Source>(alloc: Global, store: &Store, source: &mut S) -> Result<Reply, ServeError>
     ensures served { IsTrue S.tells_left → IfOk result (λ reply. IsServed store.now (S.left source.old) reply.status reply.bytes.items) }
     ensures honest { IsTrue S.tells_left → IfOk result (λ reply. IsHonest store.now (S.left source.old) reply.bytes.items) }
+    ensures within { IsTrue S.tells_left → TakesOfRequest (S.left source.old) (S.left source.new) }
     ensures kept { S.read_faults source.old ≤ S.read_faults source.new }
     ensures failed { result ≡ Err ServeError.ReadFault → HasRisen (S.read_faults source.old) (S.read_faults source.new) }
     ensures faultless { result ≢ Err ServeError.ReadFault → S.read_faults source.new ≡ S.read_faults source.old }

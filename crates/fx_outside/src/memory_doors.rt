@@ -29,7 +29,7 @@ pub struct MemoryDoor {
 }
 
 impl MemoryDoor {
-    ghost use Rattle.fx_outside.specs.MemoryDoors.{IsFreshDoor};
+    ghost use Rattle.fx_outside.specs.MemoryDoors.{IsAfterCall, IsFreshDoor, finished_in, is_failing};
 
     /// A door that isn't started, for connections with these inputs in order. Each connection has room for `room` bytes, and one
     /// read or write of it moves at most `step`. The calls of the door whose numbers stand in `fails` fail. A pair of `read_fails`
@@ -46,7 +46,7 @@ impl MemoryDoor {
         write_fails: Vec<(u64, u64)>,
     ) -> Result<MemoryDoor, Memory>
         requires { 0 < step }
-        ensures { IsOkAnd result (λ door. IsFreshDoor door inputs.items) }
+        ensures { IsOkAnd result (λ door. IsFreshDoor door inputs.items room step fails.items read_fails.items write_fails.items) }
     {
         Ok(MemoryDoor {
             inputs,
@@ -65,16 +65,18 @@ impl MemoryDoor {
 
     /// The connections that are finished, in order.
     pub fn finished(&self) -> &[MemoryLink]
-        ensures { result.now ≡ self.now.finished.items }
+        ensures { result.now ≡ finished_in self.now }
     {
         self.finished.as_slice()
     }
 
     // Counts one more call, and says whether it is to fail.
     fn counts_a_failure(&mut self) -> bool
+        ensures failing { result ≡ is_failing self.old }
+        ensures after { IsAfterCall self.old self.new }
+        ensures address { self.new.address ≡ self.old.address }
         ensures inputs { self.new.inputs ≡ self.old.inputs }
         ensures taken { self.new.taken ≡ self.old.taken }
-        ensures address { self.new.address ≡ self.old.address }
         ensures finished { self.new.finished ≡ self.old.finished }
         ensures faults { self.new.faults ≡ self.old.faults }
     {
@@ -84,9 +86,15 @@ impl MemoryDoor {
 
     // The fault of a call, which is counted.
     fn fault(&mut self) -> DoorError
+        ensures calls { self.new.calls ≡ self.old.calls }
+        ensures fails { self.new.fails ≡ self.old.fails }
+        ensures room { self.new.room ≡ self.old.room }
+        ensures step { self.new.step ≡ self.old.step }
+        ensures read_fails { self.new.read_fails ≡ self.old.read_fails }
+        ensures write_fails { self.new.write_fails ≡ self.old.write_fails }
+        ensures address { self.new.address ≡ self.old.address }
         ensures inputs { self.new.inputs ≡ self.old.inputs }
         ensures taken { self.new.taken ≡ self.old.taken }
-        ensures address { self.new.address ≡ self.old.address }
         ensures finished { self.new.finished ≡ self.old.finished }
         ensures kept { self.old.faults ≤ self.new.faults }
         ensures failed { result ≡ DoorError.Failed → self.old.faults < self.new.faults }
@@ -100,8 +108,10 @@ impl MemoryDoor {
 }
 
 impl Door for MemoryDoor {
-    ghost use Rattle.std.specs.Prelude.{true};
-    ghost use Rattle.fx_outside.specs.MemoryDoors.{address_in, inputs_in, outputs_in, faults_in};
+    ghost use Rattle.std.specs.Prelude.{◌+◌, ◌++◌, ◌∷◌, [], ◌⊎◌, Some, true, false, IsErrOf, OnErr, OnOk};
+    ghost use Rattle.fx_outside.specs.Doors.{IsTaken, output_of};
+    ghost use Rattle.fx_outside.specs.MemoryDoors.{IsAfterCall, IsFreshConnection, address_in, faults_in, finished_in, inputs_in, is_failing, next_connection, outputs_in};
+    ghost use Rattle.fx_outside.specs.MemoryLinks.{left_in, written_in, read_faults_of, write_faults_of};
 
     type Conn = MemoryLink;
 
@@ -115,7 +125,24 @@ impl Door for MemoryDoor {
 
     ghost faults = { λ door. faults_in door };
 
-    fn start(&mut self, alloc: Global, address: &str) -> Result<(), DoorError> {
+    /// Opens the door at an address.
+    ///
+    /// `Failed` comes exactly where this call is to fail. `Memory` comes where memory runs out, or where the count of faults
+    /// stands at the end of `u64`. After either it has the address that it had.
+    fn start(&mut self, alloc: Global, address: &str) -> Result<(), DoorError>
+        ensures started { OnOk result (address_in self.new ≡ Some address.now) }
+        ensures unstarted { OnErr result (address_in self.new ≡ address_in self.old) }
+        ensures inputs { inputs_in self.new ≡ inputs_in self.old }
+        ensures outputs { outputs_in self.new ≡ outputs_in self.old }
+        ensures kept { faults_in self.old ≤ faults_in self.new }
+        ensures failed { IsErrOf result DoorError.Failed → faults_in self.old < faults_in self.new }
+        ensures given { OnOk result (is_failing self.old ≡ false) }
+        ensures refused { IsErrOf result DoorError.Failed → is_failing self.old ≡ true }
+        ensures faultless { OnOk result (faults_in self.new ≡ faults_in self.old) }
+        ensures connection { next_connection self.new ≡ next_connection self.old }
+        ensures finished { finished_in self.new ≡ finished_in self.old }
+        ensures after { IsAfterCall self.old self.new }
+    {
         if self.counts_a_failure() {
             return Err(self.fault());
         }
@@ -123,7 +150,27 @@ impl Door for MemoryDoor {
         Ok(())
     }
 
-    fn accept(&mut self, alloc: Global) -> Result<MemoryLink, DoorError> {
+    /// The next connection, with the first of the inputs left.
+    ///
+    /// `Failed` comes exactly where this call is to fail, or no input is left. `Memory` comes where memory runs out, or where
+    /// the count of faults stands at the end of `u64`. After either the input is still left.
+    fn accept(&mut self, alloc: Global) -> Result<MemoryLink, DoorError>
+        ensures faultless_connection { IfOk result (λ conn. (read_faults_of conn ≡ 0) × (write_faults_of conn ≡ 0)) }
+        ensures taken { IfOk result (λ conn. IsTaken (inputs_in self.old) (inputs_in self.new) (left_in conn) (written_in conn)) }
+        ensures untaken { OnErr result (inputs_in self.new ≡ inputs_in self.old) }
+        ensures started { address_in self.new ≡ address_in self.old }
+        ensures outputs { outputs_in self.new ≡ outputs_in self.old }
+        ensures kept { faults_in self.old ≤ faults_in self.new }
+        ensures failed { IsErrOf result DoorError.Failed → faults_in self.old < faults_in self.new }
+        ensures given { OnOk result (is_failing self.old ≡ false) }
+        ensures refused { IsErrOf result DoorError.Failed → (is_failing self.old ≡ true) ⊎ (inputs_in self.old ≡ []) }
+        ensures faultless { OnOk result (faults_in self.new ≡ faults_in self.old) }
+        ensures fresh { IfOk result (λ conn. IsFreshConnection self.old conn) }
+        ensures connection { OnOk result (next_connection self.new ≡ next_connection self.old + 1) }
+        ensures unnumbered { OnErr result (next_connection self.new ≡ next_connection self.old) }
+        ensures finished { finished_in self.new ≡ finished_in self.old }
+        ensures after { IsAfterCall self.old self.new }
+    {
         if self.counts_a_failure() || self.taken == self.inputs.len() {
             return Err(self.fault());
         }
@@ -136,7 +183,25 @@ impl Door for MemoryDoor {
         Ok(link)
     }
 
-    fn finish(&mut self, _alloc: Global, conn: MemoryLink) -> Result<(), DoorError> {
+    /// Ends a connection, which is then the last of those that are finished.
+    ///
+    /// `Failed` comes exactly where this call is to fail. `Memory` comes where memory runs out, or where the count of faults
+    /// stands at the end of `u64`. After either those that are finished are as they were.
+    fn finish(&mut self, _alloc: Global, conn: MemoryLink) -> Result<(), DoorError>
+        ensures ended { OnOk result (outputs_in self.new ≡ outputs_in self.old ++ output_of (written_in conn) (read_faults_of conn) (write_faults_of conn) ∷ []) }
+        ensures unended { OnErr result (outputs_in self.new ≡ outputs_in self.old) }
+        ensures started { address_in self.new ≡ address_in self.old }
+        ensures inputs { inputs_in self.new ≡ inputs_in self.old }
+        ensures kept { faults_in self.old ≤ faults_in self.new }
+        ensures failed { IsErrOf result DoorError.Failed → faults_in self.old < faults_in self.new }
+        ensures given { OnOk result (is_failing self.old ≡ false) }
+        ensures refused { IsErrOf result DoorError.Failed → is_failing self.old ≡ true }
+        ensures faultless { OnOk result (faults_in self.new ≡ faults_in self.old) }
+        ensures last { OnOk result (finished_in self.new ≡ finished_in self.old ++ conn ∷ []) }
+        ensures unfinished { OnErr result (finished_in self.new ≡ finished_in self.old) }
+        ensures connection { next_connection self.new ≡ next_connection self.old }
+        ensures after { IsAfterCall self.old self.new }
+    {
         if self.counts_a_failure() {
             return Err(self.fault());
         }

@@ -1,5 +1,5 @@
 //! Words, each behind a space.
-ghost use Rattle.std.specs.Prelude.{◌≡◌, ◌++◌, ◌∷◌, [], ℕ, List, IfOk, OnOk, map, string_bytes};
+ghost use Rattle.std.specs.Prelude.{◌≡◌, ◌≢◌, ◌++◌, ◌∷◌, [], ℕ, List, IfOk, OnOk, map, string_bytes};
 ghost use Rattle.std.specs.Fmt.{decimal};
 ghost use Rattle.fx_algebra.specs.Printed as spec;
 ghost use Rattle.fx_terms.specs.Writing.{written_term, written_iri};
@@ -72,9 +72,12 @@ pub fn push_variables(text: &mut String, names: &[Name]) -> Result<(), Memory>
     Ok(())
 }
 
-/// The words with one space between, of words that stand each behind a space.
+/// A text without the space that it begins with, if it begins with one: of words that stand each behind a space, the words with
+/// one space between.
 pub fn without_the_first_space(alloc: Global, text: String) -> Result<String, Memory>
-    ensures { (words : List spec.Word) → string_bytes text ≡ spec.spaced words → IfOk result (λ joined. string_bytes joined ≡ spec.joined words) }
+    ensures words { (words : List spec.Word) → string_bytes text ≡ spec.spaced words → IfOk result (λ joined. string_bytes joined ≡ spec.joined words) }
+    ensures behind { (rest : List ℕ) → string_bytes text ≡ 32 ∷ rest → IfOk result (λ bare. string_bytes bare ≡ rest) }
+    ensures same { ((rest : List ℕ) → string_bytes text ≢ 32 ∷ rest) → IfOk result (λ bare. string_bytes bare ≡ string_bytes text) }
 {
     match text.strip_prefix(' ') {
         Some(rest) => Ok(String::from_str(alloc, rest)?),

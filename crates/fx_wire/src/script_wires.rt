@@ -40,15 +40,15 @@ impl ScriptWire {
 
     /// The exchanges that were answered, in order.
     pub fn log(&self) -> &[Answered]
-        ensures { result.now ≡ self.now.log.items }
+        ensures { result.now ≡ spec.answered_in self.now }
     {
         self.log.as_slice()
     }
 }
 
 impl Wire for ScriptWire {
-    ghost use Rattle.std.specs.Prelude.{true, None};
-    ghost use Rattle.fx_wire.specs.Scripts.{log_in, faults_in};
+    ghost use Rattle.std.specs.Prelude.{true, None, Some};
+    ghost use Rattle.fx_wire.specs.Scripts.{log_in, faults_in, next_front, IsAfterFault, IsAfterReply, IsUntouched};
 
     ghost tells_log = { true };
 
@@ -61,15 +61,28 @@ impl Wire for ScriptWire {
     /// The first bytes of the next reply of the endpoint's address: all of them where it has at most `limit` bytes, and else
     /// `limit + 1`.
     ///
-    /// `Failed` comes where the address has no further reply. `Memory` comes where memory runs out, or where the count of
-    /// faults of the address stands at the end of `u64`.
+    /// `Failed` comes exactly where the address has no further reply. `Memory` comes where memory runs out, or where the count
+    /// of faults of the address stands at the end of `u64`: the reply is still left then.
     fn exchange(
         &mut self,
         alloc: Global,
         at: &Endpoint,
         request: &[u8],
         limit: u64,
-    ) -> Result<Vec<u8>, WireError> {
+    ) -> Result<Vec<u8>, WireError>
+        requires { limit ≤ 134217728 }
+        ensures size { IfOk result (λ reply. vec_len reply ≤ limit + 1) }
+        ensures logged { MatchResult result
+            (λ reply. log_in self.new ≡ log_in self.old ++ exchanged at.now request.now reply.items ∷ [])
+            (λ _. log_in self.new ≡ log_in self.old) }
+        ensures kept { (address : List ℕ) → faults_in self.old address ≤ faults_in self.new address }
+        ensures failed { IsErrOf result WireError.Failed → faults_in self.old at.now.iri < faults_in self.new at.now.iri }
+        ensures given { IfOk result (λ reply. next_front self.old at.now.iri limit ≡ Some reply.items) }
+        ensures refused { IsErrOf result WireError.Failed → next_front self.old at.now.iri limit ≡ None }
+        ensures taken { OnOk result (IsAfterReply self.old self.new at.now.iri) }
+        ensures faulty { IsErrOf result WireError.Failed → IsAfterFault self.old self.new at.now.iri }
+        ensures untouched { IsErrOf result WireError.Memory → IsUntouched self.old self.new }
+    {
         let place = self.faults.place(at.iri().text())?;
         let Some(next) = next_reply(self.replies.as_slice(), at.iri()) else {
             self.faults.raise(place);

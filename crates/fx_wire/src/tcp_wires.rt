@@ -1,5 +1,5 @@
 //! The wire over TCP.
-ghost use Rattle.std.specs.Prelude.{◌≡◌, ◌+◌, ◌≤◌, List, ℕ, IfOk, vec_len};
+ghost use Rattle.std.specs.Prelude.{◌≡◌, ◌+◌, ◌<◌, ◌≤◌, List, ℕ, IfOk, IsErrOf, bytes_eq, cond, vec_len};
 ghost use Rattle.fx_wire.specs.TcpWires.{faults_of_wire};
 
 use crate::wires::{Wire, WireError};
@@ -41,13 +41,23 @@ impl<R: Net> Wire for TcpWire<R> {
 
     ghost faults = { λ wire address. faults_of_wire wire address };
 
+    /// The first bytes of what comes back up to the close.
+    ///
+    /// `Failed` comes where the network fails, and is counted; no other answer is.
     fn exchange(
         &mut self,
         alloc: Global,
         at: &Endpoint,
         request: &[u8],
         limit: u64,
-    ) -> Result<Vec<u8>, WireError> {
+    ) -> Result<Vec<u8>, WireError>
+        requires { limit ≤ 134217728 }
+        ensures size { IfOk result (λ reply. vec_len reply ≤ limit + 1) }
+        ensures kept { (address : List ℕ) → faults_of_wire self.old address ≤ faults_of_wire self.new address }
+        ensures failed { IsErrOf result WireError.Failed → faults_of_wire self.old at.now.iri < faults_of_wire self.new at.now.iri }
+        ensures faultless { ¬ IsErrOf result WireError.Failed → (address : List ℕ) → faults_of_wire self.new address ≡ faults_of_wire self.old address }
+        ensures counted { IsErrOf result WireError.Failed → (address : List ℕ) → faults_of_wire self.new address ≡ faults_of_wire self.old address + cond (bytes_eq at.now.iri address) 1 0 }
+    {
         let place = self.faults.place(at.iri().text())?;
         match fetch(&self.network, alloc, at, request, limit as usize + 1) {
             Ok(reply) => Ok(reply),

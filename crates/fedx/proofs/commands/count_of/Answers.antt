@@ -1,4 +1,4 @@
-use Rattle.std.proofs.Common.{◌≡◌, ◌∙◌, sym}
+use Rattle.std.proofs.Common.{◌∙◌, sym}
 use Rattle.fedx.proofs.NumberLemmas.{read_as, not_read}
 use Rattle.fedx.proofs.commands.count_of.Goals as goal
 

@@ -1,4 +1,4 @@
-use Rattle.std.proofs.Common.{◌≡◌, refl, sym, ap, ◌∙◌, ◌++◌, take, take_all}
+use Rattle.std.proofs.Common.{refl, ap, ◌∙◌, ◌++◌, take_all}
 use Rattle.fedx.specs.Lines.{all_pieces}
 use Rattle.fedx.proofs.GainLemmas.{pieces_cut, pieces_whole}
 use Rattle.fedx.proofs.reports.write_pieces.Goals as goal

@@ -1,4 +1,4 @@
-use Rattle.std.proofs.Common.{◌≡◌, ◌≤◌, ◌++◌, take}
+use Rattle.std.proofs.Common.{◌≡◌, ◌++◌, take}
 use Rattle.std.specs.Prelude.{IsTrue}
 use Rattle.fedx.specs.Lines.{all_pieces}
 use Rattle.fedx.proofs.reports.write_pieces.Given as goal

@@ -20,7 +20,7 @@ returns-in-Err-write_ending-clause-reported g c =
     let so = c.loop-number.invariant in
     let last = ending_line (c.loop-number.number + 1) c.in-Ok.ending in (
       ending_lines 1 so.endings ++ last,
-      unwritten c.args.store.now (door_seen g.D.Door.tells g.D.Door.started g.D.Door.inputs g.D.Door.outputs g.D.Door.faults c.args.door.now) g.E.Ends.tells_held (g.E.Ends.held c.args.err.now) (g.E.Ends.write_faults c.args.err.now) (door_seen g.D.Door.tells g.D.Door.started g.D.Door.inputs g.D.Door.outputs g.D.Door.faults c.loop-number.door) (door_seen g.D.Door.tells g.D.Door.started g.D.Door.inputs g.D.Door.outputs g.D.Door.faults c.serve_next.new.door) (g.E.Ends.held c.loop-number.err) (g.E.Ends.write_faults c.loop-number.err) c.loop-number.number so refl c.in-Ok.ending c.in-Ok.ensures.ended,
+      unwritten c.args.store.now (door_seen g.D.Door.tells g.D.Door.started g.D.Door.inputs g.D.Door.outputs g.D.Door.faults c.args.door.now) g.E.Ends.tells_held (g.E.Ends.held c.args.err.now) (g.E.Ends.write_faults c.args.err.now) (door_seen g.D.Door.tells g.D.Door.started g.D.Door.inputs g.D.Door.outputs g.D.Door.faults c.loop-number.door) (door_seen g.D.Door.tells g.D.Door.started g.D.Door.inputs g.D.Door.outputs g.D.Door.faults c.serve_next.new.door) (g.E.Ends.held c.loop-number.err) (g.E.Ends.write_faults c.loop-number.err) c.loop-number.number so refl c.args.address.now c.args.count c.requires c.loop-number-test.true c.in-Ok.ending c.in-Ok.ensures.ended c.in-Ok.ensures.started,
       λ told. gains_then _ _ _ _ (g.E.Ends.write_faults c.loop-number.err) _ (ending_lines 1 so.endings) last (so.lines told) (omega (arith, so.faultless)) (record { front = c.in-Err-write_ending.ensures.front told; whole = λ not. absurd (not (c.in-Err-write_ending.ensures.failed refl)) }),
     )
 
@@ -34,7 +34,7 @@ returns-in-Err-clause-reported g c =
       text,
       subst (λ (s : Status). IsServingReported before after c.args.address.now c.args.count c.args.store.now s text) (sym c.end.ensures.status)
           (ended before after c.args.address.now c.args.count c.args.store.now e text (λ is. omega (arith, so.opened, c.in-Err.ensures.failed (ap Err is)))
-          (cut c.args.store.now before g.E.Ends.tells_held (g.E.Ends.held c.args.err.now) (g.E.Ends.write_faults c.args.err.now) (door_seen g.D.Door.tells g.D.Door.started g.D.Door.inputs g.D.Door.outputs g.D.Door.faults c.loop-number.door) after (g.E.Ends.held c.loop-number.err) (g.E.Ends.write_faults c.loop-number.err) c.loop-number.number so refl e c.in-Err.ensures.ended (end_line e))),
+          (cut c.args.store.now before g.E.Ends.tells_held (g.E.Ends.held c.args.err.now) (g.E.Ends.write_faults c.args.err.now) (door_seen g.D.Door.tells g.D.Door.started g.D.Door.inputs g.D.Door.outputs g.D.Door.faults c.loop-number.door) after (g.E.Ends.held c.loop-number.err) (g.E.Ends.write_faults c.loop-number.err) c.loop-number.number so refl c.args.address.now c.args.count c.requires c.loop-number-test.true e c.in-Err.ensures.ended c.in-Err.ensures.started (end_line e))),
       λ told. gains_then _ _ _ _ _ _ (ending_lines 1 so.endings) (end_line e) (so.lines told) (omega (arith, so.faultless)) (c.end.ensures.line told),
     )
 

@@ -1,8 +1,8 @@
-use Rattle.std.proofs.Common.{◌≡◌, ◌∙◌, ap, sym, subst, refl, List, ℕ, [], ◌++◌, Err, arith}
+use Rattle.std.proofs.Common.{ap, sym, subst, List, ℕ, Err}
 use Rattle.fedx.specs.Serving.{door_seen, IsServingReported}
 use Rattle.fedx.specs.ServingSteps.{end_line}
 use Rattle.fedx.specs.declared.statuses.Status.{Status}
-use Rattle.fedx.proofs.ServingLemmas.{nothing_yet, ended, opened_reported}
+use Rattle.fedx.proofs.ServingLemmas.{not_opened, ended, opened_reported}
 use Rattle.fedx.proofs.serving.serve_store.Goals as goal
 
 pub returns-in-Err-clause-reported : goal.returns-in-Err-clause-reported
@@ -12,6 +12,6 @@ returns-in-Err-clause-reported g c =
     let e = c.in-Err.error in (
       end_line e,
       subst (λ (s : Status). IsServingReported before after c.args.address.now c.args.count c.args.store.now s (end_line e)) (sym c.end.ensures.status)
-          (ended before after c.args.address.now c.args.count c.args.store.now e (end_line e) (λ is. c.in-Err.ensures.failed (ap Err is)) ([], λ tells. ([], nothing_yet c.args.store.now before after (c.in-Err.ensures.outputs tells) (c.in-Err.ensures.inputs tells), omega arith), refl)),
+          (ended before after c.args.address.now c.args.count c.args.store.now e (end_line e) (λ is. c.in-Err.ensures.failed (ap Err is)) (not_opened c.args.store.now before after c.args.address.now c.args.count (end_line e) (λ tells. c.in-Err.ensures.unstarted tells) c.in-Err.ensures.outputs c.in-Err.ensures.inputs)),
       c.end.ensures.line,
     )

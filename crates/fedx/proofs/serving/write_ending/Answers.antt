@@ -1,4 +1,3 @@
-use Rattle.std.proofs.Common.{rules}
 use Rattle.fedx.proofs.serving.write_ending.Goals as goal
 
 pub returns-clause-whole : goal.returns-clause-whole

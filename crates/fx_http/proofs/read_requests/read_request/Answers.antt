@@ -1,7 +1,7 @@
 use Rattle.std.proofs.Common.{◌≡◌, ◌∙◌, ℕ, List, ◌++◌, sym, ap, subst}
 use Rattle.fx_http.specs.RequestHeads.{IsWholeHead, AsksBehind, IsBodyBehind}
 use Rattle.fx_http.specs.Requests.{Asks, IsRequest}
-use Rattle.fx_http.proofs.ReadRequestLaws.{only_answer, gives_as, asks_whole, taken_whole, ok_both}
+use Rattle.fx_http.proofs.ReadRequestLaws.{only_answer, gives_as, asks_whole, taken_whole, takes_behind, ok_both}
 use Rattle.fx_http.proofs.read_requests.read_request.Goals as goal
 
 pub returns-clause-found : goal.returns-clause-found
@@ -28,3 +28,12 @@ returns-clause-taken g c t =
     (subst IsWholeHead (sym same) c.in_ok-front.ensures.head)
     (c.in_ok-front.ensures.taken t ∙ ap (λ (bs : List ℕ). bs ++ rest) (sym same)) h k)
     (c.read_behind.ensures.found t) (c.read_behind.ensures.taken t)
+
+pub returns-clause-within : goal.returns-clause-within
+returns-clause-within g c t =
+    let same : c.deref.result.now ≡ c.in_ok-front.front.items = c.deref.ensures.value in
+    let rest : List ℕ = g.S.Ends.left c.read_head.new.source in
+    takes_behind (g.S.Ends.left c.args.source.now) c.deref.result.now rest (g.S.Ends.left c.read_behind.new.source)
+    (subst IsWholeHead (sym same) c.in_ok-front.ensures.head)
+    (c.in_ok-front.ensures.taken t ∙ ap (λ (bs : List ℕ). bs ++ rest) (sym same))
+    (c.read_behind.ensures.within t)

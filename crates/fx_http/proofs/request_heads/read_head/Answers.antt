@@ -1,7 +1,7 @@
 use Rattle.std.proofs.Common.{◌≡◌, ◌∙◌, ℕ, List, ◌∷◌, [], ◌++◌, sym, ap, subst, refl, rules}
 use Rattle.std.specs.List.{list_any}
 use Rattle.fx_http.specs.RequestHeads.{is_of_line, HasNoHeadYet, BeginsWithSome, IsWholeHead}
-use Rattle.fx_http.proofs.HeadSteps.{headless_nil, headless_open, whole_head, begun_more, came_more, one_more, shut_here, headless_long}
+use Rattle.fx_http.proofs.HeadSteps.{headless_nil, headless_open, whole_head, begun_more, came_more, one_more, shut_here, headless_long, head_part, head_part_more, on_err}
 use Rattle.fx_http.proofs.ReadingLemmas.{rest_one}
 use Rattle.fx_http.proofs.request_heads.read_head.Goals as goal
 
@@ -55,3 +55,24 @@ loop-source-preserved g c =
 pub returns-clause-refused : goal.returns-clause-refused
 returns-clause-refused g c t =
     headless_long _ c.loop-source.bytes.items _ c.loop-source.invariant.headless (c.loop-source.invariant.came t) (search rules)
+
+pub returns-in_err-byte-clause-stopped : goal.returns-in_err-byte-clause-stopped
+returns-in_err-byte-clause-stopped g c t =
+    let bytes = c.loop-source.bytes.items in
+    let i = c.loop-source.invariant in
+    let same : g.S.Ends.left c.read_byte.new.source ≡ g.S.Ends.left c.loop-source.source = c.in_err-byte.ensures.unread t in
+    on_err c.from_residual.result _
+    (head_part _ bytes _ i.headless (i.came t ∙ sym (ap (λ (bs : List ℕ). bytes ++ bs) same)) (search rules))
+
+pub returns-in_err-extend_from_slice-clause-stopped : goal.returns-in_err-extend_from_slice-clause-stopped
+returns-in_err-extend_from_slice-clause-stopped g c t =
+    let bytes = c.loop-source.bytes.items in
+    on_err c.from_residual-in_err-extend_from_slice.result _
+    (head_part_more _ bytes _ c.in-Some.byte c.loop-source.invariant.headless
+    (came_more _ bytes _ _ c.in_ok-byte.field-0 c.in-Some.byte (c.loop-source.invariant.came t) c.in-Some.is (c.in_ok-byte.ensures.taken t))
+    (search rules))
+
+pub returns-clause-stopped : goal.returns-clause-stopped
+returns-clause-stopped g c t =
+    let i = c.loop-source.invariant in
+    head_part _ c.loop-source.bytes.items _ i.headless (i.came t) (search rules)

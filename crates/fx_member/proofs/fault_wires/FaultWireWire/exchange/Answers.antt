@@ -29,3 +29,15 @@ pub returns-clause-honest : goal.returns-clause-honest
 returns-clause-honest c =
     let P : GraphWire → Type 0 = λ wire. IfOk c.exchange.result (λ reply. IfSome (graph_in wire c.args.at.now.iri) (λ told. IsGraph told × (length reply.items ≤ c.args.limit → IsHonest told c.args.request.now reply.items))) in
     subst P c.counts_a_failure.ensures.wire c.exchange.ensures.honest
+
+pub returns-then-branch-clause-counted : goal.returns-then-branch-clause-counted
+returns-then-branch-clause-counted c =
+    λ _ other.
+    let address = c.args.at.now.iri in
+    let P : NameCounts → Type 0 = λ counts. IsPlaceOf counts c.in_ok-place.place address in
+    let Q : List ℕ → Type 0 = IsPlaceOf c.place.new.self c.in_ok-place.place in
+    let named : c.text.result.now ≡ address = c.text.ensures.value ∙ c.iri.ensures in
+    let found = subst P (sym c.counts_a_failure.ensures.faults) (subst Q named c.in_ok-place.ensures.found) in
+    let own = ap (λ (counts : NameCounts). count_of counts other) c.counts_a_failure.ensures.faults in
+    let inner = ap (λ (wire : GraphWire). faults_in wire other) c.counts_a_failure.ensures.wire in
+    omega (arith, c.in_ok-place.ensures.same other, own, inner, c.raise.ensures.raised address found other)

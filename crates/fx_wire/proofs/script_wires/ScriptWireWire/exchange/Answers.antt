@@ -1,5 +1,8 @@
-use Rattle.std.proofs.Common.{◌≡◌, ◌∙◌, List, ℕ, arith, subst}
+use Rattle.std.proofs.Common.{◌≡◌, ◌∙◌, ◌+◌, List, ℕ, take, None, Some, position, slice_get, option_map, ap, sym, refl, arith, subst}
+use Rattle.std.proofs.lemmas.Option.{slice_get_read}
 use Rattle.fx_outside.specs.NameCounts.{IsPlaceOf}
+use Rattle.fx_wire.specs.Scripts.{is_for}
+use Rattle.fx_wire.proofs.ScriptLemmas.{take_least, none_left, next_left, rest_left, others_left}
 use Rattle.fx_wire.proofs.script_wires.ScriptWireWire.exchange.Goals as goal
 
 pub returns-in_default-clause-failed : goal.returns-in_default-clause-failed
@@ -11,3 +14,31 @@ returns-in_default-clause-failed c =
 
 pub returns-in_default-clause-kept : goal.returns-in_default-clause-kept
 returns-in_default-clause-kept c = λ other. omega (arith, c.in_ok-place.ensures.same other, c.raise.ensures.kept other)
+
+pub returns-in_default-clause-refused : goal.returns-in_default-clause-refused
+returns-in_default-clause-refused c =
+    λ _.
+    let at : position (is_for c.args.at.now.iri) c.args.self.now.replies.items ≡ None = sym (rw (c.as_slice.ensures.value, c.iri-2.ensures) at c.in_default.ensures.place) in
+    ap (option_map (take (c.args.limit + 1))) (none_left c.args.self.now.replies.items c.args.at.now.iri at)
+
+pub returns-clause-given : goal.returns-clause-given
+returns-clause-given c =
+    let replies = c.args.self.now.replies.items in
+    let address = c.args.at.now.iri in
+    let i = c.in-Some.next in
+    let at : position (is_for address) replies ≡ Some i = sym (rw (c.as_slice.ensures.value, c.iri-2.ensures) at c.in-Some.ensures.place) in
+    let within = rw c.as_slice.ensures.value at c.in-Some.ensures.within in
+    let found = slice_get_read replies _ i c.index.result.now refl within c.index.ensures in
+    let front : c.in_ok-reply.reply.items ≡ take (c.args.limit + 1) c.index.result.now.1.items = c.in_ok-reply.ensures.items ∙ take_least _ _ c.as_slice-whole.result.now c.min.ensures ∙ ap (take (c.args.limit + 1)) c.as_slice-whole.ensures.value in
+    ap (option_map (take (c.args.limit + 1))) (next_left replies address i at within c.index.result.now found) ∙ ap Some (sym front)
+
+pub returns-clause-taken : goal.returns-clause-taken
+returns-clause-taken c =
+    let replies = c.args.self.now.replies.items in
+    let address = c.args.at.now.iri in
+    let i = c.in-Some.next in
+    let at : position (is_for address) replies ≡ Some i = sym (rw (c.as_slice.ensures.value, c.iri-2.ensures) at c.in-Some.ensures.place) in
+    let within = rw c.as_slice.ensures.value at c.in-Some.ensures.within in
+    let taken = rest_left replies address i at within in
+    let others = others_left replies address i at within in
+    record { taken = rw c.remove.ensures.items taken; others = λ other apart. rw c.remove.ensures.items (others other apart); faultless = c.in_ok-place.ensures.same }
