@@ -12,6 +12,7 @@ use Rattle.fedx.specs.declared.refusals.RegistryRefusal.{RegistryRefusal}
 use Rattle.fedx.specs.declared.refusals.RegistryRefusal.TheVariants as registry
 use Rattle.fedx.specs.declared.statuses.Status.{Status}
 use Rattle.fedx.specs.declared.statuses.Status.TheVariants as status
+use Rattle.fedx.specs.Asking.{AsksFitsInTurn}
 use Rattle.fedx.specs.Explain.{FirstUnknown, IsExplainReported}
 use Rattle.fedx.specs.ExplainSteps.{unknown_of, IsPlanReported}
 use Rattle.fedx.specs.Files.{FileRead}
@@ -31,14 +32,14 @@ registry_explained wire r q (registry.Refused (error.Bad n)) h = (error.Bad n, h
 registry_explained wire r q (registry.Refused (error.TooMany n)) h = (error.TooMany n, h, refl, refl)
 registry_explained wire r q (registry.Refused (error.RepeatedName n)) h = (error.RepeatedName n, h, refl, refl)
 registry_explained wire r q (registry.Refused (error.RepeatedUrl n)) h = (error.RepeatedUrl n, h, refl, refl)
-registry_explained wire r q (registry.Refused error.Memory) h = refl
-registry_explained wire r q registry.Memory h = refl
+registry_explained wire r q (registry.Refused error.Memory) h = (inl refl, refl)
+registry_explained wire r q registry.Memory h = (inl refl, refl)
 
 pub query_explained : (wire : Seen) (r q : FileRead) (es : List EndpointParts) (e : QueryRefusal) → GivesRegistry r (Ok es) → GivesQuery q (Err e) → IsExplainReported wire wire r q (query_status e) (query_line e q.name)
 query_explained wire r q es query.Fault g h = (inr (a_registry r es g, h, refl), refl)
 query_explained wire r q es query.TooLong g h = (inr (a_registry r es g, h, refl), refl)
 query_explained wire r q es (query.Refused kind at) g h = (a_registry r es g, refl, (kind, at, h, refl))
-query_explained wire r q es query.Memory g h = refl
+query_explained wire r q es query.Memory g h = (inl refl, refl)
 
 -- ---- occurrences of SERVICE
 
@@ -72,18 +73,18 @@ first_of r q es asked iri g h n = (es, asked, g, h, n)
 asks_fit : (asked : Query) (count at : ℕ) (question : Question) → OfMissing asked count [] at question → AsksFit question asked
 asks_fit asked count at question h = (h.0, h.1, h.3)
 
-pub plan_explained : (before after : Seen) (r q : FileRead) (es : List EndpointParts) (asked : Query) (s : Status) (text : List ℕ) → GivesRegistry r (Ok es) → GivesQuery q (Ok asked) → IsPlanReported before after es asked s text → IsExplainReported before after r q s text
-plan_explained before after r q es asked status.Done text g h k = ((es, asked, g, h, k.0, k.1.0), k.1.1)
-plan_explained before after r q es asked status.WriteFault text g h k = ((es, asked, g, h, k.0, k.1.0), k.1.1)
-plan_explained before after r q es asked status.NoMemory text g h k = k
-plan_explained before after r q es asked status.UnknownService text g h k = (k.0, first_of r q es asked (Some k.0) g h k.1, k.2, k.3)
-plan_explained before after r q es asked status.EndpointFault text g h k = let m = k.1 in (first_of r q es asked None g h k.0, (m.0, m.2, query_that q asked (AsksFit m.2) (asks_fit asked (length es) m.1 m.2 m.3) h, a_member r es m.0 m.1 g m.4, m.5, m.6))
-plan_explained before after r q es asked status.BadReply text g h k = let m = k.1 in (first_of r q es asked None g h k.0, (m.0, m.2, m.3, query_that q asked (AsksFit m.2) (asks_fit asked (length es) m.1 m.2 m.4) h, a_member r es m.0 m.1 g m.5, m.6, m.7))
-plan_explained before after r q es asked status.RequestTooLong text g h k = let m = k.1 in (first_of r q es asked None g h k.0, (m.0, m.2, m.3, query_that q asked (AsksFit m.2) (asks_fit asked (length es) m.1 m.2 m.4) h, a_member r es m.0 m.1 g m.5, m.6, m.7))
-plan_explained before after r q es asked status.Usage text g h k = absurd k.1
-plan_explained before after r q es asked status.GraphRefused text g h k = absurd k.1
-plan_explained before after r q es asked status.RegistryRefused text g h k = absurd k.1
-plan_explained before after r q es asked status.QueryRefused text g h k = absurd k.1
-plan_explained before after r q es asked status.DoorFault text g h k = absurd k.1
-plan_explained before after r q es asked status.ReadFault text g h k = absurd k.1
-plan_explained before after r q es asked status.FileTooLong text g h k = absurd k.1
+pub plan_explained : (before after : Seen) (r q : FileRead) (es : List EndpointParts) (asked : Query) (s : Status) (text : List ℕ) → GivesRegistry r (Ok es) → GivesQuery q (Ok asked) → IsPlanReported before after es asked s text → AsksFitsInTurn before after es asked → IsExplainReported before after r q s text
+plan_explained before after r q es asked status.Done text g h k b = ((es, asked, g, h, k.0, k.1.0), k.1.1)
+plan_explained before after r q es asked status.WriteFault text g h k b = ((es, asked, g, h, k.0, k.1.0), k.1.1)
+plan_explained before after r q es asked status.NoMemory text g h k b = (inr (es, asked, g, h, b), k)
+plan_explained before after r q es asked status.UnknownService text g h k b = (k.0, first_of r q es asked (Some k.0) g h k.1, k.2, k.3)
+plan_explained before after r q es asked status.EndpointFault text g h k b = let m = k.1 in (first_of r q es asked None g h k.0, (es, asked, g, h, b), (m.0, m.2, query_that q asked (AsksFit m.2) (asks_fit asked (length es) m.1 m.2 m.3) h, a_member r es m.0 m.1 g m.4, m.5, m.6))
+plan_explained before after r q es asked status.BadReply text g h k b = let m = k.1 in (first_of r q es asked None g h k.0, (es, asked, g, h, b), (m.0, m.2, m.3, query_that q asked (AsksFit m.2) (asks_fit asked (length es) m.1 m.2 m.4) h, a_member r es m.0 m.1 g m.5, m.6, m.7))
+plan_explained before after r q es asked status.RequestTooLong text g h k b = let m = k.1 in (first_of r q es asked None g h k.0, (es, asked, g, h, b), (m.0, m.2, m.3, query_that q asked (AsksFit m.2) (asks_fit asked (length es) m.1 m.2 m.4) h, a_member r es m.0 m.1 g m.5, m.6, m.7))
+plan_explained before after r q es asked status.Usage text g h k b = absurd k.1
+plan_explained before after r q es asked status.GraphRefused text g h k b = absurd k.1
+plan_explained before after r q es asked status.RegistryRefused text g h k b = absurd k.1
+plan_explained before after r q es asked status.QueryRefused text g h k b = absurd k.1
+plan_explained before after r q es asked status.DoorFault text g h k b = absurd k.1
+plan_explained before after r q es asked status.ReadFault text g h k b = absurd k.1
+plan_explained before after r q es asked status.FileTooLong text g h k b = absurd k.1

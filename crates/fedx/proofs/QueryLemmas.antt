@@ -18,6 +18,7 @@ use Rattle.fedx.specs.declared.refusals.RegistryRefusal.{RegistryRefusal}
 use Rattle.fedx.specs.declared.refusals.RegistryRefusal.TheVariants as registry
 use Rattle.fedx.specs.declared.statuses.Status.{Status}
 use Rattle.fedx.specs.declared.statuses.Status.TheVariants as status
+use Rattle.fedx.specs.Asking.{AsksInTurn}
 use Rattle.fedx.specs.FedRefusals.{fed_status_of, fed_line, name_at, name_of}
 use Rattle.fedx.specs.Files.{FileRead, IsRegistryFile, IsQueryThat, IsMember}
 use Rattle.fedx.specs.Lines.{not_built, member_failed, bad_reply, request_too_long}
@@ -35,8 +36,8 @@ registry_reported wire r q (registry.Refused (error.Bad n)) h = (error.Bad n, h,
 registry_reported wire r q (registry.Refused (error.TooMany n)) h = (error.TooMany n, h, refl, refl)
 registry_reported wire r q (registry.Refused (error.RepeatedName n)) h = (error.RepeatedName n, h, refl, refl)
 registry_reported wire r q (registry.Refused (error.RepeatedUrl n)) h = (error.RepeatedUrl n, h, refl, refl)
-registry_reported wire r q (registry.Refused error.Memory) h = refl
-registry_reported wire r q registry.Memory h = refl
+registry_reported wire r q (registry.Refused error.Memory) h = (inl refl, refl)
+registry_reported wire r q registry.Memory h = (inl refl, refl)
 
 pub a_registry : (r : FileRead) (es : List EndpointParts) → GivesRegistry r (Ok es) → IsRegistryFile r
 a_registry r es h = pick r.content h
@@ -63,7 +64,7 @@ pub query_reported : (wire : Seen) (r q : FileRead) (es : List EndpointParts) (e
 query_reported wire r q es query.Fault g h = (inr (a_registry r es g, h, refl), refl)
 query_reported wire r q es query.TooLong g h = (inr (a_registry r es g, h, refl), refl)
 query_reported wire r q es (query.Refused kind at) g h = (a_registry r es g, refl, inl (kind, at, h, refl))
-query_reported wire r q es query.Memory g h = refl
+query_reported wire r q es query.Memory g h = (inl refl, refl)
 
 -- a query that isn't plain
 pub other_reported : (wire : Seen) (r q : FileRead) (es : List EndpointParts) (asked : Query) → GivesRegistry r (Ok es) → GivesQuery q (Ok asked) → is_plain asked ≡ false → IsQueryReported wire wire r q status.QueryRefused not_built
@@ -98,21 +99,21 @@ asks_plainly : (asked : Query) (count at : ℕ) (question : Question) → IsPlai
 asks_plainly asked count at question p (inl h) = (p, inl (h.0, h.1, h.3))
 asks_plainly asked count at question p (inr h) = (p, inr h)
 
-pub ask_reported : (before after : Seen) (r q : FileRead) (es : List EndpointParts) (asked : Query) (s : Status) (text : List ℕ) → GivesRegistry r (Ok es) → GivesQuery q (Ok asked) → IsPlain asked → IsAskReported (AsksSources es asked []) (OfQuery asked (length es) []) before after es asked s text → IsQueryReported before after r q s text
-ask_reported before after r q es asked status.Done text g h p k = ((es, asked, g, h, p, k.0), k.1)
-ask_reported before after r q es asked status.WriteFault text g h p k = ((es, asked, g, h, p, k.0), k.1)
-ask_reported before after r q es asked status.NoMemory text g h p k = k
-ask_reported before after r q es asked status.EndpointFault text g h p k = (k.0, k.2, query_that q asked (AsksPlainly k.2) (asks_plainly asked (length es) k.1 k.2 p k.3) h, a_member r es k.0 k.1 g k.4, k.5, k.6)
-ask_reported before after r q es asked status.BadReply text g h p k = (k.0, k.2, k.3, query_that q asked (AsksPlainly k.2) (asks_plainly asked (length es) k.1 k.2 p k.4) h, a_member r es k.0 k.1 g k.5, k.6, k.7)
-ask_reported before after r q es asked status.RequestTooLong text g h p k = (k.0, k.2, k.3, query_that q asked (AsksPlainly k.2) (asks_plainly asked (length es) k.1 k.2 p k.4) h, a_member r es k.0 k.1 g k.5, k.6, k.7)
-ask_reported before after r q es asked status.Usage text g h p k = absurd k
-ask_reported before after r q es asked status.GraphRefused text g h p k = absurd k
-ask_reported before after r q es asked status.RegistryRefused text g h p k = absurd k
-ask_reported before after r q es asked status.QueryRefused text g h p k = absurd k
-ask_reported before after r q es asked status.UnknownService text g h p k = absurd k
-ask_reported before after r q es asked status.DoorFault text g h p k = absurd k
-ask_reported before after r q es asked status.ReadFault text g h p k = absurd k
-ask_reported before after r q es asked status.FileTooLong text g h p k = absurd k
+pub ask_reported : (before after : Seen) (r q : FileRead) (es : List EndpointParts) (asked : Query) (s : Status) (text : List ℕ) → GivesRegistry r (Ok es) → GivesQuery q (Ok asked) → IsPlain asked → IsAskReported (AsksSources es asked []) (OfQuery asked (length es) []) before after es asked s text → AsksInTurn before after es asked → IsQueryReported before after r q s text
+ask_reported before after r q es asked status.Done text g h p k b = ((es, asked, g, h, p, k.0), k.1)
+ask_reported before after r q es asked status.WriteFault text g h p k b = ((es, asked, g, h, p, k.0), k.1)
+ask_reported before after r q es asked status.NoMemory text g h p k b = (inr (es, asked, g, h, b), k)
+ask_reported before after r q es asked status.EndpointFault text g h p k b = ((es, asked, g, h, b), (k.0, k.2, query_that q asked (AsksPlainly k.2) (asks_plainly asked (length es) k.1 k.2 p k.3) h, a_member r es k.0 k.1 g k.4, k.5, k.6))
+ask_reported before after r q es asked status.BadReply text g h p k b = ((es, asked, g, h, b), (k.0, k.2, k.3, query_that q asked (AsksPlainly k.2) (asks_plainly asked (length es) k.1 k.2 p k.4) h, a_member r es k.0 k.1 g k.5, k.6, k.7))
+ask_reported before after r q es asked status.RequestTooLong text g h p k b = ((es, asked, g, h, b), (k.0, k.2, k.3, query_that q asked (AsksPlainly k.2) (asks_plainly asked (length es) k.1 k.2 p k.4) h, a_member r es k.0 k.1 g k.5, k.6, k.7))
+ask_reported before after r q es asked status.Usage text g h p k b = absurd k
+ask_reported before after r q es asked status.GraphRefused text g h p k b = absurd k
+ask_reported before after r q es asked status.RegistryRefused text g h p k b = absurd k
+ask_reported before after r q es asked status.QueryRefused text g h p k b = absurd k
+ask_reported before after r q es asked status.UnknownService text g h p k b = absurd k
+ask_reported before after r q es asked status.DoorFault text g h p k b = absurd k
+ask_reported before after r q es asked status.ReadFault text g h p k b = absurd k
+ask_reported before after r q es asked status.FileTooLong text g h p k b = absurd k
 
 a_union : (before : Seen) (r q : FileRead) (es : List EndpointParts) (asked : Query) (text : List ℕ) → GivesRegistry r (Ok es) → GivesQuery q (Ok asked) → IsPlain asked → IsUnionDocument before es asked text → IsUnionAnswer before r q text
 a_union before r q es asked text g h p k = pick r.content g

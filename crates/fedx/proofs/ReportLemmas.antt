@@ -44,8 +44,8 @@ usage_reported read wire door (Some a) h = cc
 pub memory_reported : (read : List ℕ → FileRead) (wire : Seen) (door : DoorSeen) (asked : Option Asked) → Reports read wire wire door door asked status.NoMemory no_memory
 memory_reported read wire door None = (refl, refl, refl)
 memory_reported read wire door (Some (over_file g q)) = (refl, refl, refl)
-memory_reported read wire door (Some (over_members r q)) = (refl, refl)
-memory_reported read wire door (Some (planned r q)) = (refl, refl)
+memory_reported read wire door (Some (over_members r q)) = ((inl refl, refl), refl)
+memory_reported read wire door (Some (planned r q)) = ((inl refl, refl), refl)
 memory_reported read wire door (Some (served g a n)) = (inl (refl, refl), refl)
 
 -- ---- reports of `local`

@@ -1,7 +1,6 @@
 -- Connections that were served, one after another.
 use Rattle.std.proofs.Common.{length-append, ◌≡◌, ◌∙◌, ap, sym, subst, ℕ, Bool, suc, ◌+◌, ◌<◌, ◌≤◌, List, [], ◌∷◌, ◌++◌, map, length, append_assoc, append-nil, arith, refl, Some, Ok, Err, inl, inr}
 use Rattle.std.specs.Prelude.{◌⊎◌, IsTrue}
-use Rattle.std.specs.List.{All}
 use Rattle.std.proofs.lemmas.List.Elements.{All-append, All-cons, All-nil}
 use Rattle.std.proofs.lemmas.List.{map-append}
 use Rattle.fx_terms.specs.declared.triples.Triple.{Triple}
@@ -13,7 +12,7 @@ use Rattle.fedx.specs.LocalSteps.{GivesGraph, graph_line}
 use Rattle.fedx.specs.RefusalStatuses.{graph_status}
 use Rattle.fedx.specs.declared.refusals.GraphRefusal.{GraphRefusal}
 use Rattle.fedx.specs.declared.refusals.GraphRefusal.TheVariants as refusal
-use Rattle.fedx.specs.Serving.{DoorSeen, Visit, IsVisit, IsEnded, HasVisits, Serves, ending_line, ending_lines, IsServingReported, IsDone, IsUnwritten, IsCut, IsOneAtMost, IsOpen, IsShut, HasStopped, IsGraphOf, IsMemberReported}
+use Rattle.fedx.specs.Serving.{DoorSeen, Visit, IsVisit, IsEnded, HasVisits, Serves, ending_line, ending_lines, IsServingReported, IsUnwritten, IsCut, IsOpen, IsShut, HasStopped, IsGraphOf, IsMemberReported}
 use Rattle.fedx.specs.ServingSteps.{IsServedNext, IsLost, GivesEnding, end_status, end_line}
 use Rattle.fedx.specs.declared.serving.Ending.{Ending}
 use Rattle.fedx.specs.declared.statuses.Status.{Status}

@@ -1,5 +1,5 @@
 -- What `fedx explain` does.
-use Rattle.std.specs.Prelude.{◌≡◌, ◌⊎◌, ℕ, ◌<◌, List, [], ◌++◌, Option, Some, None, IfSome, Ok}
+use Rattle.std.specs.Prelude.{◌≡◌, ◌⊎◌, ℕ, List, [], ◌++◌, Option, Some, None, IfSome, Ok}
 use Rattle.fx_terms.specs.declared.triples.Triple.{Triple}
 use Rattle.fx_outside.specs.Endpoints.{EndpointParts}
 use Rattle.fx_outside.specs.Streams.{AppendsFront}
@@ -19,7 +19,7 @@ use Rattle.fx_engine.specs.declared.errors.ReplyFault.{ReplyFault}
 use Rattle.fedx.specs.declared.limits.TheConstants.{QUERY_LIMIT, REGISTRY_LIMIT}
 use Rattle.fedx.specs.declared.statuses.Status.{Status}
 use Rattle.fedx.specs.declared.statuses.Status.TheVariants as status
-use Rattle.fedx.specs.Asking.{HasAsked}
+use Rattle.fedx.specs.Asking.{AsksFitsInTurn, HasAsked}
 use Rattle.fedx.specs.Files.{FileRead, HasFailed, IsTooLong, IsNoQuery, IsQueryOf, IsQueryThat, IsRegistryFile, IsRegistryOf, IsNoRegistry, IsMember}
 use Rattle.fedx.specs.Lines.{cannot_read, query_refused, query_too_long, registry_too_long, registry_refused, unknown_service, member_failed, bad_reply, request_too_long, no_memory}
 use Rattle.fedx.specs.Query.{AsksFit}
@@ -54,13 +54,17 @@ FirstUnknown r q iri = (endpoints : List EndpointParts) × (asked : Query) × Is
 abbrev pub IsExplained : Seen → Seen → FileRead → FileRead → Type 0
 IsExplained before after r q = (endpoints : List EndpointParts) × (asked : Query) × IsRegistryOf r endpoints × IsQueryOf q asked × (first_unknown endpoints (services asked) ≡ None) × HasAsked AsksNothing before after endpoints asked
 
+-- the query's ASKs were sent in their order, up to some place, and nothing else was asked
+abbrev pub IsExplainBegun : Seen → Seen → FileRead → FileRead → Type 0
+IsExplainBegun before after r q = (endpoints : List EndpointParts) × (asked : Query) × IsRegistryOf r endpoints × IsQueryOf q asked × AsksFitsInTurn before after endpoints asked
+
 -- the cause of each status, and its line on standard error: the registry's file is read first, then its registry, then the
 -- query's file and its query, then its occurrences of SERVICE are looked at, and then the members are asked. Before that all that
 -- is seen of the wire is as it was.
 abbrev pub IsExplainReported : Seen → Seen → FileRead → FileRead → Status → List ℕ → Type 0
 IsExplainReported before after r q status.Done text = IsExplained before after r q × (text ≡ [])
 IsExplainReported before after r q status.WriteFault text = IsExplained before after r q × (text ≡ [])
-IsExplainReported before after r q status.NoMemory text = text ≡ no_memory
+IsExplainReported before after r q status.NoMemory text = ((after ≡ before) ⊎ IsExplainBegun before after r q) × (text ≡ no_memory)
 IsExplainReported before after r q status.Usage text = ⊥
 IsExplainReported before after r q status.GraphRefused text = ⊥
 IsExplainReported before after r q status.DoorFault text = ⊥
@@ -69,9 +73,9 @@ IsExplainReported before after r q status.QueryRefused text = IsRegistryFile r �
 IsExplainReported before after r q status.UnknownService text = (iri : List ℕ) × FirstUnknown r q (Some iri) × (text ≡ unknown_service iri) × (after ≡ before)
 IsExplainReported before after r q status.ReadFault text = ((HasFailed r × (text ≡ cannot_read r.name)) ⊎ (IsRegistryFile r × HasFailed q × (text ≡ cannot_read q.name))) × (after ≡ before)
 IsExplainReported before after r q status.FileTooLong text = ((IsTooLong REGISTRY_LIMIT r × (text ≡ registry_too_long r.name)) ⊎ (IsRegistryFile r × IsTooLong QUERY_LIMIT q × (text ≡ query_too_long q.name))) × (after ≡ before)
-IsExplainReported before after r q status.EndpointFault text = FirstUnknown r q None × ((e : EndpointParts) × (question : Question) × IsQueryThat q (AsksFit question) × IsMember r e × member.HasFailed before after e × (text ≡ member_failed e.name))
-IsExplainReported before after r q status.BadReply text = FirstUnknown r q None × ((e : EndpointParts) × (question : Question) × (why : ReplyFault) × IsQueryThat q (AsksFit question) × IsMember r e × member.HasBadReply before after question why e × (text ≡ bad_reply e.name why))
-IsExplainReported before after r q status.RequestTooLong text = FirstUnknown r q None × ((e : EndpointParts) × (question : Question) × (size : ℕ) × IsQueryThat q (AsksFit question) × IsMember r e × member.IsTooLong question size × (text ≡ request_too_long e.name size))
+IsExplainReported before after r q status.EndpointFault text = FirstUnknown r q None × IsExplainBegun before after r q × ((e : EndpointParts) × (question : Question) × IsQueryThat q (AsksFit question) × IsMember r e × member.HasFailed before after e × (text ≡ member_failed e.name))
+IsExplainReported before after r q status.BadReply text = FirstUnknown r q None × IsExplainBegun before after r q × ((e : EndpointParts) × (question : Question) × (why : ReplyFault) × IsQueryThat q (AsksFit question) × IsMember r e × member.HasBadReply before after question why e × (text ≡ bad_reply e.name why))
+IsExplainReported before after r q status.RequestTooLong text = FirstUnknown r q None × IsExplainBegun before after r q × ((e : EndpointParts) × (question : Question) × (size : ℕ) × IsQueryThat q (AsksFit question) × IsMember r e × member.IsTooLong question size × (text ≡ request_too_long e.name size))
 
 -- what each status leaves on standard output: the text, a front of it where a write failed, and else nothing new
 abbrev pub IsExplainWritten : Seen → FileRead → FileRead → Status → List ℕ → List ℕ → Type 0

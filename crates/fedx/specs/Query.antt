@@ -1,11 +1,11 @@
 -- What `fedx query` does.
-use Rattle.std.specs.Prelude.{◌≡◌, ◌⊎◌, ℕ, ◌<◌, List, [], ◌++◌, IfSome, Ok, false, Contains}
+use Rattle.std.specs.Prelude.{◌≡◌, ◌⊎◌, ℕ, List, [], ◌++◌, IfSome, Ok, false, Contains}
 use Rattle.fx_outside.specs.Endpoints.{EndpointParts}
 use Rattle.fx_outside.specs.Streams.{AppendsFront}
-use Rattle.fx_terms.specs.Graphs.{union}
 use Rattle.fx_terms.specs.declared.patterns.Pattern.{Pattern}
 use Rattle.fx_terms.specs.declared.triples.Triple.{Triple}
 use Rattle.fx_algebra.specs.Answers.{answer_alone, is_plain, IsPlain}
+use Rattle.fx_algebra.specs.Graphs.{union}
 use Rattle.fx_algebra.specs.declared.queries.Query.{Query}
 use Rattle.fx_syntax.specs.Accepted.{Accepted}
 use Rattle.fx_syntax.specs.declared.kinds.SyntaxKind.{SyntaxKind}
@@ -21,7 +21,7 @@ use Rattle.fx_engine.specs.declared.errors.ReplyFault.{ReplyFault}
 use Rattle.fedx.specs.declared.limits.TheConstants.{QUERY_LIMIT, REGISTRY_LIMIT}
 use Rattle.fedx.specs.declared.statuses.Status.{Status}
 use Rattle.fedx.specs.declared.statuses.Status.TheVariants as status
-use Rattle.fedx.specs.Asking.{HasAsked}
+use Rattle.fedx.specs.Asking.{AsksInTurn, HasAsked}
 use Rattle.fedx.specs.Files.{FileRead, HasFailed, IsTooLong, IsNoQuery, IsQueryOf, IsQueryThat, IsRegistryFile, IsRegistryOf, IsNoRegistry, IsMember}
 use Rattle.fedx.specs.Lines.{cannot_read, not_built, query_refused, query_too_long, registry_too_long, registry_refused, member_failed, bad_reply, request_too_long, no_memory}
 
@@ -64,12 +64,16 @@ AsksPlainly question asked = IsPlain asked × (AsksFit question asked ⊎ OfPatt
 abbrev pub IsFederated : Seen → Seen → FileRead → FileRead → Type 0
 IsFederated before after r q = (endpoints : List EndpointParts) × (asked : Query) × IsRegistryOf r endpoints × IsQueryOf q asked × IsPlain asked × HasAsked (AsksSources endpoints asked []) before after endpoints asked
 
+-- the query's questions were asked in their order, up to some place, and nothing else was asked
+abbrev pub IsBegun : Seen → Seen → FileRead → FileRead → Type 0
+IsBegun before after r q = (endpoints : List EndpointParts) × (asked : Query) × IsRegistryOf r endpoints × IsQueryOf q asked × AsksInTurn before after endpoints asked
+
 -- the cause of each status, and its line on standard error: the registry's file is read first, then its registry, then the
 -- query's file and its query, and then the members are asked. Before that all that is seen of the wire is as it was.
 abbrev pub IsQueryReported : Seen → Seen → FileRead → FileRead → Status → List ℕ → Type 0
 IsQueryReported before after r q status.Done text = IsFederated before after r q × (text ≡ [])
 IsQueryReported before after r q status.WriteFault text = IsFederated before after r q × (text ≡ [])
-IsQueryReported before after r q status.NoMemory text = text ≡ no_memory
+IsQueryReported before after r q status.NoMemory text = ((after ≡ before) ⊎ IsBegun before after r q) × (text ≡ no_memory)
 IsQueryReported before after r q status.Usage text = ⊥
 IsQueryReported before after r q status.GraphRefused text = ⊥
 IsQueryReported before after r q status.RegistryRefused text = (e : RegistryError) × IsNoRegistry r e × (text ≡ registry_refused e) × (after ≡ before)
@@ -78,9 +82,9 @@ IsQueryReported before after r q status.UnknownService text = ⊥
 IsQueryReported before after r q status.DoorFault text = ⊥
 IsQueryReported before after r q status.ReadFault text = ((HasFailed r × (text ≡ cannot_read r.name)) ⊎ (IsRegistryFile r × HasFailed q × (text ≡ cannot_read q.name))) × (after ≡ before)
 IsQueryReported before after r q status.FileTooLong text = ((IsTooLong REGISTRY_LIMIT r × (text ≡ registry_too_long r.name)) ⊎ (IsRegistryFile r × IsTooLong QUERY_LIMIT q × (text ≡ query_too_long q.name))) × (after ≡ before)
-IsQueryReported before after r q status.EndpointFault text = (e : EndpointParts) × (question : Question) × IsQueryThat q (AsksPlainly question) × IsMember r e × member.HasFailed before after e × (text ≡ member_failed e.name)
-IsQueryReported before after r q status.BadReply text = (e : EndpointParts) × (question : Question) × (why : ReplyFault) × IsQueryThat q (AsksPlainly question) × IsMember r e × member.HasBadReply before after question why e × (text ≡ bad_reply e.name why)
-IsQueryReported before after r q status.RequestTooLong text = (e : EndpointParts) × (question : Question) × (size : ℕ) × IsQueryThat q (AsksPlainly question) × IsMember r e × member.IsTooLong question size × (text ≡ request_too_long e.name size)
+IsQueryReported before after r q status.EndpointFault text = IsBegun before after r q × ((e : EndpointParts) × (question : Question) × IsQueryThat q (AsksPlainly question) × IsMember r e × member.HasFailed before after e × (text ≡ member_failed e.name))
+IsQueryReported before after r q status.BadReply text = IsBegun before after r q × ((e : EndpointParts) × (question : Question) × (why : ReplyFault) × IsQueryThat q (AsksPlainly question) × IsMember r e × member.HasBadReply before after question why e × (text ≡ bad_reply e.name why))
+IsQueryReported before after r q status.RequestTooLong text = IsBegun before after r q × ((e : EndpointParts) × (question : Question) × (size : ℕ) × IsQueryThat q (AsksPlainly question) × IsMember r e × member.IsTooLong question size × (text ≡ request_too_long e.name size))
 
 -- what each status leaves on standard output: the document, a front of it where a write failed, and else nothing new
 abbrev pub IsQueryWritten : Seen → FileRead → FileRead → Status → List ℕ → List ℕ → Type 0

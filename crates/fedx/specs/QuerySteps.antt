@@ -1,5 +1,5 @@
 -- What the steps of `fedx query` give. `IsQueryReported` and `IsQueryWritten` say what the whole gives.
-use Rattle.std.specs.Prelude.{◌≡◌, ℕ, ◌<◌, ◌≤◌, Bool, List, [], ◌++◌, Result, Ok, Err, IfSome, length, slice_get, Some}
+use Rattle.std.specs.Prelude.{◌≡◌, ℕ, ◌≤◌, Bool, List, [], ◌++◌, Result, Ok, Err, IfSome, length, slice_get, Some}
 use Rattle.std.specs.declared.vec.Vec.{Vec}
 use Rattle.std.specs.declared.alloc.Global.{Global}
 use Rattle.fx_outside.specs.Endpoints.{EndpointParts}

@@ -8,8 +8,8 @@ use Rattle.fx_ntriples.specs.declared.faults.NtError.{NtError}
 use Rattle.fx_outside.specs.Doors.{Output}
 use Rattle.fx_outside.specs.Streams.{AppendsFront}
 use Rattle.fx_member.specs.Served.{IsServed}
-use Rattle.fedx.specs.Files.{FileRead, HasFailed, IsTooLong, IsGraph, IsNoGraph}
-use Rattle.fedx.specs.Lines.{line, cannot_read, graph_refused, graph_too_long, no_memory, cannot_serve}
+use Rattle.fedx.specs.Files.{FileRead, HasFailed, IsTooLong, IsNoGraph}
+use Rattle.fedx.specs.Lines.{cannot_read, graph_refused, graph_too_long, no_memory, cannot_serve}
 use Rattle.fedx.specs.declared.limits.TheConstants.{GRAPH_LIMIT}
 use Rattle.fedx.specs.declared.serving.Ending.{Ending}
 use Rattle.fedx.specs.declared.serving.Ending.TheVariants.{Replied, ReadFault, WriteFault}

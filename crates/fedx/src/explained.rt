@@ -5,7 +5,7 @@ ghost use Rattle.fx_plan.specs.Explained.{HasMembers};
 ghost use Rattle.fx_wire.specs.Exchanges.{IsAfter, seen};
 ghost use Rattle.fx_engine.specs.Federation.{AsksNothing, OfMissing};
 ghost use Rattle.fx_engine.specs.Planning.{Plans};
-ghost use Rattle.fedx.specs.Asking.{GivesAsked};
+ghost use Rattle.fedx.specs.Asking.{AsksFitsInTurn, GivesAsked};
 ghost use Rattle.fedx.specs.Explain.{IsExplainReported, IsExplainWritten};
 ghost use Rattle.fedx.specs.ExplainSteps.{GivesPlanText, IsPlanReported, IsPlanWritten};
 ghost use Rattle.fedx.specs.Files.{file_read};
@@ -77,6 +77,7 @@ fn explain_over<W: Wire, O: Sink, E: Sink>(
 ) -> Status
     ensures reported { (text : List ℕ) × IsPlanReported (seen W.tells_log W.log W.graph W.faults wire.old) (seen W.tells_log W.log W.graph W.faults wire.new) members.now query.now result text × (IsTrue E.tells_held → Gains (E.held err.old) (E.held err.new) (E.write_faults err.old) (E.write_faults err.new) text) }
     ensures written { IsTrue O.tells_held → IsPlanWritten (seen W.tells_log W.log W.graph W.faults wire.old) members.now query.now result (O.held out.old) (O.held out.new) }
+    ensures begun { AsksFitsInTurn (seen W.tells_log W.log W.graph W.faults wire.old) (seen W.tells_log W.log W.graph W.faults wire.new) members.now query.now }
     ensures wired { IsAfter (seen W.tells_log W.log W.graph W.faults wire.old) (seen W.tells_log W.log W.graph W.faults wire.new) }
     ensures write_fault { result ≡ Status.WriteFault → IsCutOff (sink_written O.tells_held O.held O.write_faults out.old out.new) (sink_written E.tells_held E.held E.write_faults err.old err.new) }
     ensures unfailed { ¬ (result ≡ Status.WriteFault) → O.write_faults out.new ≡ O.write_faults out.old }
@@ -126,6 +127,7 @@ fn explain_members<W: Wire, O: Sink, E: Sink>(
 ) -> Status
     ensures reported { (text : List ℕ) × IsAskReported AsksNothing (OfMissing query.now (length members.now) []) (seen W.tells_log W.log W.graph W.faults wire.old) (seen W.tells_log W.log W.graph W.faults wire.new) members.now query.now result text × (IsTrue E.tells_held → Gains (E.held err.old) (E.held err.new) (E.write_faults err.old) (E.write_faults err.new) text) }
     ensures written { IsTrue O.tells_held → IsPlanWritten (seen W.tells_log W.log W.graph W.faults wire.old) members.now query.now result (O.held out.old) (O.held out.new) }
+    ensures begun { AsksFitsInTurn (seen W.tells_log W.log W.graph W.faults wire.old) (seen W.tells_log W.log W.graph W.faults wire.new) members.now query.now }
     ensures wired { IsAfter (seen W.tells_log W.log W.graph W.faults wire.old) (seen W.tells_log W.log W.graph W.faults wire.new) }
     ensures write_fault { result ≡ Status.WriteFault → IsCutOff (sink_written O.tells_held O.held O.write_faults out.old out.new) (sink_written E.tells_held E.held E.write_faults err.old err.new) }
     ensures unfailed { ¬ (result ≡ Status.WriteFault) → O.write_faults out.new ≡ O.write_faults out.old }
@@ -152,6 +154,7 @@ fn plan_text<W: Wire>(
 ) -> Result<String, FedError>
     ensures text { GivesPlanText (seen W.tells_log W.log W.graph W.faults wire.old) (seen W.tells_log W.log W.graph W.faults wire.new) members.now query.now result }
     ensures asked { GivesAsked AsksNothing (seen W.tells_log W.log W.graph W.faults wire.old) (seen W.tells_log W.log W.graph W.faults wire.new) members.now query.now result }
+    ensures begun { AsksFitsInTurn (seen W.tells_log W.log W.graph W.faults wire.old) (seen W.tells_log W.log W.graph W.faults wire.new) members.now query.now }
     ensures wired { IsAfter (seen W.tells_log W.log W.graph W.faults wire.old) (seen W.tells_log W.log W.graph W.faults wire.new) }
 {
     match plan(alloc, members, query, wire) {
@@ -173,6 +176,7 @@ fn plan<W: Wire>(
     ensures parts { Plans (seen W.tells_log W.log W.graph W.faults wire.old) (seen W.tells_log W.log W.graph W.faults wire.new) members.now query.now [] result }
     ensures asked { GivesAsked AsksNothing (seen W.tells_log W.log W.graph W.faults wire.old) (seen W.tells_log W.log W.graph W.faults wire.new) members.now query.now result }
     ensures within { IfOk result (λ parts. All (HasMembers (length members.now)) parts.items) }
+    ensures begun { AsksFitsInTurn (seen W.tells_log W.log W.graph W.faults wire.old) (seen W.tells_log W.log W.graph W.faults wire.new) members.now query.now }
     ensures wired { IsAfter (seen W.tells_log W.log W.graph W.faults wire.old) (seen W.tells_log W.log W.graph W.faults wire.new) }
 {
     match AskCache::new(alloc) {

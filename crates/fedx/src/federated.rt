@@ -3,7 +3,7 @@ ghost use Rattle.std.specs.Prelude.{◌≡◌, ◌≤◌, [], IsTrue, List, ℕ,
 ghost use Rattle.fx_algebra.specs.Answers.{IsPlain};
 ghost use Rattle.fx_engine.specs.Federation.{AsksSources, Federates, OfQuery};
 ghost use Rattle.fx_wire.specs.Exchanges.{IsAfter, seen};
-ghost use Rattle.fedx.specs.Asking.{GivesAsked};
+ghost use Rattle.fedx.specs.Asking.{AsksInTurn, GivesAsked};
 ghost use Rattle.fedx.specs.Files.{file_read};
 ghost use Rattle.fedx.specs.Lines.{Gains};
 ghost use Rattle.fedx.specs.Query.{IsQueryReported, IsQueryWritten};
@@ -79,6 +79,7 @@ fn ask_members<W: Wire, O: Sink, E: Sink>(
     requires { IsPlain query.now }
     ensures reported { (text : List ℕ) × IsAskReported (AsksSources members.now query.now []) (OfQuery query.now (length members.now) []) (seen W.tells_log W.log W.graph W.faults wire.old) (seen W.tells_log W.log W.graph W.faults wire.new) members.now query.now result text × (IsTrue E.tells_held → Gains (E.held err.old) (E.held err.new) (E.write_faults err.old) (E.write_faults err.new) text) }
     ensures written { IsTrue O.tells_held → IsAskWritten (seen W.tells_log W.log W.graph W.faults wire.old) members.now query.now result (O.held out.old) (O.held out.new) }
+    ensures begun { AsksInTurn (seen W.tells_log W.log W.graph W.faults wire.old) (seen W.tells_log W.log W.graph W.faults wire.new) members.now query.now }
     ensures wired { IsAfter (seen W.tells_log W.log W.graph W.faults wire.old) (seen W.tells_log W.log W.graph W.faults wire.new) }
     ensures write_fault { result ≡ Status.WriteFault → IsCutOff (sink_written O.tells_held O.held O.write_faults out.old out.new) (sink_written E.tells_held E.held E.write_faults err.old err.new) }
     ensures unfailed { ¬ (result ≡ Status.WriteFault) → O.write_faults out.new ≡ O.write_faults out.old }
@@ -106,6 +107,7 @@ fn union_document<W: Wire>(
     requires { IsPlain query.now }
     ensures document { GivesUnionDocument (seen W.tells_log W.log W.graph W.faults wire.old) (seen W.tells_log W.log W.graph W.faults wire.new) members.now query.now result }
     ensures asked { GivesAsked (AsksSources members.now query.now []) (seen W.tells_log W.log W.graph W.faults wire.old) (seen W.tells_log W.log W.graph W.faults wire.new) members.now query.now result }
+    ensures begun { AsksInTurn (seen W.tells_log W.log W.graph W.faults wire.old) (seen W.tells_log W.log W.graph W.faults wire.new) members.now query.now }
     ensures wired { IsAfter (seen W.tells_log W.log W.graph W.faults wire.old) (seen W.tells_log W.log W.graph W.faults wire.new) }
 {
     match union_answer(alloc, members, query, wire) {
@@ -127,6 +129,7 @@ fn union_answer<W: Wire>(
     requires { IsPlain query.now }
     ensures answer { Federates (seen W.tells_log W.log W.graph W.faults wire.old) (seen W.tells_log W.log W.graph W.faults wire.new) members.now query.now [] result }
     ensures asked { GivesAsked (AsksSources members.now query.now []) (seen W.tells_log W.log W.graph W.faults wire.old) (seen W.tells_log W.log W.graph W.faults wire.new) members.now query.now result }
+    ensures begun { AsksInTurn (seen W.tells_log W.log W.graph W.faults wire.old) (seen W.tells_log W.log W.graph W.faults wire.new) members.now query.now }
     ensures wired { IsAfter (seen W.tells_log W.log W.graph W.faults wire.old) (seen W.tells_log W.log W.graph W.faults wire.new) }
 {
     match AskCache::new(alloc) {

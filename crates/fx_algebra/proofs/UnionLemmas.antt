@@ -9,12 +9,13 @@ use Rattle.std.specs.FinMap.Entries.{by_order}
 use Rattle.std.specs.Cmp.{IsTotalOrder}
 use Rattle.std.proofs.lemmas.List.Elements.{All-from_recursion, recursion_from_All}
 use Rattle.std.proofs.lemmas.List.Sorted.{IsPermutation-refl, IsPermutation-sym, IsPermutation-cons, IsPermutation-trans, IsPermutation-middle}
-use Rattle.fx_terms.specs.Graphs.{put_once, set_of, union}
+use Rattle.fx_terms.specs.Graphs.{put_once, set_of}
 use Rattle.fx_terms.specs.Triples.{triple_cmp, triples_total}
 use Rattle.fx_terms.specs.declared.triples.Triple.{Triple}
 use Rattle.fx_terms.specs.declared.patterns.Pattern.{Pattern}
 use Rattle.fx_terms.proofs.OrderLemmas.{exact_triples}
 use Rattle.fx_terms.proofs.SetLemmas.{Among, among_from, contains_from, rises_set, among_set, among_from_set, one_rising}
+use Rattle.fx_algebra.specs.Graphs.{union}
 use Rattle.fx_algebra.specs.Solutions.{Bindings, solution_cmp, solutions_total}
 use Rattle.fx_algebra.specs.BasicGraphPatterns.{bgp, TurnsInto, IsSolutionOf}
 use Rattle.fx_algebra.proofs.MemberLemmas.{IsOnce, once_rising, among_flat_map, among_from_flat_map}

@@ -2,6 +2,7 @@ pub mod Answers
 pub mod BasicGraphPatterns
 pub mod Conditions
 pub mod Evaluation
+pub mod Graphs
 pub mod Groups
 pub mod Keys
 pub mod Measures

@@ -2,12 +2,13 @@
 use Rattle.std.proofs.Common.{◌≡◌, ◌∙◌, ap, sym, subst, refl, ℕ, List, [], ◌∷◌, ◌++◌, Option, Some, IsTrue, inl, inr, arith, append_assoc, append-nil}
 use Rattle.std.specs.Prelude.{Contains, ◌⊎◌, reverse, slice_get}
 use Rattle.std.proofs.lemmas.List.Sorted.{Contains-permutation, IsPermutation-sym, IsPermutation-reverse}
-use Rattle.fx_terms.specs.Graphs.{union, set_of}
+use Rattle.fx_terms.specs.Graphs.{set_of}
 use Rattle.fx_terms.specs.declared.triples.Triple.{Triple}
 use Rattle.fx_terms.specs.declared.patterns.Pattern.{Pattern}
 use Rattle.fx_terms.proofs.SetLemmas.{Among, among_from, contains_from}
 use Rattle.fx_outside.specs.Endpoints.{EndpointParts}
 use Rattle.fx_algebra.specs.BasicGraphPatterns.{bgp}
+use Rattle.fx_algebra.specs.Graphs.{union}
 use Rattle.fx_algebra.specs.Solutions.{Bindings, SameRows, solution_cmp}
 use Rattle.fx_algebra.proofs.MemberLemmas.{among_left, among_right, among_cases}
 use Rattle.fx_algebra.proofs.UnionLemmas.{rows_of_union}

@@ -14,14 +14,15 @@ use Rattle.fx_algebra.specs.declared.queries.Group.{Group, fold_out-Group}
 use Rattle.fx_algebra.specs.declared.queries.Query.{Query}
 use Rattle.fx_wire.specs.Exchanges.{Exchange, Seen, IsAfter}
 use Rattle.fx_sources.specs.Patterns as all
-use Rattle.fx_sources.specs.Probes.{Entry, learned, missing}
+use Rattle.fx_sources.specs.Probes.{Entry, chosen, learned, missing, told}
 use Rattle.fx_sources.specs.Sources.{fits, graph_of}
 use Rattle.fx_sources.specs.Sources as source
 use Rattle.fx_sources.specs.declared.probes.Probe.{Probe}
 use Rattle.fx_sources.proofs.SourceLemmas.{learned_tells, kept_tells}
-use Rattle.fx_engine.specs.Federation.{Gained, Tells, IsAnswered, AreAnswered, TellsFit, TellsFits, Learns, HasKept, HasLearned}
+use Rattle.fx_engine.specs.Federation.{Gained, Tells, IsAnswered, AreAnswered, TellsFit, TellsFits, Learns, HasKept, HasLearned, AreBegun, AreSent, HasBegun, probe_questions, row_questions}
 use Rattle.fx_engine.specs.declared.errors.FedError.{FedError}
 use Rattle.fx_engine.specs.declared.errors.FedError.TheVariants as fed
+use Rattle.fx_engine.proofs.GainLemmas.{begun_all, gained_as}
 use Rattle.fx_engine.proofs.PatternLemmas.{no_rows}
 use Rattle.fx_engine.proofs.SourceLemmas.{graph_at}
 
@@ -134,6 +135,40 @@ not_learned X Rest s u es q old fed.Memory h = kept_all s u es q old h
 not_learned X Rest s u es q old (fed.Member at) h = refl
 not_learned X Rest s u es q old (fed.BadReply at why) h = refl
 not_learned X Rest s u es q old (fed.RequestTooLong at size) h = refl
+
+-- ---- what is asked, up to some place
+
+-- all probes were answered, and the rows are asked for behind them
+pub gone_on : (s t u : Seen) (es : List EndpointParts) (q : Query) (old : List Entry) (ps : List Probe) (truths : List Bool) → s.tells_log ≡ t.tells_log → TellsFits s t es ps truths → ps ≡ missing q (length es) old
+    → Gained (AreBegun es (row_questions (all.patterns q) (chosen q (length es) (told (missing q (length es) old) truths ++ old)))) t u → Gained (HasBegun s.graph es q old) s u
+gone_on s t u es q old ps truths same h e k says =
+    let a = k (subst IsTrue same says) in (
+      h.asked ++ a.0,
+      a.1 ∙ ap (λ (v : List Exchange). v ++ a.0) (h.logged says) ∙ append_assoc s.log h.asked a.0,
+      inr
+          (record {
+            truths = truths;
+            asked = h.asked;
+            rest = a.0;
+            whole = refl;
+            answered = subst (λ (v : List Probe). AreAnswered s.graph es v truths h.asked) e h.answered;
+            begun = a.2;
+          }),
+    )
+
+-- all sources were asked
+pub gone_through : (s t u : Seen) (es : List EndpointParts) (q : Query) (old : List Entry) (ps : List Probe) (truths : List Bool) → s.tells_log ≡ t.tells_log → TellsFits s t es ps truths → ps ≡ missing q (length es) old
+    → Gained (AreSent es (row_questions (all.patterns q) (chosen q (length es) (told (missing q (length es) old) truths ++ old)))) t u → Gained (HasBegun s.graph es q old) s u
+gone_through s t u es q old ps truths same h e k =
+    let rows = row_questions (all.patterns q) (chosen q (length es) (told (missing q (length es) old) truths ++ old)) in
+    gone_on s t u es q old ps truths same h e (gained_as (AreSent es rows) (AreBegun es rows) (begun_all es rows) t u k)
+
+-- the probes are those that are missing
+pub missing_begun : (s t : Seen) (es : List EndpointParts) (q : Query) (old : List Entry) (ps : List Probe) → ps ≡ missing q (length es) old → Gained (AreBegun es (probe_questions ps)) s t → Gained (AreBegun es (probe_questions (missing q (length es) old))) s t
+missing_begun s t es q old ps e = subst (λ (v : List Probe). Gained (AreBegun es (probe_questions v)) s t) e
+
+pub missing_sent : (s t : Seen) (es : List EndpointParts) (q : Query) (old : List Entry) (ps : List Probe) → ps ≡ missing q (length es) old → Gained (AreSent es (probe_questions ps)) s t → Gained (AreBegun es (probe_questions (missing q (length es) old))) s t
+missing_sent s t es q old ps e h = missing_begun s t es q old ps e (gained_as (AreSent es (probe_questions ps)) (AreBegun es (probe_questions ps)) (begun_all es (probe_questions ps)) s t h)
 
 -- ---- the patterns of a plain query
 

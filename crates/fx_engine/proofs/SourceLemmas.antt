@@ -3,7 +3,7 @@ use Rattle.std.proofs.Common.{◌≡◌, ◌∙◌, ap, sym, subst, refl, ℕ, z
 use Rattle.std.specs.Prelude.{filter, slice_get}
 use Rattle.std.specs.List.{list_any, range_with_len}
 use Rattle.std.proofs.lemmas.List.Sorted.{Contains-permutation, IsPermutation-refl}
-use Rattle.fx_terms.specs.Graphs.{union, set_of}
+use Rattle.fx_terms.specs.Graphs.{set_of}
 use Rattle.fx_terms.specs.declared.triples.Triple.{Triple}
 use Rattle.fx_terms.specs.declared.patterns.Pattern.{Pattern}
 use Rattle.fx_terms.proofs.SetLemmas.{Among, among_from, contains_from}
@@ -11,6 +11,7 @@ use Rattle.fx_outside.specs.Endpoints.{EndpointParts}
 use Rattle.fx_algebra.specs.Answers.{has_rows, is_empty_list}
 use Rattle.fx_algebra.specs.BasicGraphPatterns.{bgp}
 use Rattle.fx_algebra.specs.Evaluation.{extended, rows_from}
+use Rattle.fx_algebra.specs.Graphs.{union}
 use Rattle.fx_algebra.specs.Operators.{join}
 use Rattle.fx_algebra.specs.Solutions.{Bindings, SameRows}
 use Rattle.fx_algebra.proofs.BgpLemmas.{rows_from-bgp}

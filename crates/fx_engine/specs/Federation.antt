@@ -3,12 +3,12 @@ use Rattle.std.specs.Prelude.{◌≡◌, ℕ, ◌<◌, Bool, true, false, List, 
 use Rattle.std.specs.List.{flat_map, list_any, zip}
 use Rattle.std.specs.declared.vec.Vec.{Vec}
 use Rattle.std.specs.declared.alloc.Global.{Global}
-use Rattle.fx_terms.specs.Graphs.{union}
 use Rattle.fx_terms.specs.declared.triples.Triple.{Triple}
 use Rattle.fx_terms.specs.declared.patterns.Pattern.{Pattern}
 use Rattle.fx_outside.specs.Endpoints.{EndpointParts}
 use Rattle.fx_algebra.specs.Answers.{answer_alone, is_empty_list}
 use Rattle.fx_algebra.specs.BasicGraphPatterns.{bgp}
+use Rattle.fx_algebra.specs.Graphs.{union}
 use Rattle.fx_algebra.specs.Printed.{printed_query}
 use Rattle.fx_algebra.specs.Solutions.{Bindings, SameRows}
 use Rattle.fx_algebra.specs.declared.answers.Answer.{Answer}
@@ -247,10 +247,48 @@ row_questions ps sources = if list_any is_empty_list sources then [] else flat_m
 abbrev pub Gained : (List Exchange → Type 0) → Seen → Seen → Type 0
 Gained P before after = IsTrue before.tells_log → (rest : List Exchange) × (after.log ≡ before.log ++ rest) × P rest
 
--- so it is where something is given
-abbrev pub GainsOnly : {X E : Type 0} → (List Exchange → Type 0) → Seen → Seen → Result X E → Type 0
-GainsOnly P before after (Ok given) = Gained P before after
-GainsOnly P before after (Err e) = Unit {0}
+-- one exchange at most with an endpoint, which posts a text
+abbrev pub IsPostedAtMost : EndpointParts → List ℕ → List Exchange → Type 0
+IsPostedAtMost e text xs = (xs ≡ []) ⊎ IsPostedOnce e text xs
+
+-- the first of these questions, perhaps none and perhaps all, are asked in their order by one exchange each, and nothing else is asked
+pub record AreBegun (endpoints : List EndpointParts) (asked : List (ℕ × Question)) (xs : List Exchange) : Type 0 where
+  pub front : List (ℕ × Question)
+  pub back : List (ℕ × Question)
+  pub first : asked ≡ front ++ back
+  pub sent : AreSent endpoints front xs
+
+-- a text is posted once where something is given, and at most once where nothing is
+abbrev pub Posts : {X E : Type 0} → EndpointParts → List ℕ → Seen → Seen → Result X E → Type 0
+Posts e text before after (Ok given) = Gained (IsPostedOnce e text) before after
+Posts e text before after (Err why) = Gained (IsPostedAtMost e text) before after
+
+-- all these questions are asked where something is given, and the first of them where nothing is
+abbrev pub AsksInOrder : {X E : Type 0} → List EndpointParts → List (ℕ × Question) → Seen → Seen → Result X E → Type 0
+AsksInOrder endpoints asked before after (Ok given) = Gained (AreSent endpoints asked) before after
+AsksInOrder endpoints asked before after (Err e) = Gained (AreBegun endpoints asked) before after
+
+-- whether the key of a probe fits, of its endpoint; where the predicate of the key is a literal nobody is asked
+abbrev pub probe_question : Probe → List (ℕ × Question)
+probe_question p = if is_literal p.key.pattern.predicate then [] else (p.at, fit_of p.key.pattern) ∷ []
+
+-- the questions of probes, one after another
+abbrev pub probe_questions : List Probe → List (ℕ × Question)
+probe_questions ps = flat_map probe_question ps
+
+-- all that was missing was answered by the first exchanges, and the rows of the patterns are asked for behind them, of the sources
+-- by these answers, perhaps not all
+pub record HasGoneOn (graph : List ℕ → Option (List Triple)) (endpoints : List EndpointParts) (q : Query) (old : List Entry) (xs : List Exchange) : Type 0 where
+  pub truths : List Bool
+  pub asked : List Exchange
+  pub rest : List Exchange
+  pub whole : xs ≡ asked ++ rest
+  pub answered : AreAnswered graph endpoints (missing q (length endpoints) old) truths asked
+  pub begun : AreBegun endpoints (row_questions (patterns q) (chosen q (length endpoints) (told (missing q (length endpoints) old) truths ++ old))) rest
+
+-- what a query asks, up to some place: whether the keys that are missing fit, and behind these the rows of its patterns
+abbrev pub HasBegun : (List ℕ → Option (List Triple)) → List EndpointParts → Query → List Entry → List Exchange → Type 0
+HasBegun graph endpoints q old xs = AreBegun endpoints (probe_questions (missing q (length endpoints) old)) xs ⊎ HasGoneOn graph endpoints q old xs
 
 -- ---- what the cache learns
 

@@ -4,7 +4,8 @@ ghost use Rattle.fx_terms.specs.declared.patterns.Pattern.{Pattern as PatternTre
 ghost use Rattle.fx_outside.specs.Endpoints.{is_sendable};
 ghost use Rattle.fx_wire.specs.Exchanges.{IsAfter, seen};
 ghost use Rattle.fx_syntax.specs.Printable.{IsTriple};
-ghost use Rattle.fx_engine.specs.Federation.{GainsOnly, GivesFit, GivesRows, IsPostedOnce};
+ghost use Rattle.fx_sources.specs.Sources.{ask_text as text_that_asks};
+ghost use Rattle.fx_engine.specs.Federation.{GivesFit, GivesRows, Posts};
 ghost use Rattle.fx_engine.specs.MemberQueries.{IsAsked};
 
 use crate::errors::{AskError, TableError};
@@ -31,7 +32,7 @@ pub fn ask<W: Wire>(
     requires sendable { is_sendable at.now ≡ true }
     requires asked { (p : PatternTree) × IsAsked p columns.now text.now }
     ensures rows { GivesRows (seen W.tells_log W.log W.graph W.faults wire.old) (seen W.tells_log W.log W.graph W.faults wire.new) at.now columns.now text.now result }
-    ensures alone { GainsOnly (IsPostedOnce at.now text.now) (seen W.tells_log W.log W.graph W.faults wire.old) (seen W.tells_log W.log W.graph W.faults wire.new) result }
+    ensures alone { Posts at.now text.now (seen W.tells_log W.log W.graph W.faults wire.old) (seen W.tells_log W.log W.graph W.faults wire.new) result }
     ensures after { IsAfter (seen W.tells_log W.log W.graph W.faults wire.old) (seen W.tells_log W.log W.graph W.faults wire.new) }
 {
     let length = text.len() as u64;
@@ -62,6 +63,7 @@ pub fn ask_fit<W: Wire>(
     requires sendable { is_sendable at.now ≡ true }
     requires triple { IsTriple key.now.pattern }
     ensures fit { GivesFit (seen W.tells_log W.log W.graph W.faults wire.old) (seen W.tells_log W.log W.graph W.faults wire.new) at.now key.now.pattern result }
+    ensures alone { Posts at.now (text_that_asks key.now.pattern) (seen W.tells_log W.log W.graph W.faults wire.old) (seen W.tells_log W.log W.graph W.faults wire.new) result }
     ensures after { IsAfter (seen W.tells_log W.log W.graph W.faults wire.old) (seen W.tells_log W.log W.graph W.faults wire.new) }
 {
     let Ok(text) = ask_text(alloc, key) else {

@@ -8,7 +8,7 @@ ghost use Rattle.fx_sources.specs.Patterns.{patterns as patterns_of};
 ghost use Rattle.fx_sources.specs.Probes.{chosen, missing as missing_probes, told};
 ghost use Rattle.fx_sources.specs.Sources as source;
 ghost use Rattle.fx_wire.specs.Exchanges.{IsAfter, seen};
-ghost use Rattle.fx_engine.specs.Federation.{AnswersBy, AreSent, AsksSources, Federates, GainsOnly, GathersRows, Learns, Tells, row_questions};
+ghost use Rattle.fx_engine.specs.Federation.{AnswersBy, AsksInOrder, AsksSources, Federates, Gained, GathersRows, HasBegun, Learns, Tells, row_questions};
 ghost use Rattle.std.specs.Prelude.{List};
 
 use crate::errors::FedError;
@@ -28,7 +28,8 @@ use std::alloc::Global;
 /// First each endpoint is asked which triple patterns fit its graph, unless the cache holds the answer: by endpoint, then by
 /// the pattern's key. Then for each triple pattern in text order its sources, the endpoints whose graphs it fits, are asked in
 /// turn for its solutions; they are united, each is kept once, and the patterns' rows are joined. Where a pattern has no source
-/// the query has no rows, and none is asked for. The errors come as `FedError` says, and the first refusal ends the call.
+/// the query has no rows, and none is asked for. The errors come as `FedError` says, and the first refusal ends the call: what was
+/// asked up to it is the first of these questions, each once, and nothing else.
 ///
 /// The cache learns the answers after the last exchange. After a refusal it is as before; after want of memory each of its
 /// entries was there before, or is one of the answers.
@@ -42,6 +43,7 @@ pub fn federate<W: Wire>(
     requires plain { IsPlain query.now }
     ensures answer { Federates (seen W.tells_log W.log W.graph W.faults wire.old) (seen W.tells_log W.log W.graph W.faults wire.new) registry.now query.now cache.old result }
     ensures learns { Learns (AsksSources registry.now query.now cache.old) (seen W.tells_log W.log W.graph W.faults wire.old) (seen W.tells_log W.log W.graph W.faults wire.new) registry.now query.now cache.old cache.new result }
+    ensures begun { Gained (HasBegun (W.graph wire.old) registry.now query.now cache.old) (seen W.tells_log W.log W.graph W.faults wire.old) (seen W.tells_log W.log W.graph W.faults wire.new) }
     ensures tells { (graphs : List (List TripleParts)) → Tells (W.graph wire.old) registry.now graphs → All (source.Tells graphs) cache.old → All (source.Tells graphs) cache.new }
     ensures after { IsAfter (seen W.tells_log W.log W.graph W.faults wire.old) (seen W.tells_log W.log W.graph W.faults wire.new) }
 {
@@ -82,7 +84,7 @@ fn answer_by<W: Wire>(
     requires asked { probes.now ≡ missing_probes query.now (length registry.now) cache.now }
     requires lengths { length probes.now ≡ length truths.now }
     ensures answer { AnswersBy (seen W.tells_log W.log W.graph W.faults wire.old) (seen W.tells_log W.log W.graph W.faults wire.new) registry.now query.now cache.now probes.now truths.now result }
-    ensures alone { GainsOnly (AreSent registry.now (row_questions (patterns_of query.now) (chosen query.now (length registry.now) (told probes.now truths.now ++ cache.now)))) (seen W.tells_log W.log W.graph W.faults wire.old) (seen W.tells_log W.log W.graph W.faults wire.new) result }
+    ensures alone { AsksInOrder registry.now (row_questions (patterns_of query.now) (chosen query.now (length registry.now) (told probes.now truths.now ++ cache.now))) (seen W.tells_log W.log W.graph W.faults wire.old) (seen W.tells_log W.log W.graph W.faults wire.new) result }
     ensures after { IsAfter (seen W.tells_log W.log W.graph W.faults wire.old) (seen W.tells_log W.log W.graph W.faults wire.new) }
 {
     let Ok(sources) = choose(alloc, query, registry, cache, probes, truths) else {
@@ -119,7 +121,7 @@ fn join_all<W: Wire>(
     requires lengths { length patterns.now ≡ length sources.now }
     requires within { All (All (λ at. at < length endpoints.now)) sources.now }
     ensures rows { GathersRows (seen W.tells_log W.log W.graph W.faults wire.old) (seen W.tells_log W.log W.graph W.faults wire.new) endpoints.now patterns.now sources.now result }
-    ensures alone { GainsOnly (AreSent endpoints.now (row_questions patterns.now sources.now)) (seen W.tells_log W.log W.graph W.faults wire.old) (seen W.tells_log W.log W.graph W.faults wire.new) result }
+    ensures alone { AsksInOrder endpoints.now (row_questions patterns.now sources.now) (seen W.tells_log W.log W.graph W.faults wire.old) (seen W.tells_log W.log W.graph W.faults wire.new) result }
     ensures after { IsAfter (seen W.tells_log W.log W.graph W.faults wire.old) (seen W.tells_log W.log W.graph W.faults wire.new) }
 {
     if lacks_one(sources) {

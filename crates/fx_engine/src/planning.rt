@@ -5,7 +5,7 @@ ghost use Rattle.fx_plan.specs.Explained.{HasMembers};
 ghost use Rattle.fx_sources.specs.Probes.{chosen, missing as missing_probes, told};
 ghost use Rattle.fx_sources.specs.Sources as source;
 ghost use Rattle.fx_wire.specs.Exchanges.{IsAfter, seen};
-ghost use Rattle.fx_engine.specs.Federation.{AsksNothing, Learns, Tells};
+ghost use Rattle.fx_engine.specs.Federation.{AreBegun, AsksNothing, Gained, Learns, Tells, probe_questions};
 ghost use Rattle.fx_engine.specs.Planning.{IsByAnswers, Plans};
 ghost use Rattle.fx_engine.specs.Sections as spec;
 
@@ -35,6 +35,7 @@ pub fn plan_parts<W: Wire>(
     ensures parts { Plans (seen W.tells_log W.log W.graph W.faults wire.old) (seen W.tells_log W.log W.graph W.faults wire.new) registry.now query.now cache.old result }
     ensures by_answers { IfOk result (λ parts. IsByAnswers (seen W.tells_log W.log W.graph W.faults wire.old) (seen W.tells_log W.log W.graph W.faults wire.new) registry.now query.now cache.old cache.new parts.items) }
     ensures within { IfOk result (λ parts. All (HasMembers (length registry.now)) parts.items) }
+    ensures begun { Gained (AreBegun registry.now (probe_questions (missing_probes query.now (length registry.now) cache.old))) (seen W.tells_log W.log W.graph W.faults wire.old) (seen W.tells_log W.log W.graph W.faults wire.new) }
     ensures learns { Learns AsksNothing (seen W.tells_log W.log W.graph W.faults wire.old) (seen W.tells_log W.log W.graph W.faults wire.new) registry.now query.now cache.old cache.new result }
     ensures tells { (graphs : List (List TripleParts)) → Tells (W.graph wire.old) registry.now graphs → All (source.Tells graphs) cache.old → All (source.Tells graphs) cache.new }
     ensures after { IsAfter (seen W.tells_log W.log W.graph W.faults wire.old) (seen W.tells_log W.log W.graph W.faults wire.new) }

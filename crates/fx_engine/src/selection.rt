@@ -1,8 +1,8 @@
 //! Asking the endpoints which patterns fit their graphs.
-ghost use Rattle.std.specs.Prelude.{◌≡◌, ◌<◌, true, All, length};
+ghost use Rattle.std.specs.Prelude.{◌≡◌, ◌<◌, [], ◌∷◌, true, All, length};
 ghost use Rattle.fx_outside.specs.Endpoints.{is_sendable};
 ghost use Rattle.fx_wire.specs.Exchanges.{IsAfter, seen};
-ghost use Rattle.fx_engine.specs.Federation.{GivesAnswer, GivesAnswers};
+ghost use Rattle.fx_engine.specs.Federation.{AsksInOrder, GivesAnswer, GivesAnswers, probe_questions};
 
 use crate::asking::ask_fit;
 use crate::errors::FedError;
@@ -22,6 +22,7 @@ pub fn ask_all<W: Wire>(
     requires sendable { All (λ e. is_sendable e ≡ true) endpoints.now }
     requires within { All (λ p. p.at < length endpoints.now) probes.now }
     ensures answers { GivesAnswers (seen W.tells_log W.log W.graph W.faults wire.old) (seen W.tells_log W.log W.graph W.faults wire.new) endpoints.now probes.now result }
+    ensures alone { AsksInOrder endpoints.now (probe_questions probes.now) (seen W.tells_log W.log W.graph W.faults wire.old) (seen W.tells_log W.log W.graph W.faults wire.new) result }
     ensures after { IsAfter (seen W.tells_log W.log W.graph W.faults wire.old) (seen W.tells_log W.log W.graph W.faults wire.new) }
 {
     let mut truths = Vec::new(alloc);
@@ -48,6 +49,7 @@ fn ask_one<W: Wire>(
     requires sendable { All (λ e. is_sendable e ≡ true) endpoints.now }
     requires within { probe.now.at < length endpoints.now }
     ensures answer { GivesAnswer (seen W.tells_log W.log W.graph W.faults wire.old) (seen W.tells_log W.log W.graph W.faults wire.new) endpoints.now probe.now result }
+    ensures alone { AsksInOrder endpoints.now (probe_questions (probe.now ∷ [])) (seen W.tells_log W.log W.graph W.faults wire.old) (seen W.tells_log W.log W.graph W.faults wire.new) result }
     ensures after { IsAfter (seen W.tells_log W.log W.graph W.faults wire.old) (seen W.tells_log W.log W.graph W.faults wire.new) }
 {
     if is_literal(&probe.key.pattern.predicate) {

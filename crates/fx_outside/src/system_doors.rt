@@ -1,5 +1,5 @@
 //! A door over TCP.
-ghost use Rattle.std.specs.Prelude.{◌≡◌, ◌<◌, ◌≤◌};
+ghost use Rattle.std.specs.Prelude.{◌≡◌, ◌<◌, ◌≤◌, IfOk, IsErrOf, IsOk, OnOk};
 
 use crate::doors::{Door, DoorError};
 use crate::system_links::StdLink;
@@ -51,6 +51,7 @@ impl<N: Net> Listener<N> {
 
 impl<N: Net> Door for Listener<N> {
     ghost use Rattle.std.specs.Prelude.{false, None, []};
+    ghost use Rattle.fx_outside.specs.SystemLinks.{read_faults_of, write_faults_of};
 
     type Conn = StdLink<N::Stream>;
 
@@ -64,7 +65,12 @@ impl<N: Net> Door for Listener<N> {
 
     ghost faults = { λ door. door.faults };
 
-    fn start(&mut self, _alloc: Global, address: &str) -> Result<(), DoorError> {
+    /// `Failed` comes where the network fails, and is counted; `Ok` is not.
+    fn start(&mut self, _alloc: Global, address: &str) -> Result<(), DoorError>
+        ensures kept { self.old.faults ≤ self.new.faults }
+        ensures failed { IsErrOf result DoorError.Failed → self.old.faults < self.new.faults }
+        ensures faultless { OnOk result (self.new.faults ≡ self.old.faults) }
+    {
         match TcpListener::bind(&self.network, address) {
             Ok(listener) => {
                 self.listener = Some(listener);
@@ -74,7 +80,13 @@ impl<N: Net> Door for Listener<N> {
         }
     }
 
-    fn accept(&mut self, _alloc: Global) -> Result<StdLink<N::Stream>, DoorError> {
+    /// `Failed` comes where the network fails, and is counted; `Ok` is not.
+    fn accept(&mut self, _alloc: Global) -> Result<StdLink<N::Stream>, DoorError>
+        ensures faultless_connection { IfOk result (λ conn. (read_faults_of conn ≡ 0) × (write_faults_of conn ≡ 0)) }
+        ensures kept { self.old.faults ≤ self.new.faults }
+        ensures failed { IsErrOf result DoorError.Failed → self.old.faults < self.new.faults }
+        ensures faultless { OnOk result (self.new.faults ≡ self.old.faults) }
+    {
         match accept_some(&self.listener) {
             Ok(stream) => Ok(StdLink::new(stream)),
             Err(error) => Err(self.fault(&error)),
@@ -82,7 +94,10 @@ impl<N: Net> Door for Listener<N> {
     }
 
     /// Ends a connection, once the peer has read to the end or has been waited for. It doesn't fail.
-    fn finish(&mut self, _alloc: Global, conn: StdLink<N::Stream>) -> Result<(), DoorError> {
+    fn finish(&mut self, _alloc: Global, conn: StdLink<N::Stream>) -> Result<(), DoorError>
+        ensures finished { IsOk result }
+        ensures faultless { self.new.faults ≡ self.old.faults }
+    {
         let mut stream = conn.into_stream();
         linger(&mut stream);
         Ok(())

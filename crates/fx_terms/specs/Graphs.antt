@@ -1,7 +1,6 @@
 -- Graphs (RDF 1.1 Concepts 3): sets of triples, as lists in the order of subject, predicate, object.
 use Rattle.std.specs.Prelude.{List, [], ◌∷◌, ◌↔◌, All, Contains}
 use Rattle.std.specs.declared.cmp.Ordering.{Ordering}
-use Rattle.std.specs.List.{flat_map}
 use Rattle.std.specs.List.Sorted.{IsStrictlySortedBy}
 use Rattle.std.specs.FinMap.Entries.{by_order}
 use Rattle.fx_terms.specs.Triples.{triple_cmp, IsTriple}
@@ -20,10 +19,6 @@ set_of R (x ∷ xs) = put_once R x (set_of R xs)
 -- the graph of some triples
 abbrev pub graph_of : List Triple → List Triple
 graph_of triples = set_of triple_cmp triples
-
--- the union of graphs: each triple that one of them holds, once
-abbrev pub union : List (List Triple) → List Triple
-union graphs = graph_of (flat_map (λ graph. graph) graphs)
 
 -- the triples of a list, in their order, each once: there is one such list, `graph_of` the triples
 pub record IsGraphOf (triples graph : List Triple) : Type 0 where

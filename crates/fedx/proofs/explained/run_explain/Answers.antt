@@ -47,6 +47,7 @@ returns-clause-reported g c =
       plan_explained (of c.args.wire.now) (of c.explain_over.new.wire) registry query _ c.in-Ok-load_query.asked c.explain_over.result told.0
           c.in-Ok.ensures.outcome
           (query_since c.args.query.now _ _ (g.F.Files.faults c.args.files.now c.args.query.now) (g.F.Files.faults c.load_registry.new.files c.args.query.now) (g.F.Files.faults c.load_query.new.files c.args.query.now) (Ok c.in-Ok-load_query.asked) (c.load_registry.ensures.same c.args.query.now) (c.load_registry.ensures.kept c.args.query.now) c.in-Ok-load_query.ensures.outcome)
-          told.1,
+          told.1
+          c.explain_over.ensures.begun,
       told.2,
     )

@@ -60,6 +60,7 @@ returns-clause-reported g c =
           c.in-Ok.ensures.outcome
           (query_since c.args.query.now _ _ (g.F.Files.faults c.args.files.now c.args.query.now) (g.F.Files.faults c.load_registry.new.files c.args.query.now) (g.F.Files.faults c.load_query.new.files c.args.query.now) (Ok c.in-Ok-load_query.asked) (c.load_registry.ensures.same c.args.query.now) (c.load_registry.ensures.kept c.args.query.now) c.in-Ok-load_query.ensures.outcome)
           (sym c.is_plain.ensures ∙ c.if-not-is_plain.false)
-          c.ask_members.ensures.reported.1,
+          c.ask_members.ensures.reported.1
+          c.ask_members.ensures.begun,
       c.ask_members.ensures.reported.2,
     )

@@ -1,6 +1,6 @@
 use Rattle.fedx.specs.Files.{file_read}
 use Rattle.fedx.specs.Lines.{usage_line, no_memory}
-use Rattle.fedx.proofs.ReportLemmas.{usage_reported, memory_reported, members_reported, plan_reported, serving_reported, members_written, plan_written, on_first}
+use Rattle.fedx.proofs.ReportLemmas.{usage_reported, memory_reported, members_reported, plan_reported, members_written, plan_written, on_first}
 use Rattle.fedx.proofs.running.run.Goals as goal
 
 pub returns-in-Err-Usage-clause-reported : goal.returns-in-Err-Usage-clause-reported

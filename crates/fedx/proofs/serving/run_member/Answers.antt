@@ -1,9 +1,9 @@
-use Rattle.std.proofs.Common.{sym, subst, List, ℕ}
+use Rattle.std.proofs.Common.{sym, subst}
 use Rattle.fedx.specs.Files.{file_read}
 use Rattle.fedx.specs.LocalSteps.{graph_line}
 use Rattle.fedx.specs.Serving.{door_seen, IsMemberReported}
 use Rattle.fedx.specs.declared.statuses.Status.{Status}
-use Rattle.fedx.proofs.ServingLemmas.{graph_reported, no_graph_reported}
+use Rattle.fedx.proofs.ServingLemmas.{no_graph_reported}
 use Rattle.fedx.proofs.serving.run_member.Goals as goal
 
 pub returns-in-Err-clause-reported : goal.returns-in-Err-clause-reported

@@ -1,5 +1,4 @@
-use Rattle.std.proofs.Common.{◌≡◌, ◌∙◌, ap, sym, subst, refl, List, ℕ, ◌+◌, ◌≤◌, ◌++◌, Err, arith}
-use Rattle.fedx.specs.Lines.{Gains}
+use Rattle.std.proofs.Common.{◌∙◌, ap, sym, subst, refl, ◌+◌, ◌++◌, Err, arith}
 use Rattle.fedx.specs.Serving.{door_seen, ending_line, ending_lines, IsServingReported}
 use Rattle.fedx.specs.ServingSteps.{end_line}
 use Rattle.fedx.specs.declared.statuses.Status.{Status}

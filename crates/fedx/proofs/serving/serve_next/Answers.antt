@@ -1,5 +1,5 @@
-use Rattle.std.proofs.Common.{◌≡◌, ◌∙◌, ap, sym, subst, [], ◌∷◌, ◌++◌}
-use Rattle.fx_outside.specs.Doors.{output_of, IsTaken}
+use Rattle.std.proofs.Common.{◌∙◌, ap, sym, [], ◌∷◌, ◌++◌}
+use Rattle.fx_outside.specs.Doors.{output_of}
 use Rattle.fedx.specs.Serving.{door_seen}
 use Rattle.fedx.proofs.ServingLemmas.{lost_one, served_one}
 use Rattle.fedx.proofs.serving.serve_next.Goals as goal

@@ -1,8 +1,8 @@
-use Rattle.std.proofs.Common.{ap, sym, subst, List, ℕ, Err}
+use Rattle.std.proofs.Common.{ap, sym, subst, Err}
 use Rattle.fedx.specs.Serving.{door_seen, IsServingReported}
 use Rattle.fedx.specs.ServingSteps.{end_line}
 use Rattle.fedx.specs.declared.statuses.Status.{Status}
-use Rattle.fedx.proofs.ServingLemmas.{not_opened, ended, opened_reported}
+use Rattle.fedx.proofs.ServingLemmas.{not_opened, ended}
 use Rattle.fedx.proofs.serving.serve_store.Goals as goal
 
 pub returns-in-Err-clause-reported : goal.returns-in-Err-clause-reported

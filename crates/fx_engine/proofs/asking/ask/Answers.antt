@@ -6,7 +6,7 @@ use Rattle.fx_engine.specs.ReplyChecks.{table_of, HasFault, GivesTable}
 use Rattle.fx_engine.specs.declared.errors.TableError.{TableError}
 use Rattle.fx_engine.specs.Federation.{IsPostedOnce}
 use Rattle.fx_engine.proofs.AskLemmas.{rows_are, bad_rows}
-use Rattle.fx_engine.proofs.GainLemmas.{gained_one}
+use Rattle.fx_engine.proofs.GainLemmas.{gained_one, posted_in_vain, posted_none, posted_once}
 use Rattle.fx_engine.proofs.asking.ask.Goals as goal
 
 pub returns-in-Ok-read_table-clause-rows : goal.returns-in-Ok-read_table-clause-rows
@@ -46,3 +46,39 @@ returns-in-Ok-read_table-clause-alone g c =
     gained_one (IsPostedOnce c.args.at.now c.args.text.now) (see c.args.wire.now) (see c.exchange.new.self) (exchanged c.args.at.now c.as_slice.result.now c.in-Ok-exchange.reply.items)
     (exchanged c.args.at.now c.as_slice.result.now c.in-Ok-exchange.reply.items, refl, refl, c.as_slice.ensures.value ∙ c.in-Ok.ensures.exact)
     c.in-Ok-exchange.ensures.logged
+
+pub returns-then-length-gt-LONGEST-clause-alone : goal.returns-then-length-gt-LONGEST-clause-alone
+returns-then-length-gt-LONGEST-clause-alone g c =
+    let see = seen g.W.Wire.tells_log g.W.Wire.log g.W.Wire.graph g.W.Wire.faults in
+    posted_none c.args.at.now c.args.text.now (see c.args.wire.now)
+
+pub returns-in_default-clause-alone : goal.returns-in_default-clause-alone
+returns-in_default-clause-alone g c =
+    let see = seen g.W.Wire.tells_log g.W.Wire.log g.W.Wire.graph g.W.Wire.faults in
+    posted_none c.args.at.now c.args.text.now (see c.args.wire.now)
+
+pub returns-in-Err-Failed-clause-alone : goal.returns-in-Err-Failed-clause-alone
+returns-in-Err-Failed-clause-alone g c =
+    let see = seen g.W.Wire.tells_log g.W.Wire.log g.W.Wire.graph g.W.Wire.faults in
+    posted_in_vain c.args.at.now c.args.text.now (see c.args.wire.now) (see c.exchange.new.self) c.in-Err-Failed.ensures.logged
+
+pub returns-in-Err-Memory-clause-alone : goal.returns-in-Err-Memory-clause-alone
+returns-in-Err-Memory-clause-alone g c =
+    let see = seen g.W.Wire.tells_log g.W.Wire.log g.W.Wire.graph g.W.Wire.faults in
+    posted_in_vain c.args.at.now c.args.text.now (see c.args.wire.now) (see c.exchange.new.self) c.in-Err-Memory.ensures.logged
+
+pub returns-in-Err-Bad-clause-alone : goal.returns-in-Err-Bad-clause-alone
+returns-in-Err-Bad-clause-alone g c =
+    let see = seen g.W.Wire.tells_log g.W.Wire.log g.W.Wire.graph g.W.Wire.faults in
+    posted_once c.args.at.now c.args.text.now (see c.args.wire.now) (see c.exchange.new.self)
+    (gained_one (IsPostedOnce c.args.at.now c.args.text.now) (see c.args.wire.now) (see c.exchange.new.self) (exchanged c.args.at.now c.as_slice.result.now c.in-Ok-exchange.reply.items)
+    (exchanged c.args.at.now c.as_slice.result.now c.in-Ok-exchange.reply.items, refl, refl, c.as_slice.ensures.value ∙ c.in-Ok.ensures.exact)
+    c.in-Ok-exchange.ensures.logged)
+
+pub returns-clause-alone : goal.returns-clause-alone
+returns-clause-alone g c =
+    let see = seen g.W.Wire.tells_log g.W.Wire.log g.W.Wire.graph g.W.Wire.faults in
+    posted_once c.args.at.now c.args.text.now (see c.args.wire.now) (see c.exchange.new.self)
+    (gained_one (IsPostedOnce c.args.at.now c.args.text.now) (see c.args.wire.now) (see c.exchange.new.self) (exchanged c.args.at.now c.as_slice.result.now c.in-Ok-exchange.reply.items)
+    (exchanged c.args.at.now c.as_slice.result.now c.in-Ok-exchange.reply.items, refl, refl, c.as_slice.ensures.value ∙ c.in-Ok.ensures.exact)
+    c.in-Ok-exchange.ensures.logged)

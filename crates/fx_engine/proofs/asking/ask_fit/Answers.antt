@@ -1,11 +1,13 @@
 use Rattle.std.proofs.Common.{◌≡◌, ◌∙◌, ◌≤◌, ap, sym, subst, refl, List, [], ℕ, length, Err, arith}
 use Rattle.fx_http.specs.Requests.{IsRequest, request_of}
-use Rattle.fx_wire.specs.Exchanges.{exchanged}
+use Rattle.fx_wire.specs.Exchanges.{exchanged, seen}
 use Rattle.fx_sources.specs.Sources.{ask_text}
 use Rattle.fx_engine.specs.ReplyChecks.{a_truth, HasFault, GivesTruth}
 use Rattle.fx_engine.specs.Tables.{ReadsTruth}
 use Rattle.fx_engine.specs.declared.errors.TableError.{TableError}
+use Rattle.fx_engine.specs.Federation.{IsPostedOnce}
 use Rattle.fx_engine.proofs.FitLemmas.{fit_is, bad_fit}
+use Rattle.fx_engine.proofs.GainLemmas.{gained_one, posted_in_vain, posted_none, posted_once}
 use Rattle.fx_engine.proofs.asking.ask_fit.Goals as goal
 
 pub returns-in-Ok-read_truth-clause-fit : goal.returns-in-Ok-read_truth-clause-fit
@@ -51,3 +53,51 @@ returns-in-Err-Bad-clause-fit g c =
           (subst (λ (r : List ℕ). HasFault r a_truth c.in-Err-Bad.fault) c.as_slice-in-Ok-exchange.ensures.value fault);
       logged = λ told. ([], c.in-Ok-exchange.ensures.logged told);
     }
+
+pub returns-in-Ok-read_truth-clause-alone : goal.returns-in-Ok-read_truth-clause-alone
+returns-in-Ok-read_truth-clause-alone g c =
+    let see = seen g.W.Wire.tells_log g.W.Wire.log g.W.Wire.graph g.W.Wire.faults in
+    gained_one (IsPostedOnce c.args.at.now (ask_text c.args.key.now.pattern)) (see c.args.wire.now) (see c.exchange.new.self) (exchanged c.args.at.now c.as_slice.result.now c.in-Ok-exchange.reply.items)
+    (exchanged c.args.at.now c.as_slice.result.now c.in-Ok-exchange.reply.items, refl, refl, c.as_slice.ensures.value ∙ c.in-Ok-request_bytes.ensures.exact ∙ ap (request_of c.args.at.now) (c.as_str-asked.ensures.value ∙ c.in-Ok.ensures))
+    c.in-Ok-exchange.ensures.logged
+
+pub returns-in_default-clause-alone : goal.returns-in_default-clause-alone
+returns-in_default-clause-alone g c =
+    let see = seen g.W.Wire.tells_log g.W.Wire.log g.W.Wire.graph g.W.Wire.faults in
+    posted_none c.args.at.now (ask_text c.args.key.now.pattern) (see c.args.wire.now)
+
+pub returns-then-length-gt-LONGEST-clause-alone : goal.returns-then-length-gt-LONGEST-clause-alone
+returns-then-length-gt-LONGEST-clause-alone g c =
+    let see = seen g.W.Wire.tells_log g.W.Wire.log g.W.Wire.graph g.W.Wire.faults in
+    posted_none c.args.at.now (ask_text c.args.key.now.pattern) (see c.args.wire.now)
+
+pub returns-in_default-request_bytes-clause-alone : goal.returns-in_default-request_bytes-clause-alone
+returns-in_default-request_bytes-clause-alone g c =
+    let see = seen g.W.Wire.tells_log g.W.Wire.log g.W.Wire.graph g.W.Wire.faults in
+    posted_none c.args.at.now (ask_text c.args.key.now.pattern) (see c.args.wire.now)
+
+pub returns-in-Err-Failed-clause-alone : goal.returns-in-Err-Failed-clause-alone
+returns-in-Err-Failed-clause-alone g c =
+    let see = seen g.W.Wire.tells_log g.W.Wire.log g.W.Wire.graph g.W.Wire.faults in
+    posted_in_vain c.args.at.now (ask_text c.args.key.now.pattern) (see c.args.wire.now) (see c.exchange.new.self) c.in-Err-Failed.ensures.logged
+
+pub returns-in-Err-Memory-clause-alone : goal.returns-in-Err-Memory-clause-alone
+returns-in-Err-Memory-clause-alone g c =
+    let see = seen g.W.Wire.tells_log g.W.Wire.log g.W.Wire.graph g.W.Wire.faults in
+    posted_in_vain c.args.at.now (ask_text c.args.key.now.pattern) (see c.args.wire.now) (see c.exchange.new.self) c.in-Err-Memory.ensures.logged
+
+pub returns-in-Err-Bad-clause-alone : goal.returns-in-Err-Bad-clause-alone
+returns-in-Err-Bad-clause-alone g c =
+    let see = seen g.W.Wire.tells_log g.W.Wire.log g.W.Wire.graph g.W.Wire.faults in
+    posted_once c.args.at.now (ask_text c.args.key.now.pattern) (see c.args.wire.now) (see c.exchange.new.self)
+    (gained_one (IsPostedOnce c.args.at.now (ask_text c.args.key.now.pattern)) (see c.args.wire.now) (see c.exchange.new.self) (exchanged c.args.at.now c.as_slice.result.now c.in-Ok-exchange.reply.items)
+    (exchanged c.args.at.now c.as_slice.result.now c.in-Ok-exchange.reply.items, refl, refl, c.as_slice.ensures.value ∙ c.in-Ok-request_bytes.ensures.exact ∙ ap (request_of c.args.at.now) (c.as_str-asked.ensures.value ∙ c.in-Ok.ensures))
+    c.in-Ok-exchange.ensures.logged)
+
+pub returns-clause-alone : goal.returns-clause-alone
+returns-clause-alone g c =
+    let see = seen g.W.Wire.tells_log g.W.Wire.log g.W.Wire.graph g.W.Wire.faults in
+    posted_once c.args.at.now (ask_text c.args.key.now.pattern) (see c.args.wire.now) (see c.exchange.new.self)
+    (gained_one (IsPostedOnce c.args.at.now (ask_text c.args.key.now.pattern)) (see c.args.wire.now) (see c.exchange.new.self) (exchanged c.args.at.now c.as_slice.result.now c.in-Ok-exchange.reply.items)
+    (exchanged c.args.at.now c.as_slice.result.now c.in-Ok-exchange.reply.items, refl, refl, c.as_slice.ensures.value ∙ c.in-Ok-request_bytes.ensures.exact ∙ ap (request_of c.args.at.now) (c.as_str-asked.ensures.value ∙ c.in-Ok.ensures))
+    c.in-Ok-exchange.ensures.logged)

@@ -2,10 +2,10 @@ use Rattle.std.proofs.Common.{◌≡◌, ◌∙◌, ◌++◌, ap, sym, subst, re
 use Rattle.std.specs.Prelude.{All}
 use Rattle.std.specs.List.{zip}
 use Rattle.fx_terms.specs.declared.patterns.Pattern.{Pattern}
-use Rattle.fx_terms.specs.Graphs.{union}
 use Rattle.fx_outside.specs.Endpoints.{EndpointParts}
 use Rattle.fx_algebra.specs.Answers.{form_answer}
 use Rattle.fx_algebra.specs.BasicGraphPatterns.{bgp}
+use Rattle.fx_algebra.specs.Graphs.{union}
 use Rattle.fx_algebra.specs.Solutions.{SameRows}
 use Rattle.fx_sources.specs.Patterns.{patterns}
 use Rattle.fx_sources.specs.Probes.{chosen, missing, told}
@@ -13,7 +13,8 @@ use Rattle.fx_sources.specs.Sources as source
 use Rattle.fx_sources.specs.declared.probes.Probe.{Probe}
 use Rattle.fx_sources.proofs.SourceLemmas.{chooses}
 use Rattle.fx_wire.specs.Exchanges.{seen}
-use Rattle.fx_engine.specs.Federation.{AreSent, row_questions, Gained, IsRefused, OfPatterns, OfSources, Tells}
+use Rattle.fx_engine.specs.Federation.{AreBegun, AreSent, row_questions, Gained, IsRefused, OfPatterns, OfSources, Tells}
+use Rattle.fx_engine.proofs.GainLemmas.{begun_all, begun_none, gained_as, gained_none}
 use Rattle.fx_engine.proofs.GatherLemmas.{after_itself, refused_later}
 use Rattle.fx_engine.proofs.QuestionLemmas.{of_patterns}
 use Rattle.fx_engine.proofs.FederationLemmas.{answer_from}
@@ -66,3 +67,40 @@ returns-in-Ok-answer_of_rows-clause-alone g c =
     subst (λ (ms : List (List ℕ)). Gained (AreSent c.args.registry.now (row_questions (patterns q) ms)) s u) (c.as_slice-2.ensures ∙ c.in-Ok.ensures.chosen)
     (subst (λ (ps : List Pattern). Gained (AreSent c.args.registry.now (row_questions ps c.as_slice-2.result.now)) s u) (c.as_slice.ensures.value ∙ c.in-Ok-patterns.ensures)
     (subst (λ (es : List EndpointParts). Gained (AreSent es (row_questions c.as_slice.result.now c.as_slice-2.result.now)) s u) c.endpoints.ensures.value c.in-Ok-join_all.ensures.alone))
+
+pub returns-in-Err-clause-alone : goal.returns-in-Err-clause-alone
+returns-in-Err-clause-alone g c =
+    let see = seen g.W.Wire.tells_log g.W.Wire.log g.W.Wire.graph g.W.Wire.faults in
+    let s = see c.args.wire.now in
+    let u = see c.join_all.new.wire in
+    let q = c.args.query.now in
+    subst (λ (ms : List (List ℕ)). Gained (AreBegun c.args.registry.now (row_questions (patterns q) ms)) s u) (c.as_slice-2.ensures ∙ c.in-Ok.ensures.chosen)
+    (subst (λ (ps : List Pattern). Gained (AreBegun c.args.registry.now (row_questions ps c.as_slice-2.result.now)) s u) (c.as_slice.ensures.value ∙ c.in-Ok-patterns.ensures)
+    (subst (λ (es : List EndpointParts). Gained (AreBegun es (row_questions c.as_slice.result.now c.as_slice-2.result.now)) s u) c.endpoints.ensures.value c.in-Err.ensures.alone))
+
+pub returns-in_default-clause-alone : goal.returns-in_default-clause-alone
+returns-in_default-clause-alone g c =
+    let see = seen g.W.Wire.tells_log g.W.Wire.log g.W.Wire.graph g.W.Wire.faults in
+    let es = c.args.registry.now in
+    let asked = row_questions (patterns c.args.query.now) (chosen c.args.query.now (length es) (told c.args.probes.now c.args.truths.now ++ c.args.cache.now)) in
+    gained_none (AreBegun es asked) (see c.args.wire.now) (begun_none es asked)
+
+pub returns-in_default-patterns-clause-alone : goal.returns-in_default-patterns-clause-alone
+returns-in_default-patterns-clause-alone g c =
+    let see = seen g.W.Wire.tells_log g.W.Wire.log g.W.Wire.graph g.W.Wire.faults in
+    let es = c.args.registry.now in
+    let asked = row_questions (patterns c.args.query.now) (chosen c.args.query.now (length es) (told c.args.probes.now c.args.truths.now ++ c.args.cache.now)) in
+    gained_none (AreBegun es asked) (see c.args.wire.now) (begun_none es asked)
+
+pub returns-clause-alone : goal.returns-clause-alone
+returns-clause-alone g c =
+    let see = seen g.W.Wire.tells_log g.W.Wire.log g.W.Wire.graph g.W.Wire.faults in
+    let s = see c.args.wire.now in
+    let u = see c.join_all.new.wire in
+    let q = c.args.query.now in
+    let es = c.args.registry.now in
+    let asked = row_questions (patterns q) (chosen q (length es) (told c.args.probes.now c.args.truths.now ++ c.args.cache.now)) in
+    gained_as (AreSent es asked) (AreBegun es asked) (begun_all es asked) s u
+    (subst (λ (ms : List (List ℕ)). Gained (AreSent c.args.registry.now (row_questions (patterns q) ms)) s u) (c.as_slice-2.ensures ∙ c.in-Ok.ensures.chosen)
+    (subst (λ (ps : List Pattern). Gained (AreSent c.args.registry.now (row_questions ps c.as_slice-2.result.now)) s u) (c.as_slice.ensures.value ∙ c.in-Ok-patterns.ensures)
+    (subst (λ (es : List EndpointParts). Gained (AreSent es (row_questions c.as_slice.result.now c.as_slice-2.result.now)) s u) c.endpoints.ensures.value c.in-Ok-join_all.ensures.alone)))

@@ -10,9 +10,10 @@ use Rattle.fx_sources.specs.Probes.{chosen, learned, missing, told as told_by}
 use Rattle.fx_sources.specs.declared.probes.Probe.{Probe}
 use Rattle.fx_engine.specs.declared.errors.FedError.TheVariants.{Memory}
 use Rattle.fx_engine.proofs.QuestionLemmas.{of_missing}
-use Rattle.fx_engine.specs.Federation.{IsRefused, OfPatterns, OfProbes, OfQuery, AreSent, AsksSources, row_questions, Gained, Tells, TellsFits}
+use Rattle.fx_engine.specs.Federation.{IsRefused, OfPatterns, OfProbes, OfQuery, AreBegun, AreSent, AsksSources, HasBegun, probe_questions, row_questions, Gained, Tells, TellsFits}
+use Rattle.fx_engine.proofs.GainLemmas.{begun_none, gained_as, gained_none}
 use Rattle.fx_engine.proofs.GatherLemmas.{after_itself, after_both, refused_later, tells_same}
-use Rattle.fx_engine.proofs.LearnLemmas.{answers_tell, as_many_truths, kept_all, kept_so, learned_so, not_learned, tells_again}
+use Rattle.fx_engine.proofs.LearnLemmas.{answers_tell, as_many_truths, gone_on, gone_through, missing_begun, kept_all, kept_so, learned_so, not_learned, tells_again}
 use Rattle.fx_engine.proofs.federation.federate.Goals as goal
 
 pub returns-in_default-clause-learns : goal.returns-in_default-clause-learns
@@ -124,3 +125,81 @@ pub returns-clause-tells : goal.returns-clause-tells
 returns-clause-tells g c =
     let see = seen g.W.Wire.tells_log g.W.Wire.log g.W.Wire.graph g.W.Wire.faults in
     tells_again {X = Answer} (AsksSources c.args.registry.now c.args.query.now c.args.cache.now) (see c.args.wire.now) (see c.answer_by.new.wire) c.args.registry.now c.args.query.now c.args.cache.now c.learn.new.self (Err Memory) (returns-clause-learns g c)
+
+pub returns-in_default-clause-begun : goal.returns-in_default-clause-begun
+returns-in_default-clause-begun g c =
+    let see = seen g.W.Wire.tells_log g.W.Wire.log g.W.Wire.graph g.W.Wire.faults in
+    let es = c.args.registry.now in
+    let q = c.args.query.now in
+    let old = c.args.cache.now in
+    gained_none (HasBegun (g.W.Wire.graph c.args.wire.now) es q old) (see c.args.wire.now) (inl (begun_none es (probe_questions (missing q (length es) old))))
+
+pub returns-in-Err-clause-begun : goal.returns-in-Err-clause-begun
+returns-in-Err-clause-begun g c =
+    let see = seen g.W.Wire.tells_log g.W.Wire.log g.W.Wire.graph g.W.Wire.faults in
+    let es = c.args.registry.now in
+    let q = c.args.query.now in
+    let old = c.args.cache.now in
+    let s = see c.args.wire.now in
+    let t = see c.ask_all.new.wire in
+    let ps = c.as_slice.result.now in
+    gained_as (AreBegun es (probe_questions (missing q (length es) old))) (HasBegun (g.W.Wire.graph c.args.wire.now) es q old) (λ xs h. inl h) s t
+    (missing_begun s t es q old ps (c.as_slice.ensures.value ∙ c.in-Ok.ensures.probes)
+    (subst (λ (v : List EndpointParts). Gained (AreBegun v (probe_questions ps)) s t) c.endpoints.ensures.value c.in-Err.ensures.alone))
+
+pub returns-in-Err-answer_by-clause-begun : goal.returns-in-Err-answer_by-clause-begun
+returns-in-Err-answer_by-clause-begun g c =
+    let see = seen g.W.Wire.tells_log g.W.Wire.log g.W.Wire.graph g.W.Wire.faults in
+    let es = c.args.registry.now in
+    let q = c.args.query.now in
+    let old = c.args.cache.now in
+    let truths = c.in-Ok-ask_all.truths.items in
+    let s = see c.args.wire.now in
+    let t = see c.ask_all.new.wire in
+    let u = see c.answer_by.new.wire in
+    let told : TellsFits s t es c.in-Ok.probes.items truths =
+    subst (λ (v : List Probe). TellsFits s t es v truths) c.as_slice.ensures.value
+    (subst (λ (v : List EndpointParts). TellsFits s t v c.as_slice.result.now truths) c.endpoints.ensures.value c.in-Ok-ask_all.ensures.answers) in
+    let probes : c.as_slice-in-Ok-ask_all.result.now ≡ missing q (length es) old = c.as_slice-in-Ok-ask_all.ensures.value ∙ c.in-Ok.ensures.probes in
+    let begun : Gained (AreBegun es (row_questions (patterns q) (chosen q (length es) (told_by (missing q (length es) old) truths ++ old)))) t u =
+    subst (λ (v : List Bool). Gained (AreBegun es (row_questions (patterns q) (chosen q (length es) (told_by (missing q (length es) old) v ++ old)))) t u) c.as_slice-in-Ok-ask_all-2.ensures.value
+    (subst (λ (v : List Probe). Gained (AreBegun es (row_questions (patterns q) (chosen q (length es) (told_by v c.as_slice-in-Ok-ask_all-2.result.now ++ old)))) t u) probes c.in-Err-answer_by.ensures.alone) in
+    gone_on s t u es q old c.in-Ok.probes.items truths refl told c.in-Ok.ensures.probes begun
+
+pub returns-in-Ok-learn-clause-begun : goal.returns-in-Ok-learn-clause-begun
+returns-in-Ok-learn-clause-begun g c =
+    let see = seen g.W.Wire.tells_log g.W.Wire.log g.W.Wire.graph g.W.Wire.faults in
+    let es = c.args.registry.now in
+    let q = c.args.query.now in
+    let old = c.args.cache.now in
+    let truths = c.in-Ok-ask_all.truths.items in
+    let s = see c.args.wire.now in
+    let t = see c.ask_all.new.wire in
+    let u = see c.answer_by.new.wire in
+    let told : TellsFits s t es c.in-Ok.probes.items truths =
+    subst (λ (v : List Probe). TellsFits s t es v truths) c.as_slice.ensures.value
+    (subst (λ (v : List EndpointParts). TellsFits s t v c.as_slice.result.now truths) c.endpoints.ensures.value c.in-Ok-ask_all.ensures.answers) in
+    let probes : c.as_slice-in-Ok-ask_all.result.now ≡ missing q (length es) old = c.as_slice-in-Ok-ask_all.ensures.value ∙ c.in-Ok.ensures.probes in
+    let alone : Gained (AreSent es (row_questions (patterns q) (chosen q (length es) (told_by (missing q (length es) old) truths ++ old)))) t u =
+    subst (λ (v : List Bool). Gained (AreSent es (row_questions (patterns q) (chosen q (length es) (told_by (missing q (length es) old) v ++ old)))) t u) c.as_slice-in-Ok-ask_all-2.ensures.value
+    (subst (λ (v : List Probe). Gained (AreSent es (row_questions (patterns q) (chosen q (length es) (told_by v c.as_slice-in-Ok-ask_all-2.result.now ++ old)))) t u) probes c.in-Ok-answer_by.ensures.alone) in
+    gone_through s t u es q old c.in-Ok.probes.items truths refl told c.in-Ok.ensures.probes alone
+
+pub returns-clause-begun : goal.returns-clause-begun
+returns-clause-begun g c =
+    let see = seen g.W.Wire.tells_log g.W.Wire.log g.W.Wire.graph g.W.Wire.faults in
+    let es = c.args.registry.now in
+    let q = c.args.query.now in
+    let old = c.args.cache.now in
+    let truths = c.in-Ok-ask_all.truths.items in
+    let s = see c.args.wire.now in
+    let t = see c.ask_all.new.wire in
+    let u = see c.answer_by.new.wire in
+    let told : TellsFits s t es c.in-Ok.probes.items truths =
+    subst (λ (v : List Probe). TellsFits s t es v truths) c.as_slice.ensures.value
+    (subst (λ (v : List EndpointParts). TellsFits s t v c.as_slice.result.now truths) c.endpoints.ensures.value c.in-Ok-ask_all.ensures.answers) in
+    let probes : c.as_slice-in-Ok-ask_all.result.now ≡ missing q (length es) old = c.as_slice-in-Ok-ask_all.ensures.value ∙ c.in-Ok.ensures.probes in
+    let alone : Gained (AreSent es (row_questions (patterns q) (chosen q (length es) (told_by (missing q (length es) old) truths ++ old)))) t u =
+    subst (λ (v : List Bool). Gained (AreSent es (row_questions (patterns q) (chosen q (length es) (told_by (missing q (length es) old) v ++ old)))) t u) c.as_slice-in-Ok-ask_all-2.ensures.value
+    (subst (λ (v : List Probe). Gained (AreSent es (row_questions (patterns q) (chosen q (length es) (told_by v c.as_slice-in-Ok-ask_all-2.result.now ++ old)))) t u) probes c.in-Ok-answer_by.ensures.alone) in
+    gone_through s t u es q old c.in-Ok.probes.items truths refl told c.in-Ok.ensures.probes alone

@@ -3,17 +3,17 @@ use Rattle.std.specs.Prelude.{Contains, slice_get}
 use Rattle.std.specs.List.{flat_map, zip}
 use Rattle.std.proofs.lemmas.List.{take_more}
 use Rattle.std.proofs.lemmas.Option.{slice_get_read}
-use Rattle.fx_terms.specs.Graphs.{union}
 use Rattle.fx_terms.specs.declared.patterns.Pattern.{Pattern}
 use Rattle.fx_algebra.specs.BasicGraphPatterns.{bgp}
+use Rattle.fx_algebra.specs.Graphs.{union}
 use Rattle.fx_algebra.specs.Operators.{join}
 use Rattle.fx_algebra.specs.Solutions.{Bindings, SameRows}
 use Rattle.fx_wire.specs.Exchanges.{seen}
 use Rattle.fx_engine.proofs.GatherLemmas.{after_both, refused_later, tells_same}
-use Rattle.fx_engine.specs.Federation.{Question, AreSent, OfSources, row_questions, source_questions}
+use Rattle.fx_engine.specs.Federation.{Question, AreBegun, AreSent, OfSources, row_questions, source_questions}
 use Rattle.fx_engine.proofs.QuestionLemmas.{of_sources, stands_beside}
 use Rattle.fx_engine.proofs.FederationLemmas.{joined_more}
-use Rattle.fx_engine.proofs.GainLemmas.{gained_as, gained_both, gained_none, sent_all, sent_none, sent_pattern}
+use Rattle.fx_engine.proofs.GainLemmas.{begun_all, begun_none, begun_pattern, begun_patterns, gained_as, gained_both, gained_none, sent_all, sent_none, sent_pattern}
 use Rattle.fx_engine.proofs.SourceLemmas.{members_at, none_of_all}
 use Rattle.fx_engine.proofs.federation.join_all.Goals as goal
 
@@ -84,3 +84,42 @@ returns-clause-alone g c =
     let ss = c.args.sources.now in
     let at = c.loop-at.at in
     gained_as (AreSent es (questions_of (take at (zip ps ss)))) (AreSent es (row_questions ps ss)) (sent_all es ps ss at (omega arith) (sym c.lacks_one.ensures ∙ c.if-lacks_one.false)) (see c.args.wire.now) (see c.loop-at.wire) c.loop-at.invariant.alone
+
+pub returns-in_default-clause-alone : goal.returns-in_default-clause-alone
+returns-in_default-clause-alone g c =
+    let see = seen g.W.Wire.tells_log g.W.Wire.log g.W.Wire.graph g.W.Wire.faults in
+    let es = c.args.endpoints.now in
+    let asked = row_questions c.args.patterns.now c.args.sources.now in
+    gained_none (AreBegun es asked) (see c.args.wire.now) (begun_none es asked)
+
+pub returns-in-Err-clause-alone : goal.returns-in-Err-clause-alone
+returns-in-Err-clause-alone g c =
+    let see = seen g.W.Wire.tells_log g.W.Wire.log g.W.Wire.graph g.W.Wire.faults in
+    let es = c.args.endpoints.now in
+    let ps = c.args.patterns.now in
+    let ss = c.args.sources.now in
+    let at = c.loop-at.at in
+    let p = c.index-patterns-at.result in
+    let ms = c.as_slice.result.now in
+    let stands : slice_get ps at ≡ Some p = search (rules, slice_get_read) in
+    let chosen : slice_get ss at ≡ Some c.index-sources-at.result = search (rules, slice_get_read) in
+    gained_both (AreSent es (questions_of (take at (zip ps ss)))) (AreBegun es (source_questions p ms)) (AreBegun es (row_questions ps ss))
+    (λ xs ys h m. begun_patterns es ps ss (at + 1) (sym c.lacks_one.ensures ∙ c.if-lacks_one.false) (xs ++ ys) (begun_pattern es ps ss at (at + 1) p ms stands (chosen ∙ ap Some (sym c.as_slice.ensures)) (omega arith) xs ys h m))
+    (see c.args.wire.now) (see c.loop-at.wire) (see c.gather.new.wire) refl c.loop-at.invariant.alone c.in-Err.ensures.alone
+
+pub returns-in-Err-join_with-clause-alone : goal.returns-in-Err-join_with-clause-alone
+returns-in-Err-join_with-clause-alone g c =
+    let see = seen g.W.Wire.tells_log g.W.Wire.log g.W.Wire.graph g.W.Wire.faults in
+    let es = c.args.endpoints.now in
+    let ps = c.args.patterns.now in
+    let ss = c.args.sources.now in
+    let at = c.loop-at.at in
+    let p = c.index-patterns-at.result in
+    let ms = c.as_slice.result.now in
+    let stands : slice_get ps at ≡ Some p = search (rules, slice_get_read) in
+    let chosen : slice_get ss at ≡ Some c.index-sources-at.result = search (rules, slice_get_read) in
+    gained_both (AreSent es (questions_of (take at (zip ps ss)))) (AreSent es (source_questions p ms)) (AreBegun es (row_questions ps ss))
+    (λ xs ys h m.
+    begun_patterns es ps ss (at + 1) (sym c.lacks_one.ensures ∙ c.if-lacks_one.false) (xs ++ ys)
+    (begun_all es (questions_of (take (at + 1) (zip ps ss))) (xs ++ ys) (sent_pattern es ps ss at (at + 1) p ms stands (chosen ∙ ap Some (sym c.as_slice.ensures)) (omega arith) xs ys h m)))
+    (see c.args.wire.now) (see c.loop-at.wire) (see c.gather.new.wire) refl c.loop-at.invariant.alone c.in-Ok-gather.ensures.alone

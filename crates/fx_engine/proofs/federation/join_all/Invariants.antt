@@ -1,7 +1,7 @@
 use Rattle.std.proofs.Common.{◌≡◌, List, map, take}
-use Rattle.fx_terms.specs.Graphs.{union}
 use Rattle.fx_terms.specs.declared.triples.Triple.{Triple}
 use Rattle.fx_algebra.specs.BasicGraphPatterns.{bgp}
+use Rattle.fx_algebra.specs.Graphs.{union}
 use Rattle.fx_algebra.specs.Solutions.{SameRows}
 use Rattle.fx_wire.specs.Exchanges.{IsAfter, seen}
 use Rattle.fx_sources.specs.Sources as source

@@ -7,8 +7,8 @@ use Rattle.fx_wire.specs.Exchanges.{seen}
 use Rattle.fx_sources.specs.Sources.{graph_of}
 use Rattle.std.proofs.lemmas.List.Elements.{Contains-get_or}
 use Rattle.fx_terms.proofs.SetLemmas.{contains_from}
-use Rattle.fx_engine.specs.Federation.{rows_of, OfSources, IsRefused, AreRowsOf, AreSent, Gained, IsPostedOnce, member_questions}
-use Rattle.fx_engine.proofs.GainLemmas.{gained_both, sent_next}
+use Rattle.fx_engine.specs.Federation.{rows_of, OfSources, IsRefused, AreBegun, AreRowsOf, AreSent, Gained, IsPostedAtMost, IsPostedOnce, member_questions}
+use Rattle.fx_engine.proofs.GainLemmas.{begun_all, begun_members, begun_next, gained_both, sent_next}
 use Rattle.fx_engine.proofs.GatherLemmas.{after_both, refused_later, refused_at, more_rows}
 use Rattle.fx_engine.proofs.SourceLemmas.{graph_at, map_both}
 use Rattle.fx_engine.proofs.gathering.collect.Goals as goal
@@ -67,3 +67,34 @@ returns-clause-alone g c =
     let see = seen g.W.Wire.tells_log g.W.Wire.log g.W.Wire.graph g.W.Wire.faults in
     let whole : take c.loop-member.member-index c.args.members.now ≡ c.args.members.now = take_all c.loop-member.member-index c.args.members.now (omega arith) in
     subst (λ (v : List ℕ). Gained (AreSent c.args.endpoints.now (member_questions p v)) (see c.args.wire.now) (see c.loop-member.wire)) whole (c.loop-member.invariant.alone p a)
+
+pub returns-in-Err-clause-alone : goal.returns-in-Err-clause-alone
+returns-in-Err-clause-alone g c =
+    λ p a.
+    let see = seen g.W.Wire.tells_log g.W.Wire.log g.W.Wire.graph g.W.Wire.faults in
+    let es = c.args.endpoints.now in
+    let ms = c.args.members.now in
+    let k = c.loop-member.member-index in
+    let at = get_or ms k 0 in
+    let e = c.index-endpoints-at.result in
+    let stands : slice_get es at ≡ Some e = search (rules, slice_get_read) in
+    let more : take (k + 1) ms ≡ take k ms ++ at ∷ [] = take_more ms k 0 c.loop-member-test.true in
+    gained_both (AreSent es (member_questions p (take k ms))) (IsPostedAtMost e c.args.text.now) (AreBegun es (member_questions p ms))
+    (λ xs ys h m. begun_members es p ms (k + 1) (xs ++ ys) (begun_next es (take k ms) (take (k + 1) ms) at e p c.args.columns.now c.args.text.now stands a more xs ys h m)) (see c.args.wire.now) (see c.loop-member.wire) (see c.ask.new.wire) refl (c.loop-member.invariant.alone p a)
+    c.in-Err.ensures.alone
+
+pub returns-in-Err-take_rows-clause-alone : goal.returns-in-Err-take_rows-clause-alone
+returns-in-Err-take_rows-clause-alone g c =
+    λ p a.
+    let see = seen g.W.Wire.tells_log g.W.Wire.log g.W.Wire.graph g.W.Wire.faults in
+    let es = c.args.endpoints.now in
+    let ms = c.args.members.now in
+    let k = c.loop-member.member-index in
+    let at = get_or ms k 0 in
+    let e = c.index-endpoints-at.result in
+    let stands : slice_get es at ≡ Some e = search (rules, slice_get_read) in
+    let more : take (k + 1) ms ≡ take k ms ++ at ∷ [] = take_more ms k 0 c.loop-member-test.true in
+    gained_both (AreSent es (member_questions p (take k ms))) (IsPostedOnce e c.args.text.now) (AreBegun es (member_questions p ms))
+    (λ xs ys h m.
+    begun_members es p ms (k + 1) (xs ++ ys) (begun_all es (member_questions p (take (k + 1) ms)) (xs ++ ys) (sent_next es (take k ms) (take (k + 1) ms) at e p c.args.columns.now c.args.text.now stands a more xs ys h m)))
+    (see c.args.wire.now) (see c.loop-member.wire) (see c.ask.new.wire) refl (c.loop-member.invariant.alone p a) c.in-Ok.ensures.alone

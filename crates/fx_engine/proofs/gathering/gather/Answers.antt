@@ -1,15 +1,15 @@
 use Rattle.std.proofs.Common.{◌≡◌, ◌∙◌, sym, subst, List, [], ℕ, map, rules}
 use Rattle.std.proofs.lemmas.List.Sorted.{IsPermutation-refl}
-use Rattle.fx_terms.specs.Graphs.{union}
+use Rattle.fx_algebra.specs.Graphs.{union}
 use Rattle.fx_algebra.specs.Solutions.{Bindings, SameRows}
 use Rattle.fx_sources.specs.Sources.{graph_of, sources}
 use Rattle.fx_syntax.specs.Accepted.{Accepted}
 use Rattle.fx_syntax.specs.Printable.{pattern_query}
 use Rattle.fx_syntax.proofs.printing.PatternQuery.{pattern_query_is_accepted}
 use Rattle.fx_wire.specs.Exchanges.{seen}
-use Rattle.fx_engine.specs.Federation.{AreRowsOf, AreSent, member_questions, source_questions}
+use Rattle.fx_engine.specs.Federation.{AreBegun, AreRowsOf, AreSent, member_questions, source_questions}
 use Rattle.fx_engine.specs.MemberQueries.{IsAsked}
-use Rattle.fx_engine.proofs.GainLemmas.{gained_as, gained_none, sent_literal, sent_sources}
+use Rattle.fx_engine.proofs.GainLemmas.{begun_all, begun_none, begun_sources, gained_as, gained_none, sent_literal, sent_sources}
 use Rattle.fx_engine.proofs.GatherLemmas.{gathered}
 use Rattle.fx_engine.proofs.PatternLemmas.{no_rows}
 use Rattle.fx_engine.proofs.SourceLemmas.{rows_of_sources}
@@ -78,3 +78,44 @@ returns-in-Ok-each_once-clause-alone g c =
       printed = c.as_str.ensures.value ∙ c.in-Ok-text_of.ensures;
       accepted = subst (λ (text : List ℕ). Accepted text (pattern_query p)) (sym (c.as_str.ensures.value ∙ c.in-Ok-text_of.ensures)) (pattern_query_is_accepted p c.known_pattern.ensures);
     }))
+
+pub returns-in_default-clause-alone : goal.returns-in_default-clause-alone
+returns-in_default-clause-alone g c =
+    let see = seen g.W.Wire.tells_log g.W.Wire.log g.W.Wire.graph g.W.Wire.faults in
+    let es = c.args.endpoints.now in
+    let asked = source_questions c.args.pattern.now c.args.members.now in
+    gained_none (AreBegun es asked) (see c.args.wire.now) (begun_none es asked)
+
+pub returns-in_default-text_of-clause-alone : goal.returns-in_default-text_of-clause-alone
+returns-in_default-text_of-clause-alone g c =
+    let see = seen g.W.Wire.tells_log g.W.Wire.log g.W.Wire.graph g.W.Wire.faults in
+    let es = c.args.endpoints.now in
+    let asked = source_questions c.args.pattern.now c.args.members.now in
+    gained_none (AreBegun es asked) (see c.args.wire.now) (begun_none es asked)
+
+pub returns-in-Err-clause-alone : goal.returns-in-Err-clause-alone
+returns-in-Err-clause-alone g c =
+    let see = seen g.W.Wire.tells_log g.W.Wire.log g.W.Wire.graph g.W.Wire.faults in
+    let es = c.args.endpoints.now in
+    let p = c.args.pattern.now in
+    let ms = c.args.members.now in
+    let asked : IsAsked p c.as_slice.result.now c.as_str.result.now = record {
+      named = c.as_slice.ensures.value ∙ c.in-Ok.ensures;
+      printed = c.as_str.ensures.value ∙ c.in-Ok-text_of.ensures;
+      accepted = subst (λ (text : List ℕ). Accepted text (pattern_query p)) (sym (c.as_str.ensures.value ∙ c.in-Ok-text_of.ensures)) (pattern_query_is_accepted p c.known_pattern.ensures);
+    } in
+    gained_as (AreBegun es (member_questions p ms)) (AreBegun es (source_questions p ms)) (begun_sources es p ms (sym c.is_literal.ensures ∙ c.if-is_literal.false)) (see c.args.wire.now) (see c.collect.new.wire) (c.in-Err.ensures.alone p asked)
+
+pub returns-clause-alone : goal.returns-clause-alone
+returns-clause-alone g c =
+    let see = seen g.W.Wire.tells_log g.W.Wire.log g.W.Wire.graph g.W.Wire.faults in
+    let es = c.args.endpoints.now in
+    let p = c.args.pattern.now in
+    let ms = c.args.members.now in
+    let asked : IsAsked p c.as_slice.result.now c.as_str.result.now = record {
+      named = c.as_slice.ensures.value ∙ c.in-Ok.ensures;
+      printed = c.as_str.ensures.value ∙ c.in-Ok-text_of.ensures;
+      accepted = subst (λ (text : List ℕ). Accepted text (pattern_query p)) (sym (c.as_str.ensures.value ∙ c.in-Ok-text_of.ensures)) (pattern_query_is_accepted p c.known_pattern.ensures);
+    } in
+    gained_as (AreSent es (member_questions p ms)) (AreBegun es (source_questions p ms)) (λ xs h. begun_sources es p ms (sym c.is_literal.ensures ∙ c.if-is_literal.false) xs (begun_all es (member_questions p ms) xs h)) (see c.args.wire.now) (see c.collect.new.wire)
+    (c.in-Ok-collect.ensures.alone p asked)

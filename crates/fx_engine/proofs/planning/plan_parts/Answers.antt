@@ -6,15 +6,16 @@ use Rattle.std.specs.declared.alloc.Global.{Global}
 use Rattle.fx_outside.specs.Endpoints.{EndpointParts}
 use Rattle.fx_plan.specs.declared.parts.Part.{Part}
 use Rattle.fx_wire.specs.Exchanges.{seen}
-use Rattle.fx_sources.specs.Probes.{chosen, learned, told}
+use Rattle.fx_sources.specs.Probes.{chosen, learned, missing, told}
 use Rattle.fx_sources.specs.Sources as source
 use Rattle.fx_sources.specs.declared.probes.Probe.{Probe}
 use Rattle.fx_engine.specs.declared.errors.FedError.TheVariants.{Memory}
 use Rattle.fx_engine.specs.Sections.{parts_by, sections}
-use Rattle.fx_engine.specs.Federation.{AsksNothing, IsRefused, OfMissing, OfProbes, Tells, TellsFits}
+use Rattle.fx_engine.specs.Federation.{AreBegun, AreSent, AsksNothing, Gained, probe_questions, IsRefused, OfMissing, OfProbes, Tells, TellsFits}
 use Rattle.fx_engine.proofs.QuestionLemmas.{of_missing}
+use Rattle.fx_engine.proofs.GainLemmas.{begun_none, gained_none}
 use Rattle.fx_engine.proofs.GatherLemmas.{after_itself, refused_later}
-use Rattle.fx_engine.proofs.LearnLemmas.{answers_tell, as_many_truths, kept_all, kept_so, not_learned, tells_again}
+use Rattle.fx_engine.proofs.LearnLemmas.{answers_tell, as_many_truths, kept_all, kept_so, missing_begun, missing_sent, not_learned, tells_again}
 use Rattle.fx_engine.proofs.PlanLemmas.{by_answers, parts_from}
 use Rattle.fx_engine.proofs.planning.plan_parts.Goals as goal
 
@@ -127,3 +128,50 @@ pub returns-clause-tells : goal.returns-clause-tells
 returns-clause-tells g c =
     let see = seen g.W.Wire.tells_log g.W.Wire.log g.W.Wire.graph g.W.Wire.faults in
     tells_again {X = Vec Part Global} AsksNothing (see c.args.wire.now) (see c.ask_all.new.wire) c.args.registry.now c.args.query.now c.args.cache.now c.learn.new.self (Err Memory) (returns-clause-learns g c)
+
+pub returns-in_default-clause-begun : goal.returns-in_default-clause-begun
+returns-in_default-clause-begun g c =
+    let see = seen g.W.Wire.tells_log g.W.Wire.log g.W.Wire.graph g.W.Wire.faults in
+    let es = c.args.registry.now in
+    let asked = probe_questions (missing c.args.query.now (length es) c.args.cache.now) in
+    gained_none (AreBegun es asked) (see c.args.wire.now) (begun_none es asked)
+
+pub returns-in-Err-clause-begun : goal.returns-in-Err-clause-begun
+returns-in-Err-clause-begun g c =
+    let see = seen g.W.Wire.tells_log g.W.Wire.log g.W.Wire.graph g.W.Wire.faults in
+    let es = c.args.registry.now in
+    let s = see c.args.wire.now in
+    let t = see c.ask_all.new.wire in
+    let ps = c.as_slice.result.now in
+    missing_begun s t es c.args.query.now c.args.cache.now ps (c.as_slice.ensures.value ∙ c.in-Ok.ensures.probes)
+    (subst (λ (v : List EndpointParts). Gained (AreBegun v (probe_questions ps)) s t) c.endpoints.ensures.value c.in-Err.ensures.alone)
+
+pub returns-in-Err-parts_by-clause-begun : goal.returns-in-Err-parts_by-clause-begun
+returns-in-Err-parts_by-clause-begun g c =
+    let see = seen g.W.Wire.tells_log g.W.Wire.log g.W.Wire.graph g.W.Wire.faults in
+    let es = c.args.registry.now in
+    let s = see c.args.wire.now in
+    let t = see c.ask_all.new.wire in
+    let ps = c.as_slice.result.now in
+    missing_sent s t es c.args.query.now c.args.cache.now ps (c.as_slice.ensures.value ∙ c.in-Ok.ensures.probes)
+    (subst (λ (v : List EndpointParts). Gained (AreSent v (probe_questions ps)) s t) c.endpoints.ensures.value c.in-Ok-ask_all.ensures.alone)
+
+pub returns-in-Ok-learn-clause-begun : goal.returns-in-Ok-learn-clause-begun
+returns-in-Ok-learn-clause-begun g c =
+    let see = seen g.W.Wire.tells_log g.W.Wire.log g.W.Wire.graph g.W.Wire.faults in
+    let es = c.args.registry.now in
+    let s = see c.args.wire.now in
+    let t = see c.ask_all.new.wire in
+    let ps = c.as_slice.result.now in
+    missing_sent s t es c.args.query.now c.args.cache.now ps (c.as_slice.ensures.value ∙ c.in-Ok.ensures.probes)
+    (subst (λ (v : List EndpointParts). Gained (AreSent v (probe_questions ps)) s t) c.endpoints.ensures.value c.in-Ok-ask_all.ensures.alone)
+
+pub returns-clause-begun : goal.returns-clause-begun
+returns-clause-begun g c =
+    let see = seen g.W.Wire.tells_log g.W.Wire.log g.W.Wire.graph g.W.Wire.faults in
+    let es = c.args.registry.now in
+    let s = see c.args.wire.now in
+    let t = see c.ask_all.new.wire in
+    let ps = c.as_slice.result.now in
+    missing_sent s t es c.args.query.now c.args.cache.now ps (c.as_slice.ensures.value ∙ c.in-Ok.ensures.probes)
+    (subst (λ (v : List EndpointParts). Gained (AreSent v (probe_questions ps)) s t) c.endpoints.ensures.value c.in-Ok-ask_all.ensures.alone)
