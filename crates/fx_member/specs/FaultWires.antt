@@ -52,3 +52,10 @@ pub record IsAfterExchange (before after : FaultWire) (address : List ℕ) : Typ
   pub there : (other : List ℕ) → next_at after other ≡ next_at before other + cond (bytes_eq address other) 1 0
   pub failing : after.fails ≡ before.fails
   pub failing_at : after.fails_at ≡ before.fails_at
+
+-- a wire whose exchange wasn't counted: the next one has the number that it had, there and altogether, and the same are to fail
+pub record IsUncounted (before after : FaultWire) : Type 0 where
+  pub next : next_exchange after ≡ next_exchange before
+  pub there : (other : List ℕ) → next_at after other ≡ next_at before other
+  pub failing : after.fails ≡ before.fails
+  pub failing_at : after.fails_at ≡ before.fails_at

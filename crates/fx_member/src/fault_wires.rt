@@ -1,5 +1,5 @@
 //! A wire in memory whose exchanges fail where they are to.
-ghost use Rattle.std.specs.Prelude.{◌≡◌, ◌+◌, ◌<◌, ◌≤◌, ◌++◌, ◌∷◌, [], ℕ, List, IfOk, IfSome, IsErrOf, IsOkAnd, MatchResult, OnOk, cond, bytes_eq, length, vec_len};
+ghost use Rattle.std.specs.Prelude.{◌≡◌, ◌+◌, ◌<◌, ◌≤◌, ◌++◌, ◌∷◌, [], ℕ, List, IfOk, IfSome, IsErrOf, IsOkAnd, MatchResult, OnErr, OnOk, cond, bytes_eq, length, vec_len};
 ghost use Rattle.std.specs.List.{list_any};
 ghost use Rattle.fx_member.specs.FaultWires as spec;
 ghost use Rattle.fx_member.specs.GraphWires.{IsFrontServed};
@@ -52,6 +52,7 @@ impl FaultWire {
         ensures faults { self.new.faults ≡ self.old.faults }
         ensures failing { IfOk result (λ failing. failing ≡ spec.fails_next self.old address.now) }
         ensures after { OnOk result (spec.IsAfterExchange self.old self.new address.now) }
+        ensures short { OnErr result (spec.IsUncounted self.old self.new) }
     {
         if self.exchanges == u64::MAX {
             return Err(AllocError);
@@ -68,7 +69,7 @@ impl FaultWire {
 
 impl Wire for FaultWire {
     ghost use Rattle.std.specs.Prelude.{◌⊎◌, true, false, None};
-    ghost use Rattle.fx_member.specs.FaultWires.{faults_in, fails_next, graph_in, log_in, IsAfterExchange};
+    ghost use Rattle.fx_member.specs.FaultWires.{faults_in, fails_next, graph_in, log_in, IsAfterExchange, IsUncounted};
 
     ghost tells_log = { true };
 
@@ -82,7 +83,8 @@ impl Wire for FaultWire {
     /// else `limit + 1`.
     ///
     /// `Failed` comes exactly where the exchange is to fail, and where the address has no graph. `Memory` comes where memory
-    /// runs out, or where a count stands at the end of `u64`: the exchange is counted or not then.
+    /// runs out, or where a count stands at the end of `u64`: the exchange is counted or not then, and whichever of the later
+    /// ones were to fail still are.
     fn exchange(
         &mut self,
         alloc: Global,
@@ -105,6 +107,7 @@ impl Wire for FaultWire {
         ensures faultless { ¬ IsErrOf result WireError.Failed → (address : List ℕ) → faults_in self.new address ≡ faults_in self.old address }
         ensures counted { IsErrOf result WireError.Failed → (address : List ℕ) → faults_in self.new address ≡ faults_in self.old address + cond (bytes_eq at.now.iri address) 1 0 }
         ensures after { ¬ IsErrOf result WireError.Memory → IsAfterExchange self.old self.new at.now.iri }
+        ensures short { IsErrOf result WireError.Memory → IsAfterExchange self.old self.new at.now.iri ⊎ IsUncounted self.old self.new }
     {
         let place = self.faults.place(at.iri().text())?;
         if self.counts_a_failure(at.iri())? {

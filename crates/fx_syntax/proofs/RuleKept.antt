@@ -7,7 +7,7 @@ use Rattle.fx_syntax.specs.declared.kinds.SyntaxKind.{SyntaxKind}
 use Rattle.fx_syntax.specs.declared.kinds.SyntaxKind.TheVariants.{Unexpected}
 use Rattle.fx_syntax.specs.Rule.{Rule, Apart, one, token, made, Shape, shape_of, Shaped, then_by, seq, either, opt, many_from, many, refusing, after, before, chain, some, nothing, Depth, with_depth, depth, nested}
 use Rattle.fx_syntax.proofs.RuleLaws.{Lawful, sees-same, lawful_one, lawful_token, lawful_made, lawful_then_by, lawful_seq, lawful_after, lawful_before, lawful_either, lawful_opt, lawful_many_from, lawful_many, lawful_chain, lawful_some, lawful_refusing}
-use Rattle.fx_syntax.proofs.RuleLocal.{Local, leaves_refused, refused_alike, local_one, local_token, local_made, local_then_by, local_seq, local_after, local_before, local_either, local_opt, local_many_from, local_many, local_chain, local_some, local_refusing}
+use Rattle.fx_syntax.proofs.RuleLocal.{Local, leaves_unexpected, refused_alike, local_one, local_token, local_made, local_then_by, local_seq, local_after, local_before, local_either, local_opt, local_many_from, local_many, local_chain, local_some, local_refusing}
 
 pub record Kept {A : Type 0} (r : Rule A) : Type 0 where
   pub law : Lawful r
@@ -71,7 +71,7 @@ module _ {A : Type 0} (rule : Rule A → Rule A)
   unfolding depth
   kept_nested zero = record {
     law = record { sound = λ ts. tt; complete = λ front rest x h e. absurd h; starts = λ front x h. absurd h };
-    local = record { leaves = λ ts. leaves_refused A ts Unexpected; alike = λ t u v front. refused_alike A Unexpected t u v front };
+    local = record { leaves = λ ts. leaves_unexpected A ts; alike = λ t u v front. refused_alike A Unexpected t u v front };
   }
   kept_nested (suc n) =
       let r = rule (with_depth shape (depth rule n)) in

@@ -2,10 +2,11 @@
 use Rattle.std.proofs.Common.{◌≡◌, ℕ, zero, suc, ◌<◌, ◌≤◌, Bool, true, false, cond, List, [], ◌∷◌, ◌++◌, length, Option, Some, None, Result, Ok, Err, refl, sym, ap, ◌∙◌, subst, arith, append_assoc, length-append}
 use Rattle.fx_syntax.specs.Kinds.{is, kind_of}
 use Rattle.fx_syntax.specs.declared.kinds.Kind.{Kind}
+use Rattle.fx_syntax.specs.declared.kinds.Kind.TheVariants as k
 use Rattle.fx_syntax.specs.declared.kinds.Token.{Token}
 use Rattle.fx_syntax.specs.declared.kinds.SyntaxKind.{SyntaxKind}
-use Rattle.fx_syntax.specs.declared.kinds.SyntaxKind.TheVariants.{Unexpected}
-use Rattle.fx_syntax.specs.Rule.{Outcome, and_then, refuse, why_at, Rule, sees, one, token, read_one, valued, made, Shape, shape_of, Shaped, then_by, seq, either, opt, many_from, read_from, many, refusing, after, before, chain, some}
+use Rattle.fx_syntax.specs.declared.kinds.SyntaxKind.TheVariants.{TooDeep, RelativeIri, Unsupported, Unexpected}
+use Rattle.fx_syntax.specs.Rule.{Outcome, and_then, refuse, why_at, IsFitting, Rule, sees, one, token, read_one, valued, made, Shape, shape_of, Shaped, then_by, seq, either, opt, many_from, read_from, many, refusing, after, before, chain, some}
 use Rattle.fx_syntax.proofs.RuleLaws.{Lawful, Shortens, shortens_from, turn_of, turn_is, same_shape, lawful_item}
 
 -- Two lists that are alike up to a token t, and may differ behind it. What is read of the one before t, or refused at t or before,
@@ -14,10 +15,10 @@ abbrev pub Alike : {A : Type 0} → Token → List Token → List Token → Outc
 Alike t u v (Ok p) o = (mid : List Token) → p.1 ≡ mid ++ t ∷ u → o ≡ Ok (p.0, mid ++ t ∷ v)
 Alike t u v (Err r) o = (mid : List Token) → r.left ≡ length (mid ++ t ∷ u) → o ≡ Err (record { why = r.why; left = length (mid ++ t ∷ v) })
 
--- what is left is an end of what was given
+-- what is left is an end of what was given, and a reason fits it
 abbrev pub Leaves : {A : Type 0} → List Token → Outcome A → Type 0
 Leaves ts (Ok p) = (front : List Token) × (ts ≡ front ++ p.1)
-Leaves ts (Err r) = (front rest : List Token) × (ts ≡ front ++ rest) × (r.left ≡ length rest)
+Leaves ts (Err r) = (front rest : List Token) × (ts ≡ front ++ rest) × (r.left ≡ length rest) × IsFitting r.why rest
 
 pub record Local {A : Type 0} (r : Rule A) : Type 0 where
   pub leaves : (ts : List Token) → Leaves ts (r.read ts)
@@ -58,8 +59,20 @@ leaves_cond : {A : Type 0} (ts : List Token) (b : Bool) (x y : Outcome A) → Le
 leaves_cond ts true x y f g = f
 leaves_cond ts false x y f g = g
 
-pub leaves_refused : (A : Type 0) (ts : List Token) (why : SyntaxKind) → Leaves {A = A} ts (refuse why ts)
-leaves_refused A ts why = ([], ts, refl, refl)
+-- a reason stays what it is where it is looked at once more
+own_reason : (a b c : Bool) (why : SyntaxKind) →
+    cond a TooDeep (cond b RelativeIri (cond c Unsupported why)) ≡ cond a TooDeep (cond b RelativeIri (cond c Unsupported (cond a TooDeep (cond b RelativeIri (cond c Unsupported why)))))
+own_reason true b c why = refl
+own_reason false true c why = refl
+own_reason false false true why = refl
+own_reason false false false why = refl
+
+pub leaves_refused : (A : Type 0) (t : Token) (ts : List Token) (why : SyntaxKind) → Leaves {A = A} (t ∷ ts) (refuse why (t ∷ ts))
+leaves_refused A t ts why = ([], t ∷ ts, refl, refl, own_reason (is k.TooDeep (kind_of t)) (is k.Relative (kind_of t)) (is k.InnerService (kind_of t)) why)
+
+pub leaves_unexpected : (A : Type 0) (ts : List Token) → Leaves {A = A} ts (refuse Unexpected ts)
+leaves_unexpected A [] = ([], [], refl, refl, refl)
+leaves_unexpected A (t ∷ ts) = leaves_refused A t ts Unexpected
 
 why_alike : (why : SyntaxKind) (t : Token) (u v front : List Token) → why_at why (front ++ t ∷ u) ≡ why_at why (front ++ t ∷ v)
 why_alike why t u v [] = refl
@@ -99,11 +112,11 @@ module _ {A : Type 0} (kinds : Kind → Bool) (value : Token → Result A Syntax
 
   valued_leaves : (t : Token) (ts : List Token) (w : Result A SyntaxKind) → Leaves (t ∷ ts) (valued w (t ∷ ts) ts)
   valued_leaves t ts (Ok x) = (t ∷ [], refl)
-  valued_leaves t ts (Err why) = leaves_refused A (t ∷ ts) why
+  valued_leaves t ts (Err why) = leaves_refused A t ts why
 
   one_leaves : (ts : List Token) → Leaves ts (read_one kinds value ts)
-  one_leaves [] = ([], [], refl, refl)
-  one_leaves (t ∷ ts) = leaves_cond (t ∷ ts) (kinds (kind_of t)) (valued (value t) (t ∷ ts) ts) (refuse Unexpected (t ∷ ts)) (valued_leaves t ts (value t)) (leaves_refused A (t ∷ ts) Unexpected)
+  one_leaves [] = leaves_unexpected A []
+  one_leaves (t ∷ ts) = leaves_cond (t ∷ ts) (kinds (kind_of t)) (valued (value t) (t ∷ ts) ts) (refuse Unexpected (t ∷ ts)) (valued_leaves t ts (value t)) (leaves_unexpected A (t ∷ ts))
 
   pub local_one : Local (one kinds value)
   local_one = record { leaves = one_leaves; alike = one_alike }
@@ -118,7 +131,7 @@ leaves_then {A} {C} ts (Ok p) k h l = go (k p.0 p.1) (l p.0 p.1)
   where
     go : (o : Outcome C) → Leaves p.1 o → Leaves ts o
     go (Ok q) g = (h.0 ++ g.0, h.1 ∙ ap (λ v. h.0 ++ v) g.1 ∙ sym (append_assoc h.0 g.0 q.1))
-    go (Err r) g = (h.0 ++ g.0, g.1, h.1 ∙ ap (λ v. h.0 ++ v) g.2 ∙ sym (append_assoc h.0 g.0 g.1), g.3)
+    go (Err r) g = (h.0 ++ g.0, g.1, h.1 ∙ ap (λ v. h.0 ++ v) g.2 ∙ sym (append_assoc h.0 g.0 g.1), g.3, g.4)
 leaves_then ts (Err r) k h l = h
 
 module _ {A C : Type 0} (t : Token) (u v front : List Token) (k : A → List Token → Outcome C) where
@@ -252,10 +265,14 @@ local_some a l law na = local_made (λ p. p.0 ∷ p.1) (seq a (many a)) (local_s
 
 pub local_refusing : (A : Type 0) (why : SyntaxKind) (kinds : Kind → Bool) → Local (refusing {A = A} why kinds)
 local_refusing A why kinds = record {
-  leaves = λ ts. leaves_refused A ts (cond (sees kinds ts) why Unexpected);
+  leaves = refused_leaves;
   alike = λ t u v front. go t u v front _ _ (sees_alike kinds t u v front);
 }
   where
+    refused_leaves : (ts : List Token) → Leaves {A = A} ts (refuse (cond (sees kinds ts) why Unexpected) ts)
+    refused_leaves [] = leaves_unexpected A []
+    refused_leaves (t ∷ ts) = leaves_refused A t ts (cond (sees kinds (t ∷ ts)) why Unexpected)
+
     go : (t : Token) (u v front : List Token) (b c : Bool) → b ≡ c → Alike {A = A} t u v (refuse (cond b why Unexpected) (front ++ t ∷ u)) (refuse (cond c why Unexpected) (front ++ t ∷ v))
     go t u v front true true e = refused_alike A why t u v front
     go t u v front false false e = refused_alike A Unexpected t u v front

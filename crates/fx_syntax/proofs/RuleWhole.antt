@@ -2,9 +2,9 @@
 use Rattle.std.proofs.Common.{◌≡◌, List, [], ◌∷◌, ◌++◌, length, Ok, Err, refl, sym, ap, ◌∙◌, subst, append-nil, ◌≤◌, arith, length-append}
 use Rattle.fx_syntax.specs.declared.kinds.Token.{Token}
 use Rattle.fx_syntax.specs.declared.kinds.SyntaxKind.TheVariants.{Unexpected}
-use Rattle.fx_syntax.specs.Rule.{Outcome, Refusal, and_then, Rule, to_end, read_whole, ReadAsSpelled, RefusedForGood}
+use Rattle.fx_syntax.specs.Rule.{Outcome, Refusal, and_then, Rule, to_end, read_whole, ReadAsSpelled, RefusedForGood, RefusedTheSame, RefusedFitly, IsFitting}
 use Rattle.fx_syntax.proofs.RuleLaws.{Sound, Lawful}
-use Rattle.fx_syntax.proofs.RuleLocal.{Local, Alike, Leaves, then_alike, leaves_then, leaves_refused, refused_alike}
+use Rattle.fx_syntax.proofs.RuleLocal.{Local, Alike, Leaves, then_alike, leaves_then, leaves_unexpected, refused_alike}
 
 value_of : {A : Type 0} → A → Outcome A → A
 value_of d (Ok p) = p.0
@@ -42,7 +42,7 @@ module _ {A : Type 0} (r : Rule A) (law : Lawful r) (l : Local r) where
   end_leaves : (x : A) (ts : List Token) → Leaves ts (to_end x ts)
   unfolding to_end
   end_leaves x [] = ([], refl)
-  end_leaves x (t ∷ ts) = leaves_refused A (t ∷ ts) Unexpected
+  end_leaves x (t ∷ ts) = leaves_unexpected A (t ∷ ts)
 
   end_alike : (t : Token) (u v : List Token) (x : A) (m : List Token) → Alike t u v (to_end x (m ++ t ∷ u)) (to_end x (m ++ t ∷ v))
   unfolding to_end
@@ -75,3 +75,18 @@ module _ {A : Type 0} (r : Rule A) (law : Lawful r) (l : Local r) where
   pub refused_for_good : RefusedForGood r
   refused_for_good tokens refusal e = λ front rest t is h other x s.
       refused_again t rest other front refusal x (ap (read_whole r) (sym is) ∙ e) h (whole_read r law (front ++ t ∷ other) x s)
+
+  pub refused_the_same : RefusedTheSame r
+  refused_the_same tokens refusal e = λ front rest t is h other.
+      let a : Alike t rest other (Err refusal) (read_whole r (front ++ t ∷ other)) = subst (λ (o : Outcome A). Alike t rest other o (read_whole r (front ++ t ∷ other))) (ap (read_whole r) (sym is) ∙ e) (whole_alike t rest other front) in
+      a [] h
+
+  fit_by : (ts : List Token) (o : Outcome A) (f : Refusal) → Leaves ts o → o ≡ Err f → (front rest : List Token) × (ts ≡ front ++ rest) × (f.left ≡ length rest) × IsFitting f.why rest
+  fit_by ts (Ok p) f h e = absurd (cc)
+  fit_by ts (Err g) f h e =
+      let same : g ≡ f = cc e in
+      subst (λ (x : Refusal). (front rest : List Token) × (ts ≡ front ++ rest) × (x.left ≡ length rest) × IsFitting x.why rest) same h
+
+  pub refused_fitly : RefusedFitly r
+  unfolding read_whole
+  refused_fitly ts f e = fit_by ts (and_then (r.read ts) to_end) f (leaves_then ts (r.read ts) to_end (l.leaves ts) end_leaves) e

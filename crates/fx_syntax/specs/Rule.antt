@@ -276,3 +276,19 @@ ReadAsSpelled {A} r =
 -- a refusal stays one, whatever stands behind the token at its place
 abbrev pub RefusedForGood : {A : Type 0} → Rule A → Type 0
 RefusedForGood r = (tokens : List Token) (refusal : Refusal) → read_whole r tokens ≡ Err refusal → StaysRefused r.spells tokens refusal
+
+-- a refused token is refused for the same reason, whatever stands behind it
+abbrev pub RefusedTheSame : {A : Type 0} → Rule A → Type 0
+RefusedTheSame r =
+    (tokens : List Token) (refusal : Refusal) → read_whole r tokens ≡ Err refusal
+    → (front after : List Token) (t : Token) → tokens ≡ front ++ t ∷ after → refusal.left ≡ length (t ∷ after) → (other : List Token) → read_whole r (front ++ t ∷ other) ≡ Err (record { why = refusal.why; left = length (t ∷ other) })
+
+-- a reason that fits the tokens from its place on: at the end of all tokens it is the general one, and a token that is refused
+-- wherever reading comes to it has its own
+abbrev pub IsFitting : SyntaxKind → List Token → Type 0
+IsFitting why [] = why ≡ Unexpected
+IsFitting why (t ∷ ts) = why ≡ why_of why (kind_of t)
+
+-- a refusal stands at a token, or behind the last, and its reason fits there
+abbrev pub RefusedFitly : {A : Type 0} → Rule A → Type 0
+RefusedFitly r = (tokens : List Token) (refusal : Refusal) → read_whole r tokens ≡ Err refusal → (front rest : List Token) × (tokens ≡ front ++ rest) × (refusal.left ≡ length rest) × IsFitting refusal.why rest

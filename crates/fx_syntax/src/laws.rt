@@ -2,7 +2,7 @@
 ghost use Rattle.fx_syntax.specs.Accepted.{OneQuery};
 ghost use Rattle.fx_syntax.specs.Grammar as grammar;
 ghost use Rattle.fx_syntax.specs.Printable.{AcceptedIsPrintable, PatternQueryIsAccepted, PrintedIsAccepted, PrintedTextIsAccepted, SpellableIsAccepted};
-ghost use Rattle.fx_syntax.specs.Rule.{ReadAsSpelled, RefusedForGood};
+ghost use Rattle.fx_syntax.specs.Rule.{ReadAsSpelled, RefusedFitly, RefusedForGood, RefusedTheSame};
 
 /// A text is accepted as one query at most.
 pub fn one_query()
@@ -17,6 +17,17 @@ pub fn grammar_is_read_as_spelled()
 /// Where the grammar refuses a token, no query begins with the tokens up to and with it.
 pub fn grammar_refuses_for_good()
     ensures { RefusedForGood grammar.query }
+{}
+
+/// A token that the grammar refuses is refused for the same reason, whatever stands behind it.
+pub fn grammar_refuses_the_same()
+    ensures { RefusedTheSame grammar.query }
+{}
+
+/// Where tokens are refused, the reason fits the place: at the end of all tokens it is that something else was expected, and a
+/// token that is refused wherever reading comes to it has its own.
+pub fn grammar_refuses_fitly()
+    ensures { RefusedFitly grammar.query }
 {}
 
 /// The printed query of a triple pattern, whose names, IRIs and literals are those of their types, is accepted as that query.
