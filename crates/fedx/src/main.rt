@@ -2,60 +2,48 @@
 //! the latter, and serves a file of triples as such an endpoint.
 #![tactic(auto)]
 
-mod commands;
-mod explained;
-mod federated;
-mod limits;
-mod loading;
-mod local;
-mod refusals;
-mod reports;
-mod running;
-mod serving;
-mod statuses;
-
-use commands::CommandError;
+use fx_commands::{CommandError, Refusal, Status, run, write_refusal};
 use fx_outside::{Folder, Listener, StdSink};
 use fx_wire::TcpWire;
-use refusals::Refusal;
-use reports::write_refusal;
-use running::run;
-use statuses::Status;
 use std::process::ExitCode;
 use std::{env, io};
 
 fn main(rt: HostRuntime) -> io::Result<ExitCode> {
-    let mut files = Folder::new(rt.alloc(), rt.clone()?);
-    let mut wires = [TcpWire::new(rt.alloc(), rt.clone()?)];
-    let mut door = Listener::new(rt.clone()?);
-    let mut out = StdSink::new(rt.stdout());
-    let mut err = StdSink::new(rt.stderr());
     let status = match words(&rt) {
-        Ok(words) => run(
-            rt.alloc(),
-            words.as_slice(),
-            &mut files,
-            &mut wires,
-            &mut door,
-            &mut out,
-            &mut err,
-        ),
+        Ok(words) => run_words(&rt, words.as_slice())?,
         // No command has a word that can't be read, so it is answered as no words are.
-        Err(CommandError::Usage) => run(
-            rt.alloc(),
-            &[],
-            &mut files,
-            &mut wires,
-            &mut door,
-            &mut out,
-            &mut err,
-        ),
-        Err(CommandError::Memory) => {
-            write_refusal(&mut err, &Refusal::Memory, "", "");
-            Status::NoMemory
-        }
+        Err(CommandError::Usage) => run_words(&rt, &[])?,
+        Err(CommandError::Memory) => no_memory(&rt),
     };
     Ok(ExitCode::from(status.code()))
+}
+
+// Runs the command over the system's files, network and streams.
+fn run_words(rt: &HostRuntime, words: &[String]) -> io::Result<Status> {
+    let for_files = rt.clone()?;
+    let for_wires = rt.clone()?;
+    let for_door = rt.clone()?;
+    let mut files = Folder::new(rt.alloc(), for_files);
+    let mut wires = [TcpWire::new(rt.alloc(), for_wires)];
+    let mut door = Listener::new(for_door);
+    let mut out = StdSink::new(rt.stdout());
+    let mut err = StdSink::new(rt.stderr());
+    Ok(run(
+        rt.alloc(),
+        words,
+        &mut files,
+        &mut wires,
+        &mut door,
+        &mut out,
+        &mut err,
+    ))
+}
+
+// The end of a run for whose words there is no memory.
+fn no_memory(rt: &HostRuntime) -> Status {
+    let mut err = StdSink::new(rt.stderr());
+    write_refusal(&mut err, &Refusal::Memory, "", "");
+    Status::NoMemory
 }
 
 // The words behind the program's name. `Usage` comes where one isn't UTF-8.
@@ -74,6 +62,3 @@ fn words(rt: &HostRuntime) -> Result<Vec<String>, CommandError> {
         },
     }
 }
-
-#[cfg(test)]
-mod tests;

@@ -85,21 +85,17 @@ impl Expr {
         ensures { IfOk result (λ copy. copy ≡ self.now) }
     {
         match self {
-            Expr::Variable(name) => Ok(Expr::Variable(name.copy()?)),
-            Expr::Constant(term) => Ok(Expr::Constant(term.copy()?)),
+            Expr::Variable(name) => copy_variable(name),
+            Expr::Constant(term) => copy_constant(term),
             Expr::Or(parts) => Ok(Expr::Or(copy_all(alloc, parts.as_slice())?)),
             Expr::And(parts) => Ok(Expr::And(copy_all(alloc, parts.as_slice())?)),
-            Expr::Not(part) => Ok(Expr::Not(Boxed::new(alloc, part.get().copy(alloc)?)?)),
-            Expr::Positive(part) => {
-                Ok(Expr::Positive(Boxed::new(alloc, part.get().copy(alloc)?)?))
-            }
-            Expr::Negative(part) => {
-                Ok(Expr::Negative(Boxed::new(alloc, part.get().copy(alloc)?)?))
-            }
+            Expr::Not(part) => Ok(Expr::Not(copy_boxed(alloc, part)?)),
+            Expr::Positive(part) => Ok(Expr::Positive(copy_boxed(alloc, part)?)),
+            Expr::Negative(part) => Ok(Expr::Negative(copy_boxed(alloc, part)?)),
             Expr::Compare { op, left, right } => Ok(Expr::Compare {
                 op: *op,
-                left: Boxed::new(alloc, left.get().copy(alloc)?)?,
-                right: Boxed::new(alloc, right.get().copy(alloc)?)?,
+                left: copy_boxed(alloc, left)?,
+                right: copy_boxed(alloc, right)?,
             }),
             Expr::Among {
                 negated,
@@ -107,11 +103,11 @@ impl Expr {
                 list,
             } => Ok(Expr::Among {
                 negated: *negated,
-                item: Boxed::new(alloc, item.get().copy(alloc)?)?,
+                item: copy_boxed(alloc, item)?,
                 list: copy_all(alloc, list.as_slice())?,
             }),
             Expr::Sum { first, rest } => Ok(Expr::Sum {
-                first: Boxed::new(alloc, first.get().copy(alloc)?)?,
+                first: copy_boxed(alloc, first)?,
                 rest: copy_signed(alloc, rest.as_slice())?,
             }),
             Expr::Product(parts) => Ok(Expr::Product(copy_all(alloc, parts.as_slice())?)),
@@ -121,6 +117,25 @@ impl Expr {
             }),
         }
     }
+}
+
+fn copy_variable(name: &Name) -> Result<Expr, Memory>
+    ensures { IfOk result (λ copy. copy ≡ Expr.Variable name.now) }
+{
+    Ok(Expr::Variable(name.copy()?))
+}
+
+fn copy_constant(term: &Term) -> Result<Expr, Memory>
+    ensures { IfOk result (λ copy. copy ≡ Expr.Constant term.now) }
+{
+    Ok(Expr::Constant(term.copy()?))
+}
+
+#[cycle(copy)]
+fn copy_boxed(alloc: Global, part: &Boxed<Expr>) -> Result<Boxed<Expr>, Memory>
+    ensures { IfOk result (λ copy. copy ≡ part.now) }
+{
+    Ok(Boxed::new(alloc, part.get().copy(alloc)?)?)
 }
 
 #[cycle(copy)]

@@ -47,6 +47,3 @@ pub fn all_shareable() {
     shareable::<Kind>();
     shareable::<Worth>();
 }
-
-#[cfg(test)]
-mod tests;

@@ -106,16 +106,13 @@ impl Element {
         ensures { IfOk result (λ copy. copy ≡ self.now) }
     {
         match self {
-            Element::Triple(pattern) => Ok(Element::Triple(pattern.copy()?)),
-            Element::Filter(expr) => Ok(Element::Filter(expr.copy(alloc)?)),
+            Element::Triple(pattern) => copy_triple(pattern),
+            Element::Filter(expr) => copy_filter(alloc, expr),
             Element::Optional(group) => Ok(Element::Optional(group.copy(alloc)?)),
             Element::Union(groups) => Ok(Element::Union(copy_groups(alloc, groups.as_slice())?)),
             Element::Minus(group) => Ok(Element::Minus(group.copy(alloc)?)),
-            Element::Bind { expr, name } => Ok(Element::Bind {
-                expr: expr.copy(alloc)?,
-                name: name.copy()?,
-            }),
-            Element::Values(inline) => Ok(Element::Values(inline.copy(alloc)?)),
+            Element::Bind { expr, name } => copy_bind(alloc, expr, name),
+            Element::Values(inline) => copy_values(alloc, inline),
             Element::Service { silent, iri, group } => Ok(Element::Service {
                 silent: *silent,
                 iri: iri.copy()?,
@@ -228,6 +225,34 @@ fn copy_keys(alloc: Global, keys: &[Order]) -> Result<Items<Order>, Memory>
         copies.push(key.copy(alloc)?)?;
     }
     Ok(copies)
+}
+
+fn copy_triple(pattern: &Pattern) -> Result<Element, Memory>
+    ensures { IfOk result (λ copy. copy ≡ Element.Triple pattern.now) }
+{
+    Ok(Element::Triple(pattern.copy()?))
+}
+
+fn copy_filter(alloc: Global, expr: &Expr) -> Result<Element, Memory>
+    ensures { IfOk result (λ copy. copy ≡ Element.Filter expr.now) }
+{
+    Ok(Element::Filter(expr.copy(alloc)?))
+}
+
+fn copy_bind(alloc: Global, expr: &Expr, name: &Name) -> Result<Element, Memory>
+    ensures { IfOk result (λ copy. copy ≡ Element.Bind expr.now name.now) }
+{
+    let name = name.copy()?;
+    Ok(Element::Bind {
+        expr: expr.copy(alloc)?,
+        name,
+    })
+}
+
+fn copy_values(alloc: Global, inline: &Inline) -> Result<Element, Memory>
+    ensures { IfOk result (λ copy. copy ≡ Element.Values inline.now) }
+{
+    Ok(Element::Values(inline.copy(alloc)?))
 }
 
 #[cycle(copy)]

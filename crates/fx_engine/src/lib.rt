@@ -23,6 +23,3 @@ pub fn all_shareable() {
     shareable::<FedError>();
     shareable::<ReplyFault>();
 }
-
-#[cfg(test)]
-mod tests;

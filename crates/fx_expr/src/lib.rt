@@ -12,6 +12,3 @@ pub use conditions::holds;
 pub use keys::compare_keys;
 pub use values::value;
 pub use worths::truth;
-
-#[cfg(test)]
-mod tests;

@@ -1,8 +1,8 @@
 //! Values of expressions.
-ghost use Rattle.std.specs.Prelude.{◌≡◌, ◌*ℤ◌, neg_ℤ, map, option_map, option_and_then, IfOk, pos};
+ghost use Rattle.std.specs.Prelude.{◌≡◌, ◌*ℤ◌, neg_ℤ, map, option_map, option_and_then, IfOk, Some, pos};
 ghost use Rattle.fx_algebra.specs.Values as spec;
 ghost use Rattle.fx_algebra.specs.Worths.{if_in_range};
-ghost use Rattle.fx_algebra.specs.Solutions.{same_term as same_term_of};
+ghost use Rattle.fx_algebra.specs.Solutions.{same_term as same_term_of, term_of};
 ghost use Rattle.fx_terms.specs.Terms.{form_of as form_of_term};
 
 use crate::texts::{boolean, integer, string};
@@ -11,7 +11,7 @@ use crate::words::{
 };
 use crate::worths::{truth, worth_of};
 use fx_algebra::{Compare, Expr, Function, Sign, Solution, Worth};
-use fx_terms::{Memory, Term};
+use fx_terms::{Memory, Name, Term};
 use std::alloc::Global;
 use std::cmp::Ordering;
 
@@ -382,24 +382,13 @@ pub fn value(alloc: Global, expr: &Expr, solution: &Solution) -> Result<Option<T
     ensures { IfOk result (λ v. v ≡ spec.value expr.now solution.now) }
 {
     match expr {
-        Expr::Variable(name) => match solution.get(name) {
-            Some(term) => Ok(Some(term.copy()?)),
-            None => Ok(None),
-        },
-        Expr::Constant(term) => Ok(Some(term.copy()?)),
+        Expr::Variable(name) => bound_to(name, solution),
+        Expr::Constant(term) => copied(term),
         Expr::Or(parts) => truth_term(alloc, any_of(alloc, parts.as_slice(), solution)?),
         Expr::And(parts) => truth_term(alloc, all_of(alloc, parts.as_slice(), solution)?),
-        Expr::Not(part) => match truth_of(&value(alloc, part.get(), solution)?) {
-            Some(truth) => Ok(Some(boolean(alloc, !truth)?)),
-            None => Ok(None),
-        },
-        Expr::Positive(part) => {
-            integer_term(alloc, integer_in(&value(alloc, part.get(), solution)?))
-        }
-        Expr::Negative(part) => match integer_in(&value(alloc, part.get(), solution)?) {
-            Some(number) => integer_term(alloc, negative(number)),
-            None => Ok(None),
-        },
+        Expr::Not(part) => opposite(alloc, part.get(), solution),
+        Expr::Positive(part) => positive(alloc, part.get(), solution),
+        Expr::Negative(part) => negated(alloc, part.get(), solution),
         Expr::Compare { op, left, right } => {
             let left = value(alloc, left.get(), solution)?;
             let right = value(alloc, right.get(), solution)?;
@@ -420,6 +409,52 @@ pub fn value(alloc: Global, expr: &Expr, solution: &Solution) -> Result<Option<T
         }
         Expr::Product(parts) => { integer_term(alloc, product(alloc, parts.as_slice(), solution)?) }
         Expr::Call { function, args } => call(alloc, *function, args.as_slice(), solution),
+    }
+}
+
+// The term that a variable is bound to.
+fn bound_to(name: &Name, solution: &Solution) -> Result<Option<Term>, Memory>
+    ensures { IfOk result (λ v. v ≡ term_of solution.now name.now) }
+{
+    match solution.get(name) {
+        Some(term) => Ok(Some(term.copy()?)),
+        None => Ok(None),
+    }
+}
+
+fn copied(term: &Term) -> Result<Option<Term>, Memory>
+    ensures { IfOk result (λ v. v ≡ Some term.now) }
+{
+    Ok(Some(term.copy()?))
+}
+
+// The value of `!` on a part.
+#[cycle(value)]
+fn opposite(alloc: Global, part: &Expr, solution: &Solution) -> Result<Option<Term>, Memory>
+    ensures { IfOk result (λ v. v ≡ spec.value (Expr.Not part.now) solution.now) }
+{
+    match truth_of(&value(alloc, part, solution)?) {
+        Some(truth) => Ok(Some(boolean(alloc, !truth)?)),
+        None => Ok(None),
+    }
+}
+
+// The value of `+` on a part.
+#[cycle(value)]
+fn positive(alloc: Global, part: &Expr, solution: &Solution) -> Result<Option<Term>, Memory>
+    ensures { IfOk result (λ v. v ≡ spec.value (Expr.Positive part.now) solution.now) }
+{
+    integer_term(alloc, integer_in(&value(alloc, part, solution)?))
+}
+
+// The value of `-` on a part.
+#[cycle(value)]
+fn negated(alloc: Global, part: &Expr, solution: &Solution) -> Result<Option<Term>, Memory>
+    ensures { IfOk result (λ v. v ≡ spec.value (Expr.Negative part.now) solution.now) }
+{
+    match integer_in(&value(alloc, part, solution)?) {
+        Some(number) => integer_term(alloc, negative(number)),
+        None => Ok(None),
     }
 }
 

@@ -27,6 +27,3 @@ pub fn all_shareable() {
     shareable::<Reply>();
     shareable::<ReplyError>();
 }
-
-#[cfg(test)]
-mod tests;

@@ -23,6 +23,3 @@ pub fn all_shareable() {
     shareable::<Served>();
     shareable::<ServeError>();
 }
-
-#[cfg(test)]
-mod tests;

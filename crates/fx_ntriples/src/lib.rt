@@ -19,6 +19,3 @@ pub use reading::read_graph;
 pub fn all_shareable() {
     shareable::<NtError>();
 }
-
-#[cfg(test)]
-mod tests;

@@ -51,6 +51,3 @@ pub fn all_shareable<T: Send + Sync>() {
     shareable::<StdLink<T>>();
     shareable::<StdSink<T>>();
 }
-
-#[cfg(test)]
-mod tests;

@@ -18,6 +18,3 @@ pub use plans::units;
 pub fn all_shareable() {
     shareable::<Part>();
 }
-
-#[cfg(test)]
-mod tests;

@@ -35,6 +35,3 @@ pub fn print_element(alloc: Global, element: &Element) -> Result<String, Memory>
     push_element(&mut text, element)?;
     without_the_first_space(alloc, text)
 }
-
-#[cfg(test)]
-mod tests;

@@ -20,6 +20,3 @@ pub use selections::sequence;
 pub use sequences::ordered;
 pub use subtractions::{minus, minus_with};
 pub use tables::answer_of_rows;
-
-#[cfg(test)]
-mod tests;

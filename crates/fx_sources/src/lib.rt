@@ -36,8 +36,3 @@ pub fn all_shareable() {
     shareable::<RegistryError>();
     shareable::<Sources>();
 }
-
-#[cfg(test)]
-mod asking_tests;
-#[cfg(test)]
-mod tests;

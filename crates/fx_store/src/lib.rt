@@ -12,6 +12,3 @@ pub use stores::Store;
 pub fn all_shareable() {
     shareable::<Store>();
 }
-
-#[cfg(test)]
-mod tests;

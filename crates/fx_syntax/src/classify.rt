@@ -12,14 +12,14 @@ use fx_tokens::{TokenKind, four, split_first};
 use std::alloc::{AllocError, Global};
 
 /// Where a token stands: how many brackets are open before it, up to 64, and whether it is within a SERVICE.
-#[derive(Clone, Copy, Debug, PartialEq, Eq)]
+#[derive(Clone, Copy, PartialEq, Eq)]
 pub struct Context {
     pub depth: u64,
     pub service: Service,
 }
 
 /// Whether a token stands within a SERVICE.
-#[derive(Clone, Copy, Debug, PartialEq, Eq)]
+#[derive(Clone, Copy, PartialEq, Eq)]
 pub enum Service {
     Outside,
     /// Its braces are still to come.
@@ -29,7 +29,7 @@ pub enum Service {
 }
 
 /// The signs behind which a token ends.
-#[derive(Clone, Copy, Debug, PartialEq, Eq)]
+#[derive(Clone, Copy, PartialEq, Eq)]
 pub enum Closing {
     One(char),
     Three(char),

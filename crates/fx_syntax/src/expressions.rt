@@ -14,88 +14,105 @@ use fx_algebra::{Expr, Function, Sign};
 use fx_terms::{Boxed, Iri, Items, Term};
 use std::alloc::{AllocError, Global};
 
-fn one(alloc: Global, part: Expr) -> Result<Items<Expr>, AllocError>
+fn one(alloc: Global, part: Boxed<Expr>) -> Result<Items<Expr>, AllocError>
     ensures { IfOk result (λ parts. parts ≡ part ∷ []) }
 {
     let mut parts = Items::new(alloc);
-    parts.push(part)?;
+    parts.push(part.into_inner())?;
     Ok(parts)
 }
 
-fn two(alloc: Global, first: Expr, second: Expr) -> Result<Items<Expr>, AllocError>
+fn two(alloc: Global, first: Boxed<Expr>, second: Boxed<Expr>) -> Result<Items<Expr>, AllocError>
     ensures { IfOk result (λ parts. parts ≡ first ∷ second ∷ []) }
 {
     let mut parts = Items::new(alloc);
-    parts.push(first)?;
-    parts.push(second)?;
+    parts.push(first.into_inner())?;
+    parts.push(second.into_inner())?;
     Ok(parts)
 }
 
-fn three(alloc: Global, first: Expr, second: Expr, third: Expr) -> Result<Items<Expr>, AllocError>
+fn three(
+    alloc: Global,
+    first: Boxed<Expr>,
+    second: Boxed<Expr>,
+    third: Boxed<Expr>,
+) -> Result<Items<Expr>, AllocError>
     ensures { IfOk result (λ parts. parts ≡ first ∷ second ∷ third ∷ []) }
 {
     let mut parts = Items::new(alloc);
-    parts.push(first)?;
-    parts.push(second)?;
-    parts.push(third)?;
+    parts.push(first.into_inner())?;
+    parts.push(second.into_inner())?;
+    parts.push(third.into_inner())?;
     Ok(parts)
 }
 
-fn one_or_disjunction(mut parts: Items<Expr>) -> Expr
-    ensures { result ≡ grammar.one_or Expr.Or parts }
+fn one_or_disjunction(alloc: Global, mut parts: Items<Expr>) -> Result<Boxed<Expr>, AllocError>
+    ensures { IfOk result (λ e. e ≡ grammar.one_or Expr.Or parts) }
 {
     if parts.len() == 1 {
-        return parts.remove(0);
+        return Boxed::new(alloc, parts.remove(0));
     }
-    Expr::Or(parts)
+    Boxed::new(alloc, Expr::Or(parts))
 }
 
-fn one_or_conjunction(mut parts: Items<Expr>) -> Expr
-    ensures { result ≡ grammar.one_or Expr.And parts }
+fn one_or_conjunction(alloc: Global, mut parts: Items<Expr>) -> Result<Boxed<Expr>, AllocError>
+    ensures { IfOk result (λ e. e ≡ grammar.one_or Expr.And parts) }
 {
     if parts.len() == 1 {
-        return parts.remove(0);
+        return Boxed::new(alloc, parts.remove(0));
     }
-    Expr::And(parts)
+    Boxed::new(alloc, Expr::And(parts))
 }
 
-fn one_or_product(mut parts: Items<Expr>) -> Expr
-    ensures { result ≡ grammar.one_or Expr.Product parts }
+fn one_or_product(alloc: Global, mut parts: Items<Expr>) -> Result<Boxed<Expr>, AllocError>
+    ensures { IfOk result (λ e. e ≡ grammar.one_or Expr.Product parts) }
 {
     if parts.len() == 1 {
-        return parts.remove(0);
+        return Boxed::new(alloc, parts.remove(0));
     }
-    Expr::Product(parts)
+    Boxed::new(alloc, Expr::Product(parts))
 }
 
-fn summed(alloc: Global, first: Expr, rest: Items<(Sign, Expr)>) -> Result<Expr, AllocError>
+fn summed(
+    alloc: Global,
+    first: Boxed<Expr>,
+    rest: Items<(Sign, Expr)>,
+) -> Result<Boxed<Expr>, AllocError>
     ensures { IfOk result (λ e. e ≡ grammar.summed first rest) }
 {
     if rest.is_empty() {
         return Ok(first);
     }
-    Ok(Expr::Sum {
-        first: Boxed::new(alloc, first)?,
-        rest,
-    })
+    Boxed::new(alloc, Expr::Sum { first, rest })
 }
 
-fn related(alloc: Global, left: Expr, rest: Option<Relative>) -> Result<Expr, AllocError>
+fn related(
+    alloc: Global,
+    left: Boxed<Expr>,
+    rest: Option<Relative>,
+) -> Result<Boxed<Expr>, AllocError>
     ensures { IfOk result (λ e. e ≡ grammar.related left rest) }
 {
     match rest {
         None => Ok(left),
-        Some(Relative::Compared { op, right }) => Ok(Expr::Compare {
-            op,
-            left: Boxed::new(alloc, left)?,
-            right: Boxed::new(alloc, right)?,
-        }),
-        Some(Relative::Among { negated, list }) => Ok(Expr::Among {
-            negated,
-            item: Boxed::new(alloc, left)?,
-            list,
-        }),
+        Some(Relative::Compared { op, right }) => {
+            Boxed::new(alloc, Expr::Compare { op, left, right })
+        }
+        Some(Relative::Among { negated, list }) => Boxed::new(
+            alloc,
+            Expr::Among {
+                negated,
+                item: left,
+                list,
+            },
+        ),
     }
+}
+
+fn called(alloc: Global, function: Function, args: Items<Expr>) -> Result<Boxed<Expr>, AllocError>
+    ensures { IfOk result (λ e. e ≡ Expr.Call function args) }
+{
+    Boxed::new(alloc, Expr::Call { function, args })
 }
 
 /// The next token is one with which a call begins, or the name of a function that this profile leaves out.
@@ -122,12 +139,13 @@ fn primary_iri<'a>(
     alloc: Global,
     tokens: &'a [Token],
     prefixes: &[(Text, Iri)],
-) -> Result<(Expr, &'a [Token]), Fault>
+) -> Result<(Boxed<Expr>, &'a [Token]), Fault>
     ensures { Gives (λ x. (x.0, x.1.now)) result ((grammar.primary_iri prefixes.now).read tokens.now) }
 {
     let (iri, rest) = iri_name(alloc, tokens, prefixes)?;
     lacks(rest, Kind::LeftParen)?;
-    Ok((Expr::Constant(Term::Iri(iri)), rest))
+    let expr = Boxed::new(alloc, Expr::Constant(Term::Iri(iri)))?;
+    Ok((expr, rest))
 }
 
 #[tactic(auto, unfolding(crate::specs::Grammar::primary_literal))]
@@ -135,29 +153,26 @@ fn primary_literal<'a>(
     alloc: Global,
     tokens: &'a [Token],
     prefixes: &[(Text, Iri)],
-) -> Result<(Expr, &'a [Token]), Fault>
+) -> Result<(Boxed<Expr>, &'a [Token]), Fault>
     ensures { Gives (λ x. (x.0, x.1.now)) result ((grammar.primary_literal prefixes.now).read tokens.now) }
 {
     let (term, rest) = literal(alloc, tokens, prefixes, true)?;
-    Ok((Expr::Constant(term), rest))
+    let expr = Boxed::new(alloc, Expr::Constant(term))?;
+    Ok((expr, rest))
 }
 
 #[tactic(auto, unfolding(crate::specs::Grammar::bound_call))]
-fn bound_call(alloc: Global, tokens: &[Token]) -> Result<(Expr, &[Token]), Fault>
+fn bound_call(alloc: Global, tokens: &[Token]) -> Result<(Boxed<Expr>, &[Token]), Fault>
     ensures { Gives (λ x. (x.0, x.1.now)) result (grammar.bound_call.read tokens.now) }
 {
     let rest = mark(tokens, Kind::Bound)?;
     let rest = mark(rest, Kind::LeftParen)?;
     let (name, rest) = variable(rest)?;
     let rest = mark(rest, Kind::RightParen)?;
-    let args = one(alloc, Expr::Variable(name))?;
-    Ok((
-        Expr::Call {
-            function: Function::Bound,
-            args,
-        },
-        rest,
-    ))
+    let arg = Boxed::new(alloc, Expr::Variable(name))?;
+    let args = one(alloc, arg)?;
+    let call = called(alloc, Function::Bound, args)?;
+    Ok((call, rest))
 }
 
 /// An expression.
@@ -167,7 +182,7 @@ pub fn expression<'a>(
     tokens: &'a [Token],
     prefixes: &[(Text, Iri)],
     depth: u32,
-) -> Result<(Expr, &'a [Token]), Fault>
+) -> Result<(Boxed<Expr>, &'a [Token]), Fault>
     ensures { Gives (λ x. (x.0, x.1.now)) result ((grammar.expression prefixes.now depth).read tokens.now) }
 {
     if depth == 0 {
@@ -183,7 +198,7 @@ pub fn parens<'a>(
     tokens: &'a [Token],
     prefixes: &[(Text, Iri)],
     depth: u32,
-) -> Result<(Expr, &'a [Token]), Fault>
+) -> Result<(Boxed<Expr>, &'a [Token]), Fault>
     ensures { Gives (λ x. (x.0, x.1.now)) result ((grammar.parens (grammar.expression prefixes.now depth)).read tokens.now) }
 {
     let rest = mark(tokens, Kind::LeftParen)?;
@@ -207,7 +222,7 @@ fn list_more<'a>(
     'more: while sees(rest, Kind::Comma) {
         let after = mark(rest, Kind::Comma)?;
         let (next, after) = expression(alloc, after, prefixes, depth)?;
-        parts.push(next)?;
+        parts.push(next.into_inner())?;
         rest = after;
     }
     Ok((parts, rest))
@@ -255,18 +270,13 @@ fn coalesce_call<'a>(
     tokens: &'a [Token],
     prefixes: &[(Text, Iri)],
     depth: u32,
-) -> Result<(Expr, &'a [Token]), Fault>
+) -> Result<(Boxed<Expr>, &'a [Token]), Fault>
     ensures { Gives (λ x. (x.0, x.1.now)) result ((grammar.coalesce_call (grammar.expression prefixes.now depth)).read tokens.now) }
 {
     let rest = mark(tokens, Kind::Coalesce)?;
     let (args, rest) = list(alloc, rest, prefixes, depth)?;
-    Ok((
-        Expr::Call {
-            function: Function::Coalesce,
-            args,
-        },
-        rest,
-    ))
+    let call = called(alloc, Function::Coalesce, args)?;
+    Ok((call, rest))
 }
 
 #[tactic(auto, unfolding(crate::specs::Grammar::two_args))]
@@ -276,7 +286,7 @@ fn two_args<'a>(
     tokens: &'a [Token],
     prefixes: &[(Text, Iri)],
     depth: u32,
-) -> Result<(Expr, Expr, &'a [Token]), Fault>
+) -> Result<(Boxed<Expr>, Boxed<Expr>, &'a [Token]), Fault>
     ensures { Gives (λ x. ((x.0, x.1), x.2.now)) result ((grammar.two_args (grammar.expression prefixes.now depth)).read tokens.now) }
 {
     let (first, rest) = expression(alloc, tokens, prefixes, depth)?;
@@ -292,7 +302,7 @@ fn if_call<'a>(
     tokens: &'a [Token],
     prefixes: &[(Text, Iri)],
     depth: u32,
-) -> Result<(Expr, &'a [Token]), Fault>
+) -> Result<(Boxed<Expr>, &'a [Token]), Fault>
     ensures { Gives (λ x. (x.0, x.1.now)) result ((grammar.if_call (grammar.expression prefixes.now depth)).read tokens.now) }
 {
     let rest = mark(tokens, Kind::If)?;
@@ -302,13 +312,8 @@ fn if_call<'a>(
     let (yes, no, rest) = two_args(alloc, rest, prefixes, depth)?;
     let rest = mark(rest, Kind::RightParen)?;
     let args = three(alloc, condition, yes, no)?;
-    Ok((
-        Expr::Call {
-            function: Function::If,
-            args,
-        },
-        rest,
-    ))
+    let call = called(alloc, Function::If, args)?;
+    Ok((call, rest))
 }
 
 #[tactic(auto, unfolding(crate::specs::Grammar::one_call))]
@@ -318,13 +323,14 @@ fn one_call<'a>(
     tokens: &'a [Token],
     prefixes: &[(Text, Iri)],
     depth: u32,
-) -> Result<(Expr, &'a [Token]), Fault>
+) -> Result<(Boxed<Expr>, &'a [Token]), Fault>
     ensures { Gives (λ x. (x.0, x.1.now)) result ((grammar.one_call (grammar.expression prefixes.now depth)).read tokens.now) }
 {
     let (function, rest) = one_function(tokens)?;
     let (arg, rest) = parens(alloc, rest, prefixes, depth)?;
     let args = one(alloc, arg)?;
-    Ok((Expr::Call { function, args }, rest))
+    let call = called(alloc, function, args)?;
+    Ok((call, rest))
 }
 
 #[tactic(auto, unfolding(crate::specs::Grammar::two_call))]
@@ -334,7 +340,7 @@ fn two_call<'a>(
     tokens: &'a [Token],
     prefixes: &[(Text, Iri)],
     depth: u32,
-) -> Result<(Expr, &'a [Token]), Fault>
+) -> Result<(Boxed<Expr>, &'a [Token]), Fault>
     ensures { Gives (λ x. (x.0, x.1.now)) result ((grammar.two_call (grammar.expression prefixes.now depth)).read tokens.now) }
 {
     let (function, rest) = two_function(tokens)?;
@@ -342,7 +348,8 @@ fn two_call<'a>(
     let (first, second, rest) = two_args(alloc, rest, prefixes, depth)?;
     let rest = mark(rest, Kind::RightParen)?;
     let args = two(alloc, first, second)?;
-    Ok((Expr::Call { function, args }, rest))
+    let call = called(alloc, function, args)?;
+    Ok((call, rest))
 }
 
 /// A call of a function.
@@ -353,7 +360,7 @@ pub fn call<'a>(
     tokens: &'a [Token],
     prefixes: &[(Text, Iri)],
     depth: u32,
-) -> Result<(Expr, &'a [Token]), Fault>
+) -> Result<(Boxed<Expr>, &'a [Token]), Fault>
     ensures { Gives (λ x. (x.0, x.1.now)) result ((grammar.call (grammar.expression prefixes.now depth)).read tokens.now) }
 {
     if sees(tokens, Kind::Bound) {
@@ -384,7 +391,7 @@ fn primary<'a>(
     tokens: &'a [Token],
     prefixes: &[(Text, Iri)],
     depth: u32,
-) -> Result<(Expr, &'a [Token]), Fault>
+) -> Result<(Boxed<Expr>, &'a [Token]), Fault>
     ensures { Gives (λ x. (x.0, x.1.now)) result ((grammar.primary prefixes.now (grammar.expression prefixes.now depth)).read tokens.now) }
 {
     if sees(tokens, Kind::LeftParen) {
@@ -398,7 +405,8 @@ fn primary<'a>(
     }
     if sees(tokens, Kind::Variable) {
         let (name, rest) = variable(tokens)?;
-        return Ok((Expr::Variable(name), rest));
+        let expr = Boxed::new(alloc, Expr::Variable(name))?;
+        return Ok((expr, rest));
     }
     primary_literal(alloc, tokens, prefixes)
 }
@@ -410,23 +418,26 @@ fn unary<'a>(
     tokens: &'a [Token],
     prefixes: &[(Text, Iri)],
     depth: u32,
-) -> Result<(Expr, &'a [Token]), Fault>
+) -> Result<(Boxed<Expr>, &'a [Token]), Fault>
     ensures { Gives (λ x. (x.0, x.1.now)) result ((grammar.unary prefixes.now (grammar.expression prefixes.now depth)).read tokens.now) }
 {
     if sees(tokens, Kind::Bang) {
         let rest = mark(tokens, Kind::Bang)?;
         let (part, rest) = primary(alloc, rest, prefixes, depth)?;
-        return Ok((Expr::Not(Boxed::new(alloc, part)?), rest));
+        let expr = Boxed::new(alloc, Expr::Not(part))?;
+        return Ok((expr, rest));
     }
     if sees(tokens, Kind::Plus) {
         let rest = mark(tokens, Kind::Plus)?;
         let (part, rest) = primary(alloc, rest, prefixes, depth)?;
-        return Ok((Expr::Positive(Boxed::new(alloc, part)?), rest));
+        let expr = Boxed::new(alloc, Expr::Positive(part))?;
+        return Ok((expr, rest));
     }
     if sees(tokens, Kind::Dash) {
         let rest = mark(tokens, Kind::Dash)?;
         let (part, rest) = primary(alloc, rest, prefixes, depth)?;
-        return Ok((Expr::Negative(Boxed::new(alloc, part)?), rest));
+        let expr = Boxed::new(alloc, Expr::Negative(part))?;
+        return Ok((expr, rest));
     }
     primary(alloc, tokens, prefixes, depth)
 }
@@ -438,7 +449,7 @@ fn factor<'a>(
     tokens: &'a [Token],
     prefixes: &[(Text, Iri)],
     depth: u32,
-) -> Result<(Expr, &'a [Token]), Fault>
+) -> Result<(Boxed<Expr>, &'a [Token]), Fault>
     ensures { Gives (λ x. (x.0, x.1.now)) result ((grammar.factor prefixes.now (grammar.expression prefixes.now depth)).read tokens.now) }
 {
     let (part, rest) = unary(alloc, tokens, prefixes, depth)?;
@@ -461,7 +472,7 @@ fn product_more<'a>(
     'more: while sees(rest, Kind::Star) {
         let after = mark(rest, Kind::Star)?;
         let (next, after) = factor(alloc, after, prefixes, depth)?;
-        parts.push(next)?;
+        parts.push(next.into_inner())?;
         rest = after;
     }
     Ok((parts, rest))
@@ -474,13 +485,14 @@ fn product<'a>(
     tokens: &'a [Token],
     prefixes: &[(Text, Iri)],
     depth: u32,
-) -> Result<(Expr, &'a [Token]), Fault>
+) -> Result<(Boxed<Expr>, &'a [Token]), Fault>
     ensures { Gives (λ x. (x.0, x.1.now)) result ((grammar.product prefixes.now (grammar.expression prefixes.now depth)).read tokens.now) }
 {
     let (first, rest) = factor(alloc, tokens, prefixes, depth)?;
     let parts = one(alloc, first)?;
     let (parts, rest) = product_more(alloc, parts, rest, prefixes, depth)?;
-    Ok((one_or_product(parts), rest))
+    let product = one_or_product(alloc, parts)?;
+    Ok((product, rest))
 }
 
 #[tactic(auto, unfolding(crate::specs::Grammar::signed_product))]
@@ -490,7 +502,7 @@ fn signed_product<'a>(
     tokens: &'a [Token],
     prefixes: &[(Text, Iri)],
     depth: u32,
-) -> Result<(Sign, Expr, &'a [Token]), Fault>
+) -> Result<(Sign, Boxed<Expr>, &'a [Token]), Fault>
     ensures { Gives (λ x. ((x.0, x.1), x.2.now)) result ((grammar.signed_product prefixes.now (grammar.expression prefixes.now depth)).read tokens.now) }
 {
     if sees(tokens, Kind::Plus) {
@@ -510,13 +522,15 @@ fn signed_literal<'a>(
     tokens: &'a [Token],
     prefixes: &[(Text, Iri)],
     depth: u32,
-) -> Result<(Sign, Expr, &'a [Token]), Fault>
+) -> Result<(Sign, Boxed<Expr>, &'a [Token]), Fault>
     ensures { Gives (λ x. ((x.0, x.1), x.2.now)) result ((grammar.signed_literal prefixes.now (grammar.expression prefixes.now depth)).read tokens.now) }
 {
     let (term, rest) = signed(alloc, tokens)?;
-    let parts = one(alloc, Expr::Constant(term))?;
+    let first = Boxed::new(alloc, Expr::Constant(term))?;
+    let parts = one(alloc, first)?;
     let (parts, rest) = product_more(alloc, parts, rest, prefixes, depth)?;
-    Ok((Sign::Plus, one_or_product(parts), rest))
+    let product = one_or_product(alloc, parts)?;
+    Ok((Sign::Plus, product, rest))
 }
 
 #[tactic(auto, unfolding(crate::specs::Grammar::addend, crate::specs::Grammar::signed_product))]
@@ -526,7 +540,7 @@ fn addend<'a>(
     tokens: &'a [Token],
     prefixes: &[(Text, Iri)],
     depth: u32,
-) -> Result<(Sign, Expr, &'a [Token]), Fault>
+) -> Result<(Sign, Boxed<Expr>, &'a [Token]), Fault>
     ensures { Gives (λ x. ((x.0, x.1), x.2.now)) result ((grammar.addend prefixes.now (grammar.expression prefixes.now depth)).read tokens.now) }
 {
     if sees(tokens, Kind::Plus) || sees(tokens, Kind::Dash) {
@@ -557,7 +571,7 @@ fn addends<'a>(
     let mut rest = tokens;
     'more: while sees_addend(rest) {
         let (sign, next, after) = addend(alloc, rest, prefixes, depth)?;
-        parts.push((sign, next))?;
+        parts.push((sign, next.into_inner()))?;
         rest = after;
     }
     Ok((parts, rest))
@@ -570,12 +584,13 @@ fn sum<'a>(
     tokens: &'a [Token],
     prefixes: &[(Text, Iri)],
     depth: u32,
-) -> Result<(Expr, &'a [Token]), Fault>
+) -> Result<(Boxed<Expr>, &'a [Token]), Fault>
     ensures { Gives (λ x. (x.0, x.1.now)) result ((grammar.sum prefixes.now (grammar.expression prefixes.now depth)).read tokens.now) }
 {
     let (first, rest) = product(alloc, tokens, prefixes, depth)?;
     let (parts, rest) = addends(alloc, rest, prefixes, depth)?;
-    Ok((summed(alloc, first, parts)?, rest))
+    let sum = summed(alloc, first, parts)?;
+    Ok((sum, rest))
 }
 
 #[tactic(auto, unfolding(crate::specs::Grammar::compared))]
@@ -642,12 +657,13 @@ fn relation<'a>(
     tokens: &'a [Token],
     prefixes: &[(Text, Iri)],
     depth: u32,
-) -> Result<(Expr, &'a [Token]), Fault>
+) -> Result<(Boxed<Expr>, &'a [Token]), Fault>
     ensures { Gives (λ x. (x.0, x.1.now)) result ((grammar.relation prefixes.now (grammar.expression prefixes.now depth)).read tokens.now) }
 {
     let (left, rest) = sum(alloc, tokens, prefixes, depth)?;
     let (found, rest) = relative(alloc, rest, prefixes, depth)?;
-    Ok((related(alloc, left, found)?, rest))
+    let relation = related(alloc, left, found)?;
+    Ok((relation, rest))
 }
 
 // What follows the first of a conjunction, with those before it in `parts`.
@@ -665,7 +681,7 @@ fn and_more<'a>(
     'more: while sees(rest, Kind::AndAnd) {
         let after = mark(rest, Kind::AndAnd)?;
         let (next, after) = relation(alloc, after, prefixes, depth)?;
-        parts.push(next)?;
+        parts.push(next.into_inner())?;
         rest = after;
     }
     Ok((parts, rest))
@@ -678,13 +694,14 @@ fn conjunction<'a>(
     tokens: &'a [Token],
     prefixes: &[(Text, Iri)],
     depth: u32,
-) -> Result<(Expr, &'a [Token]), Fault>
+) -> Result<(Boxed<Expr>, &'a [Token]), Fault>
     ensures { Gives (λ x. (x.0, x.1.now)) result ((grammar.conjunction prefixes.now (grammar.expression prefixes.now depth)).read tokens.now) }
 {
     let (first, rest) = relation(alloc, tokens, prefixes, depth)?;
     let parts = one(alloc, first)?;
     let (parts, rest) = and_more(alloc, parts, rest, prefixes, depth)?;
-    Ok((one_or_conjunction(parts), rest))
+    let conjunction = one_or_conjunction(alloc, parts)?;
+    Ok((conjunction, rest))
 }
 
 // What follows the first of a disjunction, with those before it in `parts`.
@@ -702,7 +719,7 @@ fn or_more<'a>(
     'more: while sees(rest, Kind::OrOr) {
         let after = mark(rest, Kind::OrOr)?;
         let (next, after) = conjunction(alloc, after, prefixes, depth)?;
-        parts.push(next)?;
+        parts.push(next.into_inner())?;
         rest = after;
     }
     Ok((parts, rest))
@@ -715,11 +732,12 @@ fn disjunction<'a>(
     tokens: &'a [Token],
     prefixes: &[(Text, Iri)],
     depth: u32,
-) -> Result<(Expr, &'a [Token]), Fault>
+) -> Result<(Boxed<Expr>, &'a [Token]), Fault>
     ensures { Gives (λ x. (x.0, x.1.now)) result ((grammar.disjunction prefixes.now (grammar.expression prefixes.now depth)).read tokens.now) }
 {
     let (first, rest) = conjunction(alloc, tokens, prefixes, depth)?;
     let parts = one(alloc, first)?;
     let (parts, rest) = or_more(alloc, parts, rest, prefixes, depth)?;
-    Ok((one_or_disjunction(parts), rest))
+    let disjunction = one_or_disjunction(alloc, parts)?;
+    Ok((disjunction, rest))
 }

@@ -12,7 +12,7 @@ use crate::triples::{sees_graph_term, triples};
 use crate::values::{add, block, has, no_names};
 use fx_algebra::scopes::add_element;
 use fx_algebra::{Element, Expr, Group};
-use fx_terms::{Iri, Items, Memory, Name, Pattern};
+use fx_terms::{Boxed, Iri, Items, Memory, Name, Pattern};
 use indexmap::IndexSet;
 use std::alloc::{AllocError, Global};
 
@@ -21,7 +21,7 @@ fn whole_expression<'a>(
     alloc: Global,
     tokens: &'a [Token],
     prefixes: &[(Text, Iri)],
-) -> Result<(Expr, &'a [Token]), Fault>
+) -> Result<(Boxed<Expr>, &'a [Token]), Fault>
     ensures { Gives (λ x. (x.0, x.1.now)) result ((grammar.whole_expression prefixes.now).read tokens.now) }
 {
     expression(alloc, tokens, prefixes, 64)
@@ -33,7 +33,7 @@ pub fn whole_parens<'a>(
     alloc: Global,
     tokens: &'a [Token],
     prefixes: &[(Text, Iri)],
-) -> Result<(Expr, &'a [Token]), Fault>
+) -> Result<(Boxed<Expr>, &'a [Token]), Fault>
     ensures { Gives (λ x. (x.0, x.1.now)) result ((grammar.parens (grammar.whole_expression prefixes.now)).read tokens.now) }
 {
     parens(alloc, tokens, prefixes, 64)
@@ -44,7 +44,7 @@ fn whole_call<'a>(
     alloc: Global,
     tokens: &'a [Token],
     prefixes: &[(Text, Iri)],
-) -> Result<(Expr, &'a [Token]), Fault>
+) -> Result<(Boxed<Expr>, &'a [Token]), Fault>
     ensures { Gives (λ x. (x.0, x.1.now)) result ((grammar.call (grammar.whole_expression prefixes.now)).read tokens.now) }
 {
     call(alloc, tokens, prefixes, 64)
@@ -62,7 +62,7 @@ pub fn constraint<'a>(
     alloc: Global,
     tokens: &'a [Token],
     prefixes: &[(Text, Iri)],
-) -> Result<(Expr, &'a [Token]), Fault>
+) -> Result<(Boxed<Expr>, &'a [Token]), Fault>
     ensures { Gives (λ x. (x.0, x.1.now)) result ((grammar.constraint prefixes.now).read tokens.now) }
 {
     if sees(tokens, Kind::LeftParen) {
@@ -106,13 +106,26 @@ fn unbound<'a>(tokens: &'a [Token], names: &IndexSet<Name>) -> Result<(Name, &'a
     }
 }
 
+fn bound(alloc: Global, expr: Boxed<Expr>, name: Name) -> Result<Boxed<Element>, AllocError>
+    ensures { IfOk result (λ e. e ≡ Element.Bind expr name) }
+{
+    let expr = expr.into_inner();
+    Boxed::new(alloc, Element::Bind { expr, name })
+}
+
+fn filtered(alloc: Global, condition: Boxed<Expr>) -> Result<Boxed<Element>, AllocError>
+    ensures { IfOk result (λ e. e ≡ Element.Filter condition) }
+{
+    Boxed::new(alloc, Element::Filter(condition.into_inner()))
+}
+
 #[tactic(auto, unfolding(crate::specs::Grammar::binding))]
 fn binding<'a>(
     alloc: Global,
     tokens: &'a [Token],
     prefixes: &[(Text, Iri)],
     names: &IndexSet<Name>,
-) -> Result<(Element, &'a [Token]), Fault>
+) -> Result<(Boxed<Element>, &'a [Token]), Fault>
     ensures { Gives (λ x. (x.0, x.1.now)) result ((grammar.binding prefixes.now names.now.keys).read tokens.now) }
 {
     let rest = mark(tokens, Kind::Bind)?;
@@ -121,7 +134,8 @@ fn binding<'a>(
     let rest = mark(rest, Kind::As)?;
     let (name, rest) = unbound(rest, names)?;
     let rest = mark(rest, Kind::RightParen)?;
-    Ok((Element::Bind { expr, name }, rest))
+    let element = bound(alloc, expr, name)?;
+    Ok((element, rest))
 }
 
 #[tactic(auto, unfolding(crate::specs::Grammar::service_name, crate::specs::Grammar::iri_name))]
@@ -141,11 +155,11 @@ fn service_name<'a>(
     Err(refuse(SyntaxKind::Unexpected, tokens))
 }
 
-fn one_element(alloc: Global, part: Element) -> Result<Items<Element>, AllocError>
+fn one_element(alloc: Global, part: Boxed<Element>) -> Result<Items<Element>, AllocError>
     ensures { IfOk result (λ parts. parts ≡ part ∷ []) }
 {
     let mut parts = Items::new(alloc);
-    parts.push(part)?;
+    parts.push(part.into_inner())?;
     Ok(parts)
 }
 
@@ -351,7 +365,7 @@ fn other<'a>(
     prefixes: &[(Text, Iri)],
     names: &IndexSet<Name>,
     depth: u32,
-) -> Result<(Element, &'a [Token]), Fault>
+) -> Result<(Boxed<Element>, &'a [Token]), Fault>
     ensures { Gives (λ x. (x.0, x.1.now)) result ((grammar.other prefixes.now (grammar.group prefixes.now depth) names.now.keys).read tokens.now) }
 {
     if sees(tokens, Kind::LeftBrace) {
@@ -360,12 +374,14 @@ fn other<'a>(
     if sees(tokens, Kind::Optional) {
         let rest = mark(tokens, Kind::Optional)?;
         let (inner, rest) = group(alloc, rest, prefixes, depth)?;
-        return Ok((Element::Optional(inner), rest));
+        let element = Boxed::new(alloc, Element::Optional(inner))?;
+        return Ok((element, rest));
     }
     if sees(tokens, Kind::Minus) {
         let rest = mark(tokens, Kind::Minus)?;
         let (inner, rest) = group(alloc, rest, prefixes, depth)?;
-        return Ok((Element::Minus(inner), rest));
+        let element = Boxed::new(alloc, Element::Minus(inner))?;
+        return Ok((element, rest));
     }
     if sees(tokens, Kind::Service) {
         return service(alloc, tokens, prefixes, depth);
@@ -373,7 +389,8 @@ fn other<'a>(
     if sees(tokens, Kind::Filter) {
         let rest = mark(tokens, Kind::Filter)?;
         let (condition, rest) = constraint(alloc, rest, prefixes)?;
-        return Ok((Element::Filter(condition), rest));
+        let element = filtered(alloc, condition)?;
+        return Ok((element, rest));
     }
     if sees(tokens, Kind::Bind) {
         return binding(alloc, tokens, prefixes, names);
@@ -381,7 +398,8 @@ fn other<'a>(
     if sees(tokens, Kind::Values) {
         let rest = mark(tokens, Kind::Values)?;
         let (inline, rest) = block(alloc, rest, prefixes)?;
-        return Ok((Element::Values(inline), rest));
+        let element = Boxed::new(alloc, Element::Values(inline))?;
+        return Ok((element, rest));
     }
     if sees(tokens, Kind::Graph) {
         return Err(refuse(SyntaxKind::Unsupported, tokens));
@@ -396,13 +414,14 @@ fn union<'a>(
     tokens: &'a [Token],
     prefixes: &[(Text, Iri)],
     depth: u32,
-) -> Result<(Element, &'a [Token]), Fault>
+) -> Result<(Boxed<Element>, &'a [Token]), Fault>
     ensures { Gives (λ x. (x.0, x.1.now)) result ((grammar.union prefixes.now (grammar.group prefixes.now depth)).read tokens.now) }
 {
     let (first, rest) = group(alloc, tokens, prefixes, depth)?;
     let parts = one_group(alloc, first)?;
     let (parts, rest) = union_more(alloc, parts, rest, prefixes, depth)?;
-    Ok((Element::Union(parts), rest))
+    let element = Boxed::new(alloc, Element::Union(parts))?;
+    Ok((element, rest))
 }
 
 // The groups of a union after the first, with those before in `parts`.
@@ -433,7 +452,7 @@ fn service<'a>(
     tokens: &'a [Token],
     prefixes: &[(Text, Iri)],
     depth: u32,
-) -> Result<(Element, &'a [Token]), Fault>
+) -> Result<(Boxed<Element>, &'a [Token]), Fault>
     ensures { Gives (λ x. (x.0, x.1.now)) result ((grammar.service prefixes.now (grammar.group prefixes.now depth)).read tokens.now) }
 {
     let rest = mark(tokens, Kind::Service)?;
@@ -444,13 +463,7 @@ fn service<'a>(
         rest
     };
     let (iri, rest) = service_name(alloc, rest, prefixes)?;
-    let (inner, rest) = group(alloc, rest, prefixes, depth)?;
-    Ok((
-        Element::Service {
-            silent,
-            iri,
-            group: inner,
-        },
-        rest,
-    ))
+    let (group, rest) = group(alloc, rest, prefixes, depth)?;
+    let element = Boxed::new(alloc, Element::Service { silent, iri, group })?;
+    Ok((element, rest))
 }

@@ -10,7 +10,7 @@ use std::marker::Model;
 use std::sync::ArcStr;
 
 /// What the grammar makes of a token (SPARQL 1.1 section 19.8). A keyword is named as it is written, without regard to case.
-#[derive(Clone, Copy, Debug, PartialEq, Eq)]
+#[derive(Clone, Copy, PartialEq, Eq)]
 pub enum Kind {
     /// `{`.
     LeftBrace,
@@ -121,7 +121,7 @@ pub enum Kind {
 }
 
 /// A text that others share. Contracts see its bytes.
-#[derive(Debug, Drop)]
+#[derive(Drop)]
 pub struct Text {
     inner: ArcStr,
 }
@@ -161,7 +161,7 @@ impl Text {
 }
 
 /// A token, with as much of its text as the grammar needs.
-#[derive(Debug, Drop)]
+#[derive(Drop)]
 pub enum Token {
     /// A token that says no more than its kind.
     Plain(Kind),

@@ -19,6 +19,3 @@ pub mod values;
 
 pub use kinds::SyntaxKind;
 pub use parsing::{SyntaxError, parse};
-
-#[cfg(test)]
-mod tests;

@@ -2,24 +2,24 @@
 
 use crate::kinds::Text;
 use fx_algebra::{Compare, Expr, Group, Order};
-use fx_terms::{Iri, Items, Name};
+use fx_terms::{Boxed, Iri, Items, Name};
 
 /// What stands behind a text that is a literal's form.
-#[derive(Debug, Drop)]
+#[derive(Drop)]
 pub enum Annotation {
     Tag(Text),
     Datatype(Iri),
 }
 
 /// What stands behind the sum that is the first part of a relation.
-#[derive(Debug, Drop)]
+#[derive(Drop)]
 pub enum Relative {
-    Compared { op: Compare, right: Expr },
+    Compared { op: Compare, right: Boxed<Expr> },
     Among { negated: bool, list: Items<Expr> },
 }
 
 /// What a query asks for.
-#[derive(Debug, Drop)]
+#[derive(Drop)]
 pub enum Head {
     /// These columns, or `*` for all.
     Select {
@@ -30,21 +30,21 @@ pub enum Head {
 }
 
 /// How many rows are kept, and how many are dropped before them, where it is said.
-#[derive(Clone, Copy, Debug, PartialEq, Eq)]
+#[derive(Clone, Copy)]
 pub struct Limits {
     pub limit: Option<u64>,
     pub offset: Option<u64>,
 }
 
 /// What stands behind the group of a query.
-#[derive(Debug, Drop)]
+#[derive(Drop)]
 pub struct Modifiers {
     pub order: Items<Order>,
     pub limits: Limits,
 }
 
 /// A query but for its prefixes and the VALUES behind it.
-#[derive(Debug, Drop)]
+#[derive(Drop)]
 pub struct Main {
     pub head: Head,
     pub group: Group,

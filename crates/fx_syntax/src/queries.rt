@@ -12,7 +12,7 @@ use crate::readers::{mark, refuse, sees, variable};
 use crate::values::block;
 use fx_algebra::scopes::{once, scope};
 use fx_algebra::{Expr, Form, Group, Inline, Order, Query};
-use fx_terms::{Iri, Items, Memory, Name};
+use fx_terms::{Boxed, Iri, Items, Memory, Name};
 use std::alloc::{AllocError, Global};
 
 /// The number that digits write, where it has 64 bits.
@@ -260,6 +260,13 @@ fn prologue(alloc: Global, tokens: &[Token]) -> Result<(Items<(Text, Iri)>, &[To
     Ok((parts, rest))
 }
 
+fn key(descending: bool, expr: Boxed<Expr>) -> Order
+    ensures { result ≡ grammar.ordered descending expr }
+{
+    let expr = expr.into_inner();
+    Order { descending, expr }
+}
+
 #[tactic(auto, unfolding(crate::specs::Grammar::condition, crate::specs::Grammar::variable))]
 fn condition<'a>(
     alloc: Global,
@@ -271,14 +278,12 @@ fn condition<'a>(
     if sees(tokens, Kind::Asc) {
         let rest = mark(tokens, Kind::Asc)?;
         let (expr, rest) = whole_parens(alloc, rest, prefixes)?;
-        let descending = false;
-        return Ok((Order { descending, expr }, rest));
+        return Ok((key(false, expr), rest));
     }
     if sees(tokens, Kind::Desc) {
         let rest = mark(tokens, Kind::Desc)?;
         let (expr, rest) = whole_parens(alloc, rest, prefixes)?;
-        let descending = true;
-        return Ok((Order { descending, expr }, rest));
+        return Ok((key(true, expr), rest));
     }
     if sees(tokens, Kind::Variable) {
         let (name, rest) = variable(tokens)?;
@@ -287,8 +292,7 @@ fn condition<'a>(
         return Ok((Order { descending, expr }, rest));
     }
     let (expr, rest) = constraint(alloc, tokens, prefixes)?;
-    let descending = false;
-    Ok((Order { descending, expr }, rest))
+    Ok((key(false, expr), rest))
 }
 
 fn sees_condition(tokens: &[Token]) -> bool

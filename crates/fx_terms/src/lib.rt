@@ -42,6 +42,3 @@ pub fn all_shareable() {
     shareable::<Pattern>();
     shareable::<Graph>();
 }
-
-#[cfg(test)]
-mod tests;

@@ -152,6 +152,3 @@ fn read(alloc: Global, text: &str) -> Result<Vec<Token>, TokenError>
     }
     Ok(tokens)
 }
-
-#[cfg(test)]
-mod tests;

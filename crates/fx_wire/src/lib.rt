@@ -16,6 +16,3 @@ pub fn all_shareable<R: Send + Sync>() {
     shareable::<ScriptWire>();
     shareable::<TcpWire<R>>();
 }
-
-#[cfg(test)]
-mod tests;

@@ -5,34 +5,34 @@ use Rattle.fx_algebra.specs.Values as spec
 use Rattle.fx_expr.proofs.Equations.{value_or, value_and, value_among, value_sum, value_product}
 use Rattle.fx_expr.proofs.values.+value.Goals as goal
 
-pub value-returns-in-Or : goal.value-returns-in-Or
-value-returns-in-Or t c =
+pub value-returns-in_ok-any_of-in-Or : goal.value-returns-in_ok-any_of-in-Or
+value-returns-in_ok-any_of-in-Or t c =
     let s = c.args.solution.now in
     let same = ap (option_map spec.boolean) (c.in_ok-any_of-in-Or.ensures ∙ ap (λ ps. spec.any_of (map spec.truth_of (map (λ e. spec.value e s) ps))) c.as_slice.ensures) ∙ sym (value_or c.in-Or.parts s) in
     rw c.in-Or.is (subst (λ (x : Option Term). IfOk c.truth_term.result (λ v. v ≡ x)) same c.truth_term.ensures)
 
-pub value-returns-in-And : goal.value-returns-in-And
-value-returns-in-And t c =
+pub value-returns-in_ok-all_of-in-And : goal.value-returns-in_ok-all_of-in-And
+value-returns-in_ok-all_of-in-And t c =
     let s = c.args.solution.now in
     let same = ap (option_map spec.boolean) (c.in_ok-all_of-in-And.ensures ∙ ap (λ ps. spec.all_of (map spec.truth_of (map (λ e. spec.value e s) ps))) c.as_slice-in-And.ensures) ∙ sym (value_and c.in-And.parts s) in
     rw c.in-And.is (subst (λ (x : Option Term). IfOk c.truth_term-in-And.result (λ v. v ≡ x)) same c.truth_term-in-And.ensures)
 
-pub value-returns-in-Among : goal.value-returns-in-Among
-value-returns-in-Among t c =
+pub value-returns-in_ok-truth-in-Among : goal.value-returns-in_ok-truth-in-Among
+value-returns-in_ok-truth-in-Among t c =
     let s = c.args.solution.now in
     let found = c.in_ok-truth-in-Among.ensures ∙ ap (λ v. spec.among v (map (λ e. spec.value e s) c.as_slice-in-Among.result.now)) (c.in_ok-item-in-Among.ensures ∙ ap (λ e. spec.value e s) c.get-in-Among.ensures) ∙ ap (λ ps. spec.among (spec.value c.in-Among.item s) (map (λ e. spec.value e s) ps)) c.as_slice-in-Among.ensures in
     let same = ap (option_map spec.boolean) (c.negated_by.ensures ∙ ap (option_map (spec.negated_by c.in-Among.negated)) found) ∙ sym (value_among c.in-Among.negated c.in-Among.item c.in-Among.list s) in
     rw c.in-Among.is (subst (λ (x : Option Term). IfOk c.truth_term-in-Among.result (λ v. v ≡ x)) same c.truth_term-in-Among.ensures)
 
-pub value-returns-in-Sum : goal.value-returns-in-Sum
-value-returns-in-Sum t c =
+pub value-returns-in_ok-sum-in-Sum : goal.value-returns-in_ok-sum-in-Sum
+value-returns-in_ok-sum-in-Sum t c =
     let s = c.args.solution.now in
     let found = c.in_ok-sum-in-Sum.ensures ∙ ap (λ v. spec.sum v (map (λ p. (p.0, spec.value p.1 s)) c.as_slice-in-Sum.result.now)) (c.in_ok-first-in-Sum.ensures ∙ ap (λ e. spec.value e s) c.get-in-Sum.ensures) ∙ ap (λ ps. spec.sum (spec.value c.in-Sum.first s) (map (λ p. (p.0, spec.value p.1 s)) ps)) c.as_slice-in-Sum.ensures in
     let same = ap (option_map spec.integer) found ∙ sym (value_sum c.in-Sum.first c.in-Sum.rest s) in
-    rw c.in-Sum.is (subst (λ (x : Option Term). IfOk c.integer_term-in-Sum.result (λ v. v ≡ x)) same c.integer_term-in-Sum.ensures)
+    rw c.in-Sum.is (subst (λ (x : Option Term). IfOk c.integer_term.result (λ v. v ≡ x)) same c.integer_term.ensures)
 
-pub value-returns-in-Product : goal.value-returns-in-Product
-value-returns-in-Product t c =
+pub value-returns-in_ok-product-in-Product : goal.value-returns-in_ok-product-in-Product
+value-returns-in_ok-product-in-Product t c =
     let s = c.args.solution.now in
     let same = ap (option_map spec.integer) (c.in_ok-product-in-Product.ensures ∙ ap (λ ps. spec.product (map (λ e. spec.value e s) ps)) c.as_slice-in-Product.ensures) ∙ sym (value_product c.in-Product.parts s) in
     rw c.in-Product.is (subst (λ (x : Option Term). IfOk c.integer_term-in-Product.result (λ v. v ≡ x)) same c.integer_term-in-Product.ensures)

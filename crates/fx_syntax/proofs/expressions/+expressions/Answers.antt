@@ -1,4 +1,4 @@
-use Rattle.std.proofs.Common.{arith, sym, ap, ◌∙◌, refl}
+use Rattle.std.proofs.Common.{arith, sym, ap, ◌∙◌, refl, ◌∷◌, []}
 use Rattle.std.proofs.lemmas.Result.{err_from_is_err_and}
 use Rattle.fx_syntax.specs.declared.kinds.Kind.TheVariants as k
 use Rattle.fx_algebra.specs.declared.expressions.Expr.TheVariants as expr
@@ -36,7 +36,7 @@ list_more-more-smaller t c = chain_smaller k.Comma _ (law_expression c.args.pref
 
 pub list_more-more-preserved : goal.list_more-more-preserved
 list_more-more-preserved t c =
-    rw c.in_ok-push.ensures.ok
+    rw (c.in_ok-push.ensures.ok, c.into_inner.ensures)
     (chain_turn k.Comma _ (law_expression c.args.prefixes.now c.args.depth) c.more.parts c.more.rest.now c.in_ok-after.after.now c.in_ok-next.after.now c.in_ok-next.next (sym c.sees.ensures ∙ c.more-test.true) c.in_ok-after.ensures c.in_ok-next.ensures ∙ c.more.invariant)
 
 pub list_more-returns : goal.list_more-returns
@@ -54,7 +54,7 @@ product_more-more-smaller t c = chain_smaller k.Star _ (law_factor c.args.prefix
 
 pub product_more-more-preserved : goal.product_more-more-preserved
 product_more-more-preserved t c =
-    rw c.in_ok-push.ensures.ok
+    rw (c.in_ok-push.ensures.ok, c.into_inner.ensures)
     (chain_turn k.Star _ (law_factor c.args.prefixes.now c.args.depth) c.more.parts c.more.rest.now c.in_ok-after.after.now c.in_ok-next.after.now c.in_ok-next.next (sym c.sees.ensures ∙ c.more-test.true) c.in_ok-after.ensures c.in_ok-next.ensures ∙ c.more.invariant)
 
 pub product_more-returns : goal.product_more-returns
@@ -72,7 +72,7 @@ and_more-more-smaller t c = chain_smaller k.AndAnd _ (law_relation c.args.prefix
 
 pub and_more-more-preserved : goal.and_more-more-preserved
 and_more-more-preserved t c =
-    rw c.in_ok-push.ensures.ok
+    rw (c.in_ok-push.ensures.ok, c.into_inner.ensures)
     (chain_turn k.AndAnd _ (law_relation c.args.prefixes.now c.args.depth) c.more.parts c.more.rest.now c.in_ok-after.after.now c.in_ok-next.after.now c.in_ok-next.next (sym c.sees.ensures ∙ c.more-test.true) c.in_ok-after.ensures c.in_ok-next.ensures ∙ c.more.invariant)
 
 pub and_more-returns : goal.and_more-returns
@@ -90,7 +90,7 @@ or_more-more-smaller t c = chain_smaller k.OrOr _ (law_conjunction c.args.prefix
 
 pub or_more-more-preserved : goal.or_more-more-preserved
 or_more-more-preserved t c =
-    rw c.in_ok-push.ensures.ok
+    rw (c.in_ok-push.ensures.ok, c.into_inner.ensures)
     (chain_turn k.OrOr _ (law_conjunction c.args.prefixes.now c.args.depth) c.more.parts c.more.rest.now c.in_ok-after.after.now c.in_ok-next.after.now c.in_ok-next.next (sym c.sees.ensures ∙ c.more-test.true) c.in_ok-after.ensures c.in_ok-next.ensures ∙ c.more.invariant)
 
 pub or_more-returns : goal.or_more-returns
@@ -106,7 +106,7 @@ product-returns-in_err-parts-2 t c =
 pub product-returns : goal.product-returns
 unfolding product
 product-returns t c =
-    chain_made k.Star _ (one_or expr.Product) c.args.tokens.now c.in_ok-first.rest.now _ c.in_ok-first.first _ _ _ c.in_ok-first.ensures c.in_ok-parts.ensures c.in_ok-parts-2.ensures c.one_or_product.ensures
+    chain_made k.Star _ (one_or expr.Product) c.args.tokens.now c.in_ok-first.rest.now _ c.in_ok-first.first _ _ _ c.in_ok-first.ensures c.in_ok-parts.ensures c.in_ok-parts-2.ensures c.in_ok-product.ensures
 
 pub conjunction-returns-in_err-parts-2 : goal.conjunction-returns-in_err-parts-2
 unfolding conjunction
@@ -117,7 +117,7 @@ conjunction-returns-in_err-parts-2 t c =
 pub conjunction-returns : goal.conjunction-returns
 unfolding conjunction
 conjunction-returns t c =
-    chain_made k.AndAnd _ (one_or expr.And) c.args.tokens.now c.in_ok-first.rest.now _ c.in_ok-first.first _ _ _ c.in_ok-first.ensures c.in_ok-parts.ensures c.in_ok-parts-2.ensures c.one_or_conjunction.ensures
+    chain_made k.AndAnd _ (one_or expr.And) c.args.tokens.now c.in_ok-first.rest.now _ c.in_ok-first.first _ _ _ c.in_ok-first.ensures c.in_ok-parts.ensures c.in_ok-parts-2.ensures c.in_ok-conjunction.ensures
 
 pub disjunction-returns-in_err-parts-2 : goal.disjunction-returns-in_err-parts-2
 unfolding disjunction
@@ -128,18 +128,18 @@ disjunction-returns-in_err-parts-2 t c =
 pub disjunction-returns : goal.disjunction-returns
 unfolding disjunction
 disjunction-returns t c =
-    chain_made k.OrOr _ (one_or expr.Or) c.args.tokens.now c.in_ok-first.rest.now _ c.in_ok-first.first _ _ _ c.in_ok-first.ensures c.in_ok-parts.ensures c.in_ok-parts-2.ensures c.one_or_disjunction.ensures
+    chain_made k.OrOr _ (one_or expr.Or) c.args.tokens.now c.in_ok-first.rest.now _ c.in_ok-first.first _ _ _ c.in_ok-first.ensures c.in_ok-parts.ensures c.in_ok-parts-2.ensures c.in_ok-disjunction.ensures
 
 pub signed_literal-returns-in_err-parts-2 : goal.signed_literal-returns-in_err-parts-2
 unfolding signed_literal
 signed_literal-returns-in_err-parts-2 t c =
     let p = err_from_is_err_and c.from_residual-in_err-parts-2.result c.from_residual-in_err-parts-2.ensures.1 in
-    rw (p.1, p.2) (hands_on _ _ _ c.in_err-parts-2.ensures (λ r e. headed_refused k.Star (factor c.args.prefixes.now (expression c.args.prefixes.now c.args.depth)) (one (is k.Signed) signed_of) expr.Constant (λ parts. (sign.Plus, one_or expr.Product parts)) c.args.tokens.now c.in_ok-term.rest.now c.in_ok-term.term _ r c.in_ok-term.ensures c.in_ok-parts.ensures e))
+    rw (p.1, p.2) (hands_on _ _ _ c.in_err-parts-2.ensures (λ r e. headed_refused k.Star (factor c.args.prefixes.now (expression c.args.prefixes.now c.args.depth)) (one (is k.Signed) signed_of) expr.Constant (λ parts. (sign.Plus, one_or expr.Product parts)) c.args.tokens.now c.in_ok-term.rest.now c.in_ok-term.term _ r c.in_ok-term.ensures (c.in_ok-parts.ensures ∙ ap (λ e. e ∷ []) c.in_ok-first.ensures) e))
 
 pub signed_literal-returns : goal.signed_literal-returns
 unfolding signed_literal
 signed_literal-returns t c =
-    headed_made k.Star (factor c.args.prefixes.now (expression c.args.prefixes.now c.args.depth)) (one (is k.Signed) signed_of) expr.Constant (λ parts. (sign.Plus, one_or expr.Product parts)) c.args.tokens.now c.in_ok-term.rest.now _ c.in_ok-term.term _ _ _ c.in_ok-term.ensures c.in_ok-parts.ensures c.in_ok-parts-2.ensures (ap (λ e. (sign.Plus, e)) c.one_or_product.ensures)
+    headed_made k.Star (factor c.args.prefixes.now (expression c.args.prefixes.now c.args.depth)) (one (is k.Signed) signed_of) expr.Constant (λ parts. (sign.Plus, one_or expr.Product parts)) c.args.tokens.now c.in_ok-term.rest.now _ c.in_ok-term.term _ _ _ c.in_ok-term.ensures (c.in_ok-parts.ensures ∙ ap (λ e. e ∷ []) c.in_ok-first.ensures) c.in_ok-parts-2.ensures (ap (λ e. (sign.Plus, e)) c.in_ok-product.ensures)
 
 pub addends-returns-in_err-sign : goal.addends-returns-in_err-sign
 addends-returns-in_err-sign t c =
@@ -152,7 +152,7 @@ addends-more-smaller t c = any_smaller _ (law_addend c.args.prefixes.now c.args.
 
 pub addends-more-preserved : goal.addends-more-preserved
 addends-more-preserved t c =
-    rw c.in_ok-push.ensures.ok
+    rw (c.in_ok-push.ensures.ok, c.into_inner.ensures)
     (any_turn _ (law_addend c.args.prefixes.now c.args.depth) (addend_takes c.args.prefixes.now c.args.depth) c.more.parts c.more.rest.now c.in_ok-sign.after.now _ (sym (c.sees_addend.ensures c.args.prefixes.now c.args.depth) ∙ c.more-test.true) c.in_ok-sign.ensures ∙ c.more.invariant)
 
 pub addends-more-init : goal.addends-more-init

@@ -28,7 +28,7 @@ union-returns-in_err-parts-2 t c =
 pub union-returns : goal.union-returns
 unfolding grammar.union
 union-returns t c =
-    chain_made k.Union (group c.args.prefixes.now c.args.depth) element.Union c.args.tokens.now c.in_ok-first.rest.now _ c.in_ok-first.first _ _ _ c.in_ok-first.ensures c.in_ok-parts.ensures c.in_ok-parts-2.ensures refl
+    chain_made k.Union (group c.args.prefixes.now c.args.depth) element.Union c.args.tokens.now c.in_ok-first.rest.now _ c.in_ok-first.first _ _ _ c.in_ok-first.ensures c.in_ok-parts.ensures c.in_ok-parts-2.ensures c.in_ok-element.ensures
 
 pub union_more-returns-in_err-next : goal.union_more-returns-in_err-next
 union_more-returns-in_err-next t c =

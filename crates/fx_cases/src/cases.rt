@@ -1,0 +1,39 @@
+//! What the calls of each table give.
+
+use crate::{commands, runs, served};
+use fx_plan_cases::{engine, plans, registries, sources};
+use fx_text_cases::{
+    algebra, expressions, ntriples, print, results, solutions, syntax, terms, tokens,
+};
+use fx_wire_cases::{members, outside, requests, stores, wires};
+use std::alloc::Global;
+
+/// What the call of this name gives for its input, as a text. Gives nothing where the table has no such call, its input can't be read,
+/// or memory ran out.
+pub fn answer(alloc: Global, table: &str, call: &str, inputs: &[&str]) -> Option<String> {
+    match table {
+        "terms" => terms::answer(alloc, call, inputs),
+        "outside" => outside::answer(alloc, call, inputs),
+        "ntriples" => ntriples::answer(alloc, call, inputs),
+        "tokens" => tokens::answer(alloc, call, inputs),
+        "algebra" => algebra::answer(alloc, call, inputs),
+        "expressions" => expressions::answer(alloc, call, inputs),
+        "syntax" => syntax::answer(alloc, call, inputs),
+        "print" => print::answer(alloc, call, inputs),
+        "results" => results::answer(alloc, call, inputs),
+        "requests" => requests::answer(alloc, call, inputs),
+        "solutions" => solutions::answer(alloc, call, inputs),
+        "stores" => stores::answer(alloc, call, inputs),
+        "wires" => wires::answer(alloc, call, inputs),
+        "members" => members::answer(alloc, call, inputs),
+        "registries" => registries::answer(alloc, call, inputs),
+        "sources" => sources::answer(alloc, call, inputs),
+        "plans" => plans::answer(alloc, call, inputs),
+        "engine" => engine::answer(alloc, call, inputs),
+        "commands" => commands::answer(alloc, call, inputs),
+        "runs" => runs::answer(alloc, call, inputs),
+        "served" => served::answer(alloc, call, inputs),
+        "drawn" => runs::answer(alloc, call, inputs),
+        _ => None,
+    }
+}

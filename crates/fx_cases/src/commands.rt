@@ -1,0 +1,50 @@
+//! The calls of `fx_commands` that read command lines and write lines.
+
+use crate::runs::{sink_of, words_of};
+use fx_commands::reports::write_no_memory;
+use fx_commands::{Command, CommandError, read_command};
+use std::alloc::Global;
+use std::str::from_utf8;
+
+/// What a call gives.
+pub fn answer(alloc: Global, call: &str, inputs: &[&str]) -> Option<String> {
+    match (call, inputs) {
+        ("read_command", [words]) => command(alloc, words),
+        ("write_no_memory", []) => no_memory(alloc),
+        _ => None,
+    }
+}
+
+fn command(alloc: Global, field: &str) -> Option<String> {
+    let words = words_of(alloc, field)?;
+    match read_command(alloc, words.as_slice()) {
+        Ok(command) => command_text(alloc, command),
+        Err(CommandError::Usage) => String::from_str(alloc, "Usage").ok(),
+        Err(CommandError::Memory) => None,
+    }
+}
+
+fn command_text(alloc: Global, command: Command<'_>) -> Option<String> {
+    match command {
+        Command::Local { graph, query } => {
+            format!(in alloc; "Local of graph {graph} and query {query}").ok()
+        }
+        Command::Query { registry, query } => {
+            format!(in alloc; "Query of registry {registry} and query {query}").ok()
+        }
+        Command::Explain { registry, query } => {
+            format!(in alloc; "Explain of registry {registry} and query {query}").ok()
+        }
+        Command::Member {
+            graph,
+            address,
+            count,
+        } => format!(in alloc; "Member of graph {graph} at {address}, {count} times").ok(),
+    }
+}
+
+fn no_memory(alloc: Global) -> Option<String> {
+    let mut err = sink_of(alloc, "", "err", 4096)?;
+    write_no_memory(&mut err);
+    String::from_str(alloc, from_utf8(err.bytes()).ok()?).ok()
+}

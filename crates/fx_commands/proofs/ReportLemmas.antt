@@ -1,0 +1,108 @@
+-- What a refusal reports is its cause.
+use Rattle.std.proofs.Common.{◌≡◌, ap, sym, subst, refl, ℕ, List, Option, Some, None, Ok, Err, inl, inr, slice_index_or, slice_set}
+use Rattle.fx_commands.specs.declared.refusals.QueryRefusal.TheVariants as query
+use Rattle.fx_ntriples.specs.declared.faults.NtError.TheVariants as error
+use Rattle.fx_commands.specs.declared.refusals.GraphRefusal.TheVariants as graph
+use Rattle.fx_commands.specs.declared.refusals.Refusal.{Refusal}
+use Rattle.fx_commands.specs.declared.refusals.Refusal.TheVariants as refusal
+use Rattle.fx_commands.specs.declared.statuses.Status.TheVariants as status
+use Rattle.fx_wire.specs.Exchanges.{Seen}
+use Rattle.fx_commands.specs.Commands.{Asked, over_file, over_members, planned, served}
+use Rattle.fx_commands.specs.Explain.{IsExplainReported, IsExplainWritten}
+use Rattle.fx_commands.specs.Files.{FileRead, IsQueryThat}
+use Rattle.fx_commands.specs.Lines.{usage_line, no_memory}
+use Rattle.fx_commands.specs.Local.{IsAnswer, IsReported, IsWritten, HasLines}
+use Rattle.fx_commands.specs.declared.local.Report.{Report}
+use Rattle.fx_commands.specs.Query.{IsQueryReported, IsQueryWritten}
+use Rattle.fx_commands.specs.Serving.{DoorSeen, IsMemberReported}
+use Rattle.fx_commands.specs.Runs.{OnFirst, Reports, Writes}
+use Rattle.fx_commands.specs.Sinks.{SinkWritten, IsCutShort}
+use Rattle.fx_commands.specs.declared.statuses.Status.{Status}
+use Rattle.fx_commands.specs.LocalSteps.{GivesAnswer, IsLineReported, IsDocumentWritten, refusal_line}
+use Rattle.fx_commands.specs.RefusalStatuses.{status_of}
+
+pub reported : (g q : FileRead) (r : Refusal) → GivesAnswer g q (Err r) → IsReported g q (status_of r) (refusal_line r g.name q.name)
+reported g q (refusal.Graph graph.Fault) h = inl (h, refl)
+reported g q (refusal.Graph graph.TooLong) h = inl (h, refl)
+reported g q (refusal.Graph (graph.Refused (error.BadUtf8 at))) h = (error.BadUtf8 at, h, refl)
+reported g q (refusal.Graph (graph.Refused (error.Bad l c))) h = (error.Bad l c, h, refl)
+reported g q (refusal.Graph (graph.Refused (error.Blank l c))) h = (error.Blank l c, h, refl)
+reported g q (refusal.Graph (graph.Refused (error.Relative l c))) h = (error.Relative l c, h, refl)
+reported g q (refusal.Graph (graph.Refused error.Memory)) h = refl
+reported g q (refusal.Graph graph.Memory) h = refl
+reported g q (refusal.Query query.Fault) h = inr (h.0, h.1, refl)
+reported g q (refusal.Query query.TooLong) h = inr (h.0, h.1, refl)
+reported g q (refusal.Query (query.Refused kind at)) h = (h.0, (kind, at, h.1, refl))
+reported g q (refusal.Query query.Memory) h = refl
+reported g q (refusal.UnknownService iri) h = (h.0, (iri, h.1, refl))
+reported g q refusal.Memory h = refl
+
+pub usage_reported : (read : List ℕ → FileRead) (wire : Seen) (door : DoorSeen) (asked : Option Asked) → asked ≡ None → Reports read wire wire door door asked status.Usage usage_line
+usage_reported read wire door None h = (refl, refl, refl)
+usage_reported read wire door (Some a) h = cc
+
+pub memory_reported : (read : List ℕ → FileRead) (wire : Seen) (door : DoorSeen) (asked : Option Asked) → Reports read wire wire door door asked status.NoMemory no_memory
+memory_reported read wire door None = (refl, refl, refl)
+memory_reported read wire door (Some (over_file g q)) = (refl, refl, refl)
+memory_reported read wire door (Some (over_members r q)) = ((inl refl, refl), refl)
+memory_reported read wire door (Some (planned r q)) = ((inl refl, refl), refl)
+memory_reported read wire door (Some (served g a n)) = (inl (refl, refl), refl)
+
+-- ---- reports of `local`
+
+pub lines_reported : (g q : FileRead) (r : Report) (s : Status) (text : List ℕ) → GivesAnswer g q (Ok r) → IsLineReported r.lines.items s text → IsReported g q s text
+lines_reported g q r status.Done text h k = (h.0, subst (λ (v : List ℕ). IsQueryThat q (HasLines v)) (sym k) h.1)
+lines_reported g q r status.WriteFault text h k = (h.0, (r.lines.items, h.1, k))
+lines_reported g q r status.NoMemory text h k = absurd k
+lines_reported g q r status.Usage text h k = absurd k
+lines_reported g q r status.RegistryRefused text h k = absurd k
+lines_reported g q r status.EndpointFault text h k = absurd k
+lines_reported g q r status.BadReply text h k = absurd k
+lines_reported g q r status.UnknownService text h k = absurd k
+lines_reported g q r status.RequestTooLong text h k = absurd k
+lines_reported g q r status.DoorFault text h k = absurd k
+lines_reported g q r status.GraphRefused text h k = absurd k
+lines_reported g q r status.QueryRefused text h k = absurd k
+lines_reported g q r status.ReadFault text h k = absurd k
+lines_reported g q r status.FileTooLong text h k = absurd k
+
+pub document_written : (g q : FileRead) (r : Report) (s : Status) (old new : List ℕ) → GivesAnswer g q (Ok r) → IsDocumentWritten r.document.items s old new → IsWritten g q s old new
+document_written g q r status.Done old new h k = (r.document.items, h.2, k)
+document_written g q r status.WriteFault old new h k = (r.document.items, h.2, k)
+document_written g q r status.NoMemory old new h k = absurd k
+document_written g q r status.Usage old new h k = absurd k
+document_written g q r status.RegistryRefused old new h k = absurd k
+document_written g q r status.EndpointFault old new h k = absurd k
+document_written g q r status.BadReply old new h k = absurd k
+document_written g q r status.UnknownService old new h k = absurd k
+document_written g q r status.RequestTooLong old new h k = absurd k
+document_written g q r status.DoorFault old new h k = absurd k
+document_written g q r status.GraphRefused old new h k = absurd k
+document_written g q r status.QueryRefused old new h k = absurd k
+document_written g q r status.ReadFault old new h k = absurd k
+document_written g q r status.FileTooLong old new h k = absurd k
+
+pub cut_short : (g q : FileRead) (r : Report) (out err : SinkWritten) → GivesAnswer g q (Ok r) → IsCutShort (λ text. text ≡ r.document.items) out err → IsCutShort (IsAnswer g q) out err
+cut_short g q r out err h (inl k) = inl k
+cut_short g q r out err h (inr k) = inr ((λ told. let w = k.0.0 told in (w.0, subst (IsAnswer g q) (sym w.1) h.2, w.2), k.0.1), k.1)
+
+-- ---- by the command
+
+pub members_reported : (read : List ℕ → FileRead) (before after : Seen) (door : DoorSeen) (asked : Option Asked) (r q : List ℕ) (s : Status) (text : List ℕ) → asked ≡ Some (over_members r q) → IsQueryReported before after (read r) (read q) s text → Reports read before after door door asked s text
+members_reported read before after door asked r q s text is h = subst (λ o. Reports read before after door door o s text) (sym is) (h, refl)
+
+pub plan_reported : (read : List ℕ → FileRead) (before after : Seen) (door : DoorSeen) (asked : Option Asked) (r q : List ℕ) (s : Status) (text : List ℕ) → asked ≡ Some (planned r q) → IsExplainReported before after (read r) (read q) s text → Reports read before after door door asked s text
+plan_reported read before after door asked r q s text is h = subst (λ o. Reports read before after door door o s text) (sym is) (h, refl)
+
+pub serving_reported : (read : List ℕ → FileRead) (wire : Seen) (door later : DoorSeen) (asked : Option Asked) (g a : List ℕ) (n : ℕ) (s : Status) (text : List ℕ) → asked ≡ Some (served g a n) → IsMemberReported (read g) door later a n s text → Reports read wire wire door later asked s text
+serving_reported read wire door later asked g a n s text is h = subst (λ o. Reports read wire wire door later o s text) (sym is) (h, refl)
+
+pub members_written : (read : List ℕ → FileRead) (before : Seen) (asked : Option Asked) (r q : List ℕ) (s : Status) (old new : List ℕ) → asked ≡ Some (over_members r q) → IsQueryWritten before (read r) (read q) s old new → Writes read before asked s old new
+members_written read before asked r q s old new is h = subst (λ o. Writes read before o s old new) (sym is) h
+
+pub plan_written : (read : List ℕ → FileRead) (before : Seen) (asked : Option Asked) (r q : List ℕ) (s : Status) (old new : List ℕ) → asked ≡ Some (planned r q) → IsExplainWritten before (read r) (read q) s old new → Writes read before asked s old new
+plan_written read before asked r q s old new is h = subst (λ o. Writes read before o s old new) (sym is) h
+
+-- what holds of the item at the front holds of the first
+pub on_first : {W : Type 0} (P : W → W → Type 0) (wires : List W) (other later : W) → P (slice_index_or wires 0 other) later → OnFirst wires (slice_set wires 0 later) P
+on_first P wires other later h = λ wire others e. (later, ap (λ l. slice_set l 0 later) e, subst (λ w. P w later) (ap (λ l. slice_index_or l 0 other) e) h)

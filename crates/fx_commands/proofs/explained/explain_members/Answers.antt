@@ -1,0 +1,20 @@
+use Rattle.std.proofs.Common.{sym, subst, [], length}
+use Rattle.fx_wire.specs.Exchanges.{seen}
+use Rattle.fx_engine.specs.Federation.{AsksNothing, OfMissing}
+use Rattle.fx_commands.specs.declared.statuses.Status.{Status}
+use Rattle.fx_commands.specs.FedRefusals.{fed_line}
+use Rattle.fx_commands.specs.QuerySteps.{IsAskReported}
+use Rattle.fx_commands.proofs.QueryLemmas.{fed_reported}
+use Rattle.fx_commands.proofs.explained.explain_members.Goals as goal
+
+pub returns-clause-reported : goal.returns-clause-reported
+returns-clause-reported g c =
+    let of = seen g.W.Wire.tells_log g.W.Wire.log g.W.Wire.graph g.W.Wire.faults in
+    let before = of c.args.wire.now in
+    let after = of c.plan_text.new.wire in
+    let asks = OfMissing c.args.query.now (length c.args.members.now) [] in
+    let text = fed_line c.args.members.now c.in-Err.error in (
+      text,
+      subst (λ (s : Status). IsAskReported AsksNothing asks before after c.args.members.now c.args.query.now s text) (sym c.fed_status.ensures) (fed_reported AsksNothing asks before after c.args.members.now c.args.query.now c.in-Err.error c.in-Err.ensures.text),
+      rw c.endpoints.ensures.value at c.write_fed_error.ensures,
+    )

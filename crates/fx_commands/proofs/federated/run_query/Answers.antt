@@ -1,0 +1,66 @@
+use Rattle.std.proofs.Common.{◌∙◌, sym, subst, Ok, Err}
+use Rattle.fx_wire.specs.Exchanges.{seen}
+use Rattle.fx_commands.specs.declared.statuses.Status.{Status}
+use Rattle.fx_commands.specs.Files.{file_read}
+use Rattle.fx_commands.specs.Lines.{not_built}
+use Rattle.fx_commands.specs.LocalSteps.{query_line}
+use Rattle.fx_commands.specs.Query.{IsQueryReported}
+use Rattle.fx_commands.specs.QuerySteps.{registry_line}
+use Rattle.fx_commands.proofs.QueryLemmas.{registry_reported, query_reported, query_since, other_reported, ask_reported}
+use Rattle.fx_commands.proofs.federated.run_query.Goals as goal
+
+pub returns-in-Err-clause-reported : goal.returns-in-Err-clause-reported
+returns-in-Err-clause-reported g c =
+    let wire = seen g.W.Wire.tells_log g.W.Wire.log g.W.Wire.graph g.W.Wire.faults c.args.wire.now in
+    let read = file_read g.F.Files.content g.F.Files.faults c.args.files.now c.load_registry.new.files in
+    let registry = read c.args.registry.now in
+    let query = read c.args.query.now in
+    let text = registry_line c.in-Err.refusal c.args.registry.now in (
+      text,
+      subst (λ (s : Status). IsQueryReported wire wire registry query s text) (sym c.status.ensures) (registry_reported wire registry query c.in-Err.refusal c.in-Err.ensures.outcome),
+      c.write_registry_refusal.ensures,
+    )
+
+pub returns-in-Err-load_query-clause-reported : goal.returns-in-Err-load_query-clause-reported
+returns-in-Err-load_query-clause-reported g c =
+    let wire = seen g.W.Wire.tells_log g.W.Wire.log g.W.Wire.graph g.W.Wire.faults c.args.wire.now in
+    let read = file_read g.F.Files.content g.F.Files.faults c.args.files.now c.load_query.new.files in
+    let registry = read c.args.registry.now in
+    let query = read c.args.query.now in
+    let text = query_line c.in-Err-load_query.refusal c.args.query.now in (
+      text,
+      subst (λ (s : Status). IsQueryReported wire wire registry query s text) (sym c.status-in-Err-load_query.ensures) (
+          query_reported wire registry query _ c.in-Err-load_query.refusal c.in-Ok.ensures.outcome
+          (query_since c.args.query.now _ _ (g.F.Files.faults c.args.files.now c.args.query.now) (g.F.Files.faults c.load_registry.new.files c.args.query.now) (g.F.Files.faults c.load_query.new.files c.args.query.now) (Err c.in-Err-load_query.refusal) (c.load_registry.ensures.same c.args.query.now) (c.load_registry.ensures.kept c.args.query.now) c.in-Err-load_query.ensures.outcome)
+          ),
+      c.write_query_refusal.ensures,
+    )
+
+pub returns-then-not-is_plain-clause-reported : goal.returns-then-not-is_plain-clause-reported
+returns-then-not-is_plain-clause-reported g c =
+    let wire = seen g.W.Wire.tells_log g.W.Wire.log g.W.Wire.graph g.W.Wire.faults c.args.wire.now in
+    let read = file_read g.F.Files.content g.F.Files.faults c.args.files.now c.load_query.new.files in
+    let registry = read c.args.registry.now in
+    let query = read c.args.query.now in (
+      not_built,
+      other_reported wire registry query _ c.in-Ok-load_query.asked c.in-Ok.ensures.outcome
+          (query_since c.args.query.now _ _ (g.F.Files.faults c.args.files.now c.args.query.now) (g.F.Files.faults c.load_registry.new.files c.args.query.now) (g.F.Files.faults c.load_query.new.files c.args.query.now) (Ok c.in-Ok-load_query.asked) (c.load_registry.ensures.same c.args.query.now) (c.load_registry.ensures.kept c.args.query.now) c.in-Ok-load_query.ensures.outcome)
+          (sym c.is_plain.ensures ∙ c.if-not-is_plain.true),
+      c.write_not_built.ensures,
+    )
+
+pub returns-clause-reported : goal.returns-clause-reported
+returns-clause-reported g c =
+    let of = seen g.W.Wire.tells_log g.W.Wire.log g.W.Wire.graph g.W.Wire.faults in
+    let read = file_read g.F.Files.content g.F.Files.faults c.args.files.now c.load_query.new.files in
+    let registry = read c.args.registry.now in
+    let query = read c.args.query.now in (
+      c.ask_members.ensures.reported.0,
+      ask_reported (of c.args.wire.now) (of c.ask_members.new.wire) registry query _ c.in-Ok-load_query.asked c.ask_members.result c.ask_members.ensures.reported.0
+          c.in-Ok.ensures.outcome
+          (query_since c.args.query.now _ _ (g.F.Files.faults c.args.files.now c.args.query.now) (g.F.Files.faults c.load_registry.new.files c.args.query.now) (g.F.Files.faults c.load_query.new.files c.args.query.now) (Ok c.in-Ok-load_query.asked) (c.load_registry.ensures.same c.args.query.now) (c.load_registry.ensures.kept c.args.query.now) c.in-Ok-load_query.ensures.outcome)
+          (sym c.is_plain.ensures ∙ c.if-not-is_plain.false)
+          c.ask_members.ensures.reported.1
+          c.ask_members.ensures.begun,
+      c.ask_members.ensures.reported.2,
+    )

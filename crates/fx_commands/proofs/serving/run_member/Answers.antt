@@ -1,0 +1,17 @@
+use Rattle.std.proofs.Common.{sym, subst}
+use Rattle.fx_commands.specs.Files.{file_read}
+use Rattle.fx_commands.specs.LocalSteps.{graph_line}
+use Rattle.fx_commands.specs.Serving.{door_seen, IsMemberReported}
+use Rattle.fx_commands.specs.declared.statuses.Status.{Status}
+use Rattle.fx_commands.proofs.ServingLemmas.{no_graph_reported}
+use Rattle.fx_commands.proofs.serving.run_member.Goals as goal
+
+pub returns-in-Err-clause-reported : goal.returns-in-Err-clause-reported
+returns-in-Err-clause-reported g c =
+    let read = file_read g.F.Files.content g.F.Files.faults c.args.files.now c.load_store.new.files c.args.graph.now in
+    let seen = door_seen g.D.Door.tells g.D.Door.started g.D.Door.inputs g.D.Door.outputs g.D.Door.faults c.args.door.now in
+    let text = graph_line c.in-Err.refusal c.args.graph.now in (
+      text,
+      subst (λ (s : Status). IsMemberReported read seen seen c.args.address.now c.args.count s text) (sym c.status.ensures) (no_graph_reported read seen c.args.address.now c.args.count c.in-Err.refusal c.in-Err.ensures.outcome),
+      c.write_graph_refusal.ensures,
+    )

@@ -1,0 +1,21 @@
+use Rattle.std.proofs.Common.{◌∙◌, ap, sym, [], ◌∷◌, ◌++◌}
+use Rattle.fx_outside.specs.Doors.{output_of}
+use Rattle.fx_commands.specs.Serving.{door_seen}
+use Rattle.fx_commands.proofs.ServingLemmas.{lost_one, served_one}
+use Rattle.fx_commands.proofs.serving.serve_next.Goals as goal
+
+pub returns-in-Err-clause-ended : goal.returns-in-Err-clause-ended
+returns-in-Err-clause-ended g c = λ tells.
+    lost_one (door_seen g.D.Door.tells g.D.Door.started g.D.Door.inputs g.D.Door.outputs g.D.Door.faults c.args.door.now) (door_seen g.D.Door.tells g.D.Door.started g.D.Door.inputs g.D.Door.outputs g.D.Door.faults c.accept.new.self) _ _ (c.in_ok-conn.ensures.taken tells).1.1 (c.in_ok-conn.ensures.outputs tells)
+
+pub returns-in-Err-finish-clause-ended : goal.returns-in-Err-finish-clause-ended
+returns-in-Err-finish-clause-ended g c = λ tells.
+    lost_one (door_seen g.D.Door.tells g.D.Door.started g.D.Door.inputs g.D.Door.outputs g.D.Door.faults c.args.door.now) (door_seen g.D.Door.tells g.D.Door.started g.D.Door.inputs g.D.Door.outputs g.D.Door.faults c.finish.new.self) _ _ (record { first = (c.in_ok-conn.ensures.taken tells).1.1.first ∙ ap (λ is. g.D.Conn.Ends.left c.in_ok-conn.conn ∷ is) (sym (c.in-Err-finish.ensures.inputs tells)); empty = (c.in_ok-conn.ensures.taken tells).1.1.empty }) (c.in-Err-finish.ensures.unended tells ∙ c.in_ok-conn.ensures.outputs tells)
+
+pub returns-in-Ok-finish-clause-ended : goal.returns-in-Ok-finish-clause-ended
+returns-in-Ok-finish-clause-ended g c = λ tells.
+    let taken = c.in_ok-conn.ensures.taken tells in
+    served_one c.args.store.now (door_seen g.D.Door.tells g.D.Door.started g.D.Door.inputs g.D.Door.outputs g.D.Door.faults c.args.door.now) (door_seen g.D.Door.tells g.D.Door.started g.D.Door.inputs g.D.Door.outputs g.D.Door.faults c.finish.new.self) _ (output_of (g.D.Conn.Ends.held c.serve_conn.new.conn) (g.D.Conn.Ends.read_faults c.serve_conn.new.conn) (g.D.Conn.Ends.write_faults c.serve_conn.new.conn)) c.in-Ok.ending
+    (c.in-Ok.ensures.ended taken.0 taken.1.0 taken.1.1.empty c.in_ok-conn.ensures.faultless.0 c.in_ok-conn.ensures.faultless.1)
+    (taken.1.1.first ∙ ap (λ is. g.D.Conn.Ends.left c.in_ok-conn.conn ∷ is) (sym (c.in-Ok-finish.ensures.inputs tells)))
+    (c.in-Ok-finish.ensures.ended tells ∙ ap (λ os. os ++ output_of (g.D.Conn.Ends.held c.serve_conn.new.conn) (g.D.Conn.Ends.read_faults c.serve_conn.new.conn) (g.D.Conn.Ends.write_faults c.serve_conn.new.conn) ∷ []) (c.in_ok-conn.ensures.outputs tells))

@@ -1,0 +1,133 @@
+-- What `fedx member` does: it serves connections one after another, with a line for each.
+use Rattle.std.specs.Prelude.{◌≡◌, ◌⊎◌, ℕ, ◌+◌, ◌<◌, ◌≤◌, Bool, List, [], ◌∷◌, ◌++◌, map, length, codes, All, Option, Some, IfSome, IsTrue}
+use Rattle.std.specs.Fmt.{decimal}
+use Rattle.std.proofs.Common.{suc}
+use Rattle.fx_terms.specs.declared.triples.Triple.{Triple}
+use Rattle.fx_ntriples.specs.Forms.{IsDocument}
+use Rattle.fx_ntriples.specs.declared.faults.NtError.{NtError}
+use Rattle.fx_outside.specs.Doors.{Output}
+use Rattle.fx_outside.specs.Streams.{AppendsFront}
+use Rattle.fx_member.specs.Served.{IsServed}
+use Rattle.fx_commands.specs.Files.{FileRead, HasFailed, IsTooLong, IsNoGraph}
+use Rattle.fx_commands.specs.Lines.{cannot_read, graph_refused, graph_too_long, no_memory, cannot_serve}
+use Rattle.fx_commands.specs.declared.limits.TheConstants.{GRAPH_LIMIT}
+use Rattle.fx_commands.specs.declared.serving.Ending.{Ending}
+use Rattle.fx_commands.specs.declared.serving.Ending.TheVariants.{Replied, ReadFault, WriteFault}
+use Rattle.fx_commands.specs.declared.statuses.Status.{Status}
+use Rattle.fx_commands.specs.declared.statuses.Status.TheVariants as status
+
+-- ---- a door at a moment
+
+pub record DoorSeen : Type 0 where
+  pub tells : Bool
+  pub started : Option (List ℕ)
+  pub inputs : List (List ℕ)
+  pub outputs : List Output
+  pub faults : ℕ
+
+abbrev pub door_seen : {D : Type 0} → Bool → (D → Option (List ℕ)) → (D → List (List ℕ)) → (D → List Output) → (D → ℕ) → D → DoorSeen
+door_seen tells started inputs outputs faults door = record { tells = tells; started = started door; inputs = inputs door; outputs = outputs door; faults = faults door }
+
+-- ---- connections
+
+-- a connection that was served: what came in, what went out, and how it ended
+pub record Visit : Type 0 where
+  pub input : List ℕ
+  pub output : Output
+  pub ending : Ending
+
+-- what was written is the whole reply that the graph's member gives to the input; a front of it only where a write failed, and
+-- nothing only where a read failed
+abbrev pub IsEnded : List Triple → List ℕ → Output → Ending → Type 0
+IsEnded graph input output (Replied code) = IsServed graph input code output.held
+IsEnded graph input output ReadFault = (output.held ≡ []) × (0 < output.read_faults)
+IsEnded graph input output WriteFault = ((code : ℕ) × (reply : List ℕ) × IsServed graph input code reply × AppendsFront [] output.held reply) × (0 < output.write_faults)
+
+abbrev pub IsVisit : List Triple → Visit → Type 0
+IsVisit graph v = IsEnded graph v.input v.output v.ending
+
+-- the inputs taken were answered in order, and the outputs were kept; some that were taken are left unanswered
+pub record HasVisits (graph : List Triple) (before after : DoorSeen) (endings : List Ending) (unanswered : List (List ℕ)) : Type 0 where
+  pub visits : List Visit
+  pub each : All (IsVisit graph) visits
+  pub ended : endings ≡ map (λ v. v.ending) visits
+  pub went_out : after.outputs ≡ before.outputs ++ map (λ v. v.output) visits
+  pub came_in : before.inputs ≡ map (λ v. v.input) visits ++ (unanswered ++ after.inputs)
+
+-- where the door tells, the connections are these
+abbrev pub Serves : List Triple → DoorSeen → DoorSeen → List Ending → List (List ℕ) → Type 0
+Serves graph before after endings unanswered = IsTrue before.tells → HasVisits graph before after endings unanswered
+
+-- ---- lines
+
+abbrev pub ending_text : Ending → List ℕ
+ending_text (Replied code) = decimal code
+ending_text ReadFault = codes "read fault"
+ending_text WriteFault = codes "write fault"
+
+-- the line of a connection, by its number
+abbrev pub ending_line : ℕ → Ending → List ℕ
+ending_line number ending = codes "connection " ++ (decimal number ++ (codes ": " ++ (ending_text ending ++ 10 ∷ [])))
+
+-- a line for each, where they are numbered from a number on
+abbrev pub ending_lines : ℕ → List Ending → List ℕ
+ending_lines number [] = []
+ending_lines number (ending ∷ endings) = ending_line number ending ++ ending_lines (suc number) endings
+
+-- ---- statuses
+
+-- the graph of a file: where the content is told it is an N-Triples document of it within its limit
+abbrev pub IsGraphOf : FileRead → List Triple → Type 0
+IsGraphOf g graph = IfSome g.content (λ all. (length all ≤ GRAPH_LIMIT) × IsDocument all graph)
+
+-- the door is open at the address
+abbrev pub IsOpen : DoorSeen → List ℕ → Type 0
+IsOpen seen address = seen.started ≡ Some address
+
+-- so many connections were served
+abbrev pub IsDone : ℕ → DoorSeen → DoorSeen → List ℕ → List Triple → List ℕ → Type 0
+IsDone count before after address graph text = (endings : List Ending) × Serves graph before after endings [] × (length endings ≡ count) × (IsTrue before.tells → IsOpen after address) × (text ≡ ending_lines 1 endings)
+
+-- the door could not be opened
+pub record IsShut (before after : DoorSeen) : Type 0 where
+  pub started : after.started ≡ before.started
+  pub outputs : after.outputs ≡ before.outputs
+  pub inputs : after.inputs ≡ before.inputs
+
+-- a line could not be written, and no more connections were served than are to be
+abbrev pub IsUnwritten : DoorSeen → DoorSeen → List ℕ → ℕ → List Triple → List ℕ → Type 0
+IsUnwritten before after address count graph text = (endings : List Ending) × Serves graph before after endings [] × (length endings ≤ count) × (IsTrue before.tells → IsOpen after address) × (text ≡ ending_lines 1 endings)
+
+-- at most one
+abbrev pub IsOneAtMost : List (List ℕ) → Type 0
+IsOneAtMost inputs = length inputs ≤ 1
+
+-- what a door tells where serving was cut: at most one input was taken and not answered, no more were taken than are to be served,
+-- and the door is open at the address, or could not be opened
+pub record HasStopped (graph : List Triple) (before after : DoorSeen) (address : List ℕ) (count : ℕ) (endings : List Ending) : Type 0 where
+  pub unanswered : List (List ℕ)
+  pub visits : HasVisits graph before after endings unanswered
+  pub few : IsOneAtMost unanswered
+  pub within : length endings + length unanswered ≤ count
+  pub opened : IsOpen after address ⊎ IsShut before after
+
+-- connections were served, and then the door failed or memory ran out
+abbrev pub IsCut : DoorSeen → DoorSeen → List ℕ → ℕ → List Triple → List ℕ → List ℕ → Type 0
+IsCut before after address count graph last text = (endings : List Ending) × (length endings ≤ count) × (IsTrue before.tells → HasStopped graph before after address count endings) × (text ≡ ending_lines 1 endings ++ last)
+
+-- what serving reports, over a graph
+abbrev pub IsServingReported : DoorSeen → DoorSeen → List ℕ → ℕ → List Triple → Status → List ℕ → Type 0
+IsServingReported before after address count graph status.Done text = IsDone count before after address graph text
+IsServingReported before after address count graph status.WriteFault text = IsUnwritten before after address count graph text
+IsServingReported before after address count graph status.DoorFault text = (before.faults < after.faults) × IsCut before after address count graph cannot_serve text
+IsServingReported before after address count graph status.NoMemory text = IsCut before after address count graph no_memory text
+IsServingReported before after address count graph s text = ⊥
+
+-- the cause of each status, and what it writes on standard error: the graph's file is read first, then its graph, and then the
+-- door is opened at the address, for so many connections. Before that all that is seen of the door is as it was.
+abbrev pub IsMemberReported : FileRead → DoorSeen → DoorSeen → List ℕ → ℕ → Status → List ℕ → Type 0
+IsMemberReported g before after address count status.GraphRefused text = (e : NtError) × IsNoGraph g e × (text ≡ graph_refused e) × (after ≡ before)
+IsMemberReported g before after address count status.ReadFault text = HasFailed g × (text ≡ cannot_read g.name) × (after ≡ before)
+IsMemberReported g before after address count status.FileTooLong text = IsTooLong GRAPH_LIMIT g × (text ≡ graph_too_long g.name) × (after ≡ before)
+IsMemberReported g before after address count status.NoMemory text = ((text ≡ no_memory) × (after ≡ before)) ⊎ ((graph : List Triple) × IsGraphOf g graph × IsServingReported before after address count graph status.NoMemory text)
+IsMemberReported g before after address count s text = (graph : List Triple) × IsGraphOf g graph × IsServingReported before after address count graph s text

@@ -1,0 +1,20 @@
+//! The commands of the program, over files, wires, doors and streams that are handed in.
+#![tactic(auto)]
+
+pub mod commands;
+mod explained;
+mod federated;
+mod limits;
+mod loading;
+mod local;
+pub mod refusals;
+pub mod reports;
+pub mod running;
+mod serving;
+pub mod statuses;
+
+pub use commands::{Command, CommandError, read_command};
+pub use refusals::Refusal;
+pub use reports::write_refusal;
+pub use running::run;
+pub use statuses::Status;

@@ -1,0 +1,255 @@
+//! The calls of `fx_algebra`.
+
+use fx_algebra::queries::copy_names;
+use fx_algebra::{
+    Answer, Element, Expr, Group, Inline, Query, Row, Solution, Unit, is_plain, patterns_of, scope,
+    scopes, services,
+};
+use fx_notation::{fields, notation, shown};
+use fx_print::print;
+use fx_terms::{Items, Name, Term};
+use std::alloc::Global;
+
+/// What a call gives.
+pub fn answer(alloc: Global, call: &str, inputs: &[&str]) -> Option<String> {
+    match (call, inputs) {
+        ("Solution::with", [row]) => with(alloc, row),
+        ("Solution::copy", [row]) => copy_solution(alloc, row),
+        ("Solution::get", [row, name]) => get(alloc, row, name),
+        ("Solution::merge", [left, right]) => merge(alloc, left, right),
+        ("Solution::project", [row, columns]) => project(alloc, row, columns),
+        ("scopes::once", [names]) => once(alloc, names),
+        ("scopes::is_among", [names, name]) => is_among(alloc, names, name),
+        ("copy_names", [names]) => copied_names(alloc, names),
+        ("scope", [group]) => scope_of(alloc, group),
+        ("services", [query]) => services_of(alloc, query),
+        ("patterns_of", [group]) => patterns(alloc, group),
+        ("is_plain", [query]) => plain(alloc, query),
+        ("Query::copy", [query]) => copy_query(alloc, query),
+        ("Answer::copy", [rows]) => copy_answer(alloc, rows),
+        ("Unit::copy", [group, members, kind]) => copy_unit(alloc, group, members, kind),
+        ("Row::copy", [origin, row]) => copy_row(alloc, origin, row),
+        _ => None,
+    }
+}
+
+// The solution of one row that is written out, bound name by name, in the order of the columns.
+fn solution(alloc: Global, text: &str) -> Option<Solution> {
+    let inline = notation::inline(alloc, text)?;
+    match inline.rows.as_slice() {
+        [row] => bindings(alloc, inline.columns.as_slice(), row.as_slice()),
+        _ => None,
+    }
+}
+
+fn bindings(alloc: Global, columns: &[Name], row: &[Option<Term>]) -> Option<Solution> {
+    let mut solution = Solution::empty(alloc);
+    for (name, value) in columns.iter().zip(row) {
+        if let Some(term) = value {
+            solution = bound(alloc, &solution, name, term)?;
+        }
+    }
+    Some(solution)
+}
+
+fn bound(alloc: Global, solution: &Solution, name: &Name, term: &Term) -> Option<Solution> {
+    match solution.get(name) {
+        Some(_) => None,
+        None => solution.with(alloc, name, term).ok(),
+    }
+}
+
+fn with(alloc: Global, row: &str) -> Option<String> {
+    shown::solution(alloc, &solution(alloc, row)?)
+}
+
+fn copy_solution(alloc: Global, row: &str) -> Option<String> {
+    let solution = solution(alloc, row)?;
+    shown::solution(alloc, &solution.copy(alloc).ok()?)
+}
+
+fn get(alloc: Global, row: &str, name: &str) -> Option<String> {
+    let solution = solution(alloc, row)?;
+    let name = Name::read(alloc, name).ok()?;
+    match solution.get(&name) {
+        Some(term) => shown::term(alloc, term),
+        None => shown::word(alloc, "unbound"),
+    }
+}
+
+fn merge(alloc: Global, left: &str, right: &str) -> Option<String> {
+    let left = solution(alloc, left)?;
+    let right = solution(alloc, right)?;
+    if left.agrees(&right) {
+        shown::solution(alloc, &left.merge(alloc, &right).ok()?)
+    } else {
+        shown::word(alloc, "no agreement")
+    }
+}
+
+fn project(alloc: Global, row: &str, columns: &str) -> Option<String> {
+    let solution = solution(alloc, row)?;
+    let columns = notation::names(alloc, columns)?;
+    shown::solution(alloc, &solution.project(alloc, columns.as_slice()).ok()?)
+}
+
+fn once(alloc: Global, names: &str) -> Option<String> {
+    let names = notation::names(alloc, names)?;
+    let once = scopes::once(alloc, names.as_slice()).ok()?;
+    shown::names(alloc, once.as_slice())
+}
+
+fn is_among(alloc: Global, names: &str, name: &str) -> Option<String> {
+    let names = notation::names(alloc, names)?;
+    let name = Name::read(alloc, name).ok()?;
+    shown::truth(alloc, scopes::is_among(names.as_slice(), &name))
+}
+
+fn copied_names(alloc: Global, names: &str) -> Option<String> {
+    let names = notation::names(alloc, names)?;
+    shown::names(alloc, copy_names(alloc, names.as_slice()).ok()?.as_slice())
+}
+
+fn scope_of(alloc: Global, text: &str) -> Option<String> {
+    let group = notation::group(alloc, text)?;
+    shown_scope(alloc, &group)
+}
+
+fn shown_scope(alloc: Global, group: &Group) -> Option<String> {
+    shown::names(alloc, scope(alloc, group).ok()?.as_slice())
+}
+
+fn services_of(alloc: Global, text: &str) -> Option<String> {
+    let query = notation::query(alloc, text)?;
+    shown_services(alloc, &query)
+}
+
+// The services of a query, one after another.
+fn shown_services(alloc: Global, query: &Query) -> Option<String> {
+    let mut text = String::new(alloc);
+    for (iri, silent) in services(alloc, query).ok()?.as_slice() {
+        fields::add(&mut text, if *silent { "SILENT " } else { "" })?;
+        text.push_str(iri.text()).ok()?;
+    }
+    Some(text)
+}
+
+fn patterns(alloc: Global, text: &str) -> Option<String> {
+    let group = notation::group(alloc, text)?;
+    shown_patterns(alloc, &group)
+}
+
+fn shown_patterns(alloc: Global, group: &Group) -> Option<String> {
+    let mut text = String::new(alloc);
+    for pattern in patterns_of(alloc, group).ok()?.as_slice() {
+        fields::add(&mut text, shown::pattern(alloc, pattern)?.as_str())?;
+    }
+    Some(text)
+}
+
+fn plain(alloc: Global, text: &str) -> Option<String> {
+    shown::truth(alloc, is_plain(&notation::query(alloc, text)?))
+}
+
+fn copy_query(alloc: Global, text: &str) -> Option<String> {
+    let query = notation::query(alloc, text)?;
+    copied_query(alloc, &query)
+}
+
+// The scope, the services and the last columns of the copy of a query, which is printed as the query is.
+fn copied_query(alloc: Global, query: &Query) -> Option<String> {
+    let copy = query.copy(alloc).ok()?;
+    if print(alloc, &copy).ok()?.as_str() != print(alloc, query).ok()?.as_str() {
+        return shown::word(alloc, "another");
+    }
+    query_text(alloc, &copy)
+}
+
+fn query_text(alloc: Global, query: &Query) -> Option<String> {
+    let names = shown_scope(alloc, &query.group)?;
+    let services = shown_services(alloc, query)?;
+    let columns = match &query.inline {
+        Some(inline) => shown::names(alloc, inline.columns.as_slice())?,
+        None => String::new(alloc),
+    };
+    format!(in alloc; "scope {names} ; services {services} ; columns {columns}").ok()
+}
+
+// The copy of the table that rows make which are written out.
+fn copy_answer(alloc: Global, text: &str) -> Option<String> {
+    let Inline { columns, rows: _ } = notation::inline(alloc, text)?;
+    let rows = Items::from_vec(notation::solutions(alloc, text)?);
+    copied_answer(alloc, &Answer::Table { columns, rows })
+}
+
+fn copied_answer(alloc: Global, answer: &Answer) -> Option<String> {
+    match answer.copy(alloc).ok()? {
+        Answer::Table { columns, rows } => {
+            let columns = shown::names(alloc, columns.as_slice())?;
+            let rows = shown::solutions(alloc, rows.as_slice())?;
+            format!(in alloc; "columns {columns} ; rows {rows}").ok()
+        }
+        Answer::Truth(truth) => shown::truth(alloc, truth),
+    }
+}
+
+// The copy of the unit that has the patterns and the filters of a group.
+fn copy_unit(alloc: Global, text: &str, members: &str, kind: &str) -> Option<String> {
+    let group = notation::group(alloc, text)?;
+    let unit = unit(alloc, &group, members, kind == "group")?;
+    unit_text(alloc, &unit.copy(alloc).ok()?)
+}
+
+fn unit(alloc: Global, parts: &Group, members: &str, group: bool) -> Option<Unit> {
+    let mut filters = Items::new(alloc);
+    for element in parts.elements.as_slice() {
+        if let Element::Filter(expr) = element {
+            filters.push(expr.copy(alloc).ok()?).ok()?;
+        }
+    }
+    let mut numbers = Items::new(alloc);
+    for member in members.split_whitespace() {
+        numbers.push(member.parse::<u32>().ok()?).ok()?;
+    }
+    Some(Unit {
+        patterns: Items::from_vec(patterns_of(alloc, parts).ok()?),
+        filters,
+        members: numbers,
+        group,
+    })
+}
+
+// The patterns, the filters, which are variables, and the members.
+fn unit_text(alloc: Global, unit: &Unit) -> Option<String> {
+    let mut text = String::new(alloc);
+    for pattern in unit.patterns.as_slice() {
+        fields::add(&mut text, shown::pattern(alloc, pattern)?.as_str())?;
+    }
+    for filter in unit.filters.as_slice() {
+        match filter {
+            Expr::Variable(name) => fields::add(&mut text, name.text())?,
+            _ => return None,
+        }
+    }
+    for member in unit.members.as_slice() {
+        let number = format!(in alloc; "{member}").ok()?;
+        fields::add(&mut text, number.as_str())?;
+    }
+    fields::add(&mut text, if unit.group { "group" } else { "no group" })?;
+    Some(text)
+}
+
+fn copy_row(alloc: Global, origin: &str, text: &str) -> Option<String> {
+    let row = Row {
+        origin: origin.parse::<u64>().ok()?,
+        solution: solution(alloc, text)?,
+    };
+    copied_row(alloc, &row)
+}
+
+fn copied_row(alloc: Global, row: &Row) -> Option<String> {
+    let copy = row.copy(alloc).ok()?;
+    let origin = copy.origin;
+    let pairs = shown::solution(alloc, &copy.solution)?;
+    format!(in alloc; "{origin}: {pairs}").ok()
+}

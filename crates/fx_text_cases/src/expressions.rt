@@ -1,0 +1,124 @@
+//! The calls of `fx_expr`.
+
+use fx_algebra::{Expr, Solution};
+use fx_expr::{compare_keys, holds, truth, value};
+use fx_notation::{escapes, notation, shown};
+use fx_terms::{Name, Term};
+use std::alloc::Global;
+use std::cmp::Ordering;
+
+/// What a call gives.
+pub fn answer(alloc: Global, call: &str, inputs: &[&str]) -> Option<String> {
+    match (call, inputs) {
+        ("value", [expression]) => value_text(alloc, expression),
+        ("value of each", [expression, operands]) => value_letters(alloc, expression, operands),
+        ("truth", [term]) => truth_text(alloc, term),
+        ("holds", [conditions]) => held(alloc, conditions),
+        ("compare_keys", [left, right]) => order_text(alloc, left, right),
+        ("compare_keys of all", [keys]) => rising(alloc, keys),
+        _ => None,
+    }
+}
+
+// A value, or the error.
+fn value_text(alloc: Global, field: &str) -> Option<String> {
+    let text = escapes::text(alloc, field)?;
+    let expr = notation::expression(alloc, text.as_str())?;
+    match value_of(alloc, &expr)? {
+        Some(term) => shown::term(alloc, &term),
+        None => shown::word(alloc, "error"),
+    }
+}
+
+// The variable i has a value, and the others have none.
+fn value_of(alloc: Global, expr: &Expr) -> Option<Option<Term>> {
+    let name = Name::read(alloc, "i").ok()?;
+    let seven = notation::term(alloc, "7")?;
+    let solution = bound(alloc, &Solution::empty(alloc), &name, &seven)?;
+    value(alloc, expr, &solution).ok()
+}
+
+fn bound(alloc: Global, solution: &Solution, name: &Name, term: &Term) -> Option<Solution> {
+    match solution.get(name) {
+        Some(_) => None,
+        None => solution.with(alloc, name, term).ok(),
+    }
+}
+
+// A letter for the value with each operand in the place of `#`: T for true, F for false, E for the error.
+fn value_letters(alloc: Global, expression: &str, operands: &str) -> Option<String> {
+    let (before, behind) = expression.split_once('#')?;
+    let mut letters = String::new(alloc);
+    for operand in operands.split(" ; ") {
+        let text = format!(in alloc; "{before}{operand}{behind}").ok()?;
+        let found = value_text(alloc, text.as_str())?;
+        letters.push(letter(found.as_str())).ok()?;
+    }
+    Some(letters)
+}
+
+fn letter(value: &str) -> char {
+    match value {
+        "\"true\"^^xsd:boolean" => 'T',
+        "\"false\"^^xsd:boolean" => 'F',
+        "error" => 'E',
+        _ => '?',
+    }
+}
+
+fn truth_text(alloc: Global, text: &str) -> Option<String> {
+    match truth(&notation::term(alloc, text)?) {
+        Some(truth) => shown::truth(alloc, truth),
+        None => shown::word(alloc, "error"),
+    }
+}
+
+// Whether all conditions hold on the solution that binds nothing.
+fn held(alloc: Global, field: &str) -> Option<String> {
+    let conditions = notation::expressions(alloc, field)?;
+    let nothing = Solution::empty(alloc);
+    let held = holds(alloc, conditions.as_slice(), &nothing).ok()?;
+    shown::truth(alloc, held)
+}
+
+fn order_text(alloc: Global, left: &str, right: &str) -> Option<String> {
+    let left = key(alloc, left)?;
+    let right = key(alloc, right)?;
+    match compare_keys(left.as_ref(), right.as_ref()) {
+        Ordering::Less => shown::word(alloc, "Less"),
+        Ordering::Equal => shown::word(alloc, "Equal"),
+        Ordering::Greater => shown::word(alloc, "Greater"),
+    }
+}
+
+// A term as a key, or the error.
+fn key(alloc: Global, text: &str) -> Option<Option<Term>> {
+    if text == "error" {
+        return Some(None);
+    }
+    Some(Some(notation::term(alloc, text)?))
+}
+
+// Whether each key of a list is less than those behind it, greater than those before it, and equal to itself.
+fn rising(alloc: Global, field: &str) -> Option<String> {
+    let mut keys = Vec::new(alloc);
+    for text in field.split(" ; ") {
+        keys.push(key(alloc, text)?).ok()?;
+    }
+    for (key, place) in keys.iter().zip(0u64..) {
+        if let Some(other) = first_amiss(keys.as_slice(), key.as_ref(), place) {
+            return format!(in alloc; "{place} and {other} are out of order").ok();
+        }
+    }
+    shown::word(alloc, "rising")
+}
+
+// The place of the first key to which the key of a place doesn't stand as the places stand.
+fn first_amiss(keys: &[Option<Term>], key: Option<&Term>, place: u64) -> Option<u64> {
+    for (other, at) in keys.iter().zip(0u64..) {
+        if compare_keys(key, other.as_ref()) != place.cmp(&at) {
+            return Some(at);
+        }
+    }
+    None
+}

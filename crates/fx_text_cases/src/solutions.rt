@@ -1,0 +1,118 @@
+//! The calls of `fx_solutions`.
+
+use fx_algebra::Solution;
+use fx_notation::{notation, shown};
+use fx_solutions::{
+    answer_of_rows, extend, filter, in_order, inline_rows, join, join_with, left_join,
+    left_join_with, minus, minus_with, ordered, union,
+};
+use fx_terms::{Memory, Name};
+use std::alloc::Global;
+
+/// What a call gives.
+pub fn answer(alloc: Global, call: &str, inputs: &[&str]) -> Option<String> {
+    match (call, inputs) {
+        ("inline_rows", [block]) => inline(alloc, block),
+        ("filter", [rows, conditions]) => filtered(alloc, rows, conditions),
+        ("extend", [rows, name, expression]) => extended(alloc, rows, name, expression),
+        ("ordered", [columns, rows]) => ordered_text(alloc, columns, rows),
+        ("in_order", [keys, columns, rows]) => by_keys(alloc, keys, columns, rows),
+        ("answer_of_rows", [query, rows]) => answered(alloc, query, rows),
+        (_, [left, right]) => of_two(alloc, call, left, right),
+        (_, [left, right, conditions]) => of_left_join(alloc, call, left, right, conditions),
+        _ => None,
+    }
+}
+
+fn inline(alloc: Global, block: &str) -> Option<String> {
+    let block = notation::inline(alloc, block)?;
+    text(alloc, inline_rows(alloc, &block))
+}
+
+fn filtered(alloc: Global, rows: &str, conditions: &str) -> Option<String> {
+    let rows = notation::solutions(alloc, rows)?;
+    let conditions = notation::expressions(alloc, conditions)?;
+    text(alloc, filter(alloc, rows.as_slice(), conditions.as_slice()))
+}
+
+fn extended(alloc: Global, rows: &str, name: &str, expression: &str) -> Option<String> {
+    let rows = notation::solutions(alloc, rows)?;
+    let name = Name::read(alloc, name).ok()?;
+    let expression = notation::expression(alloc, expression)?;
+    text(alloc, extend(alloc, rows.as_slice(), &name, &expression))
+}
+
+fn ordered_text(alloc: Global, columns: &str, rows: &str) -> Option<String> {
+    let columns = notation::names(alloc, columns)?;
+    let rows = notation::solutions(alloc, rows)?;
+    text(alloc, ordered(alloc, columns.as_slice(), rows.as_slice()))
+}
+
+fn by_keys(alloc: Global, keys: &str, columns: &str, rows: &str) -> Option<String> {
+    let query = notation::query_by(alloc, keys)?;
+    let columns = notation::names(alloc, columns)?;
+    let rows = notation::solutions(alloc, rows)?;
+    let keys = query.order.as_slice();
+    text(
+        alloc,
+        in_order(alloc, keys, columns.as_slice(), rows.as_slice()),
+    )
+}
+
+fn answered(alloc: Global, query: &str, rows: &str) -> Option<String> {
+    let query = notation::query(alloc, query)?;
+    let rows = notation::solutions(alloc, rows)?;
+    let answer = answer_of_rows(alloc, &query, rows.as_slice()).ok()?;
+    shown::answer(alloc, &answer)
+}
+
+// What a call of two lists of rows gives.
+fn of_two(alloc: Global, call: &str, left: &str, right: &str) -> Option<String> {
+    let left = notation::solutions(alloc, left)?;
+    let right = notation::solutions(alloc, right)?;
+    match call {
+        "union" => text(alloc, union(alloc, left.as_slice(), right.as_slice())),
+        "minus" => text(alloc, minus(alloc, left.as_slice(), right.as_slice())),
+        "minus_with" => text(alloc, minus_with(alloc, left.as_slice(), right)),
+        "join" => sorted(alloc, join(alloc, left.as_slice(), right.as_slice())),
+        "join_with" => sorted(alloc, join_with(alloc, left.as_slice(), right)),
+        _ => None,
+    }
+}
+
+fn of_left_join(
+    alloc: Global,
+    call: &str,
+    left: &str,
+    right: &str,
+    conditions: &str,
+) -> Option<String> {
+    let left = notation::solutions(alloc, left)?;
+    let right = notation::solutions(alloc, right)?;
+    let tests = notation::expressions(alloc, conditions)?;
+    let (left, tests) = (left.as_slice(), tests.as_slice());
+    match call {
+        "left_join" => sorted(alloc, left_join(alloc, left, right.as_slice(), tests)),
+        "left_join_with" => sorted(alloc, left_join_with(alloc, left, right, tests)),
+        _ => None,
+    }
+}
+
+fn text(alloc: Global, rows: Result<Vec<Solution>, Memory>) -> Option<String> {
+    shown::rows(alloc, rows.ok()?.as_slice())
+}
+
+// The texts of rows in their own order.
+fn sorted(alloc: Global, rows: Result<Vec<Solution>, Memory>) -> Option<String> {
+    let mut texts = Vec::new(alloc);
+    for row in rows.ok()?.as_slice() {
+        texts.push(shown::solution(alloc, row)?).ok()?;
+    }
+    texts.sort().ok()?;
+    let mut text = String::new(alloc);
+    for row in texts.as_slice() {
+        text.push_str(row.as_str()).ok()?;
+        text.push(';').ok()?;
+    }
+    Some(text)
+}

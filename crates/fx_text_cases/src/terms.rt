@@ -1,0 +1,142 @@
+//! The calls of `fx_terms`.
+
+use fx_notation::{escapes, notation, shown};
+use fx_terms::{
+    Graph, Iri, Literal, LiteralError, Name, NameError, Pattern, Term, TermError, is_tag,
+    write_iri, write_term,
+};
+use std::alloc::Global;
+
+/// What a call gives.
+pub fn answer(alloc: Global, call: &str, inputs: &[&str]) -> Option<String> {
+    match (call, inputs) {
+        ("Iri::read", [text]) => read_iri(alloc, text),
+        ("Name::read", [text]) => read_name(alloc, text),
+        ("Literal::plain", [form]) => plain(alloc, form),
+        ("Literal::typed", [form, datatype]) => typed(alloc, form, datatype),
+        ("Literal::tagged", [form, tag]) => tagged(alloc, form, tag),
+        ("is_tag", [tag]) => shown::truth(alloc, is_tag(tag)),
+        ("Term::compare", [terms]) => compare(alloc, terms),
+        ("Graph::of", [graph]) => graph_of(alloc, graph),
+        ("Graph::copy", [graph]) => copy_graph(alloc, graph),
+        ("Pattern::copy", [pattern]) => copy_pattern(alloc, pattern),
+        ("write_iri", [text]) => written_iri(alloc, text),
+        ("write_term", [term]) => written_term(alloc, term),
+        _ => None,
+    }
+}
+
+fn read_iri(alloc: Global, field: &str) -> Option<String> {
+    let text = escapes::text(alloc, field)?;
+    match Iri::read(alloc, text.as_str()) {
+        Ok(iri) => shown::word(alloc, iri.text()),
+        Err(TermError::BadCharacter { place }) => {
+            format!(in alloc; "BadCharacter at {place}").ok()
+        }
+        Err(TermError::Relative) => shown::word(alloc, "Relative"),
+        Err(TermError::Memory) => None,
+    }
+}
+
+fn read_name(alloc: Global, field: &str) -> Option<String> {
+    let text = escapes::text(alloc, field)?;
+    match Name::read(alloc, text.as_str()) {
+        Ok(name) => shown::word(alloc, name.text()),
+        Err(NameError::BadName) => shown::word(alloc, "BadName"),
+        Err(NameError::Memory) => None,
+    }
+}
+
+fn plain(alloc: Global, field: &str) -> Option<String> {
+    let form = escapes::text(alloc, field)?;
+    parts(alloc, &Literal::plain(alloc, form.as_str()).ok()?)
+}
+
+fn typed(alloc: Global, form: &str, datatype: &str) -> Option<String> {
+    let datatype = Iri::read(alloc, datatype).ok()?;
+    parts_or_error(alloc, &Literal::typed(alloc, form, &datatype))
+}
+
+fn tagged(alloc: Global, form: &str, tag: &str) -> Option<String> {
+    parts_or_error(alloc, &Literal::tagged(alloc, form, tag))
+}
+
+fn parts_or_error(alloc: Global, literal: &Result<Literal, LiteralError>) -> Option<String> {
+    match literal {
+        Ok(literal) => parts(alloc, literal),
+        Err(LiteralError::NeedsTag) => shown::word(alloc, "NeedsTag"),
+        Err(LiteralError::BadTag) => shown::word(alloc, "BadTag"),
+        Err(LiteralError::Memory) => None,
+    }
+}
+
+fn parts(alloc: Global, literal: &Literal) -> Option<String> {
+    let (form, tag) = (literal.form(), literal.tag());
+    let datatype = literal.datatype().text();
+    format!(in alloc; "form={form} datatype={datatype} tag={tag}").ok()
+}
+
+// Whether each term of a list is less than those behind it, greater than those before it, and equal to itself.
+fn compare(alloc: Global, field: &str) -> Option<String> {
+    let mut terms = Vec::new(alloc);
+    for text in field.split(" ; ") {
+        terms.push(notation::term(alloc, text)?).ok()?;
+    }
+    for (term, place) in terms.iter().zip(0u64..) {
+        if let Some(other) = first_amiss(terms.as_slice(), term, place) {
+            return format!(in alloc; "{place} and {other} are out of order").ok();
+        }
+    }
+    shown::word(alloc, "rising")
+}
+
+// The place of the first term to which the term of a place doesn't stand as the places stand.
+fn first_amiss(terms: &[Term], term: &Term, place: u64) -> Option<u64> {
+    for (other, at) in terms.iter().zip(0u64..) {
+        if term.compare(other) != place.cmp(&at) {
+            return Some(at);
+        }
+    }
+    None
+}
+
+fn graph_of(alloc: Global, text: &str) -> Option<String> {
+    shown::graph(alloc, &notation::graph(alloc, text)?)
+}
+
+fn copy_graph(alloc: Global, text: &str) -> Option<String> {
+    let graph = notation::graph(alloc, text)?;
+    copied_graph(alloc, &graph)
+}
+
+fn copied_graph(alloc: Global, graph: &Graph) -> Option<String> {
+    shown::graph(alloc, &graph.copy(alloc).ok()?)
+}
+
+fn copy_pattern(alloc: Global, text: &str) -> Option<String> {
+    copied_pattern(alloc, &notation::pattern(alloc, text)?)
+}
+
+fn copied_pattern(alloc: Global, pattern: &Pattern) -> Option<String> {
+    let copy = pattern.copy().ok()?;
+    if copy == *pattern {
+        shown::pattern(alloc, &copy)
+    } else {
+        shown::word(alloc, "another")
+    }
+}
+
+fn written_iri(alloc: Global, text: &str) -> Option<String> {
+    let iri = Iri::read(alloc, text).ok()?;
+    let mut written = String::new(alloc);
+    write_iri(&mut written, &iri).ok()?;
+    Some(written)
+}
+
+fn written_term(alloc: Global, field: &str) -> Option<String> {
+    let text = escapes::text(alloc, field)?;
+    let term = notation::term(alloc, text.as_str())?;
+    let mut written = String::new(alloc);
+    write_term(&mut written, &term).ok()?;
+    Some(written)
+}

@@ -1,0 +1,89 @@
+//! The calls of `fx_tokens`.
+
+use fx_notation::{escapes, fields, shown};
+use fx_tokens::{Token, TokenError, TokenFault, TokenKind, four, split_first, tokens};
+use std::alloc::Global;
+
+/// What a call gives.
+pub fn answer(alloc: Global, call: &str, inputs: &[&str]) -> Option<String> {
+    match (call, inputs) {
+        ("tokens", [text]) => read(alloc, text),
+        ("tokens of repeated", [piece, times]) => count(alloc, piece, times),
+        ("split_first", [text]) => split(alloc, text),
+        ("four", [high, text]) => four_digits(alloc, high, text),
+        _ => None,
+    }
+}
+
+// The tokens as kind, start and end, or the fault with its place.
+fn read(alloc: Global, field: &str) -> Option<String> {
+    let text = escapes::text(alloc, field)?;
+    match tokens(alloc, text.as_str()) {
+        Ok(tokens) => listed(alloc, tokens.as_slice()),
+        Err(TokenError::Bad { place, fault }) => {
+            let fault = fault_name(fault);
+            format!(in alloc; "Bad {place} {fault}").ok()
+        }
+        Err(TokenError::Memory) => None,
+    }
+}
+
+fn listed(alloc: Global, tokens: &[Token]) -> Option<String> {
+    let mut text = String::new(alloc);
+    for token in tokens {
+        if !text.is_empty() {
+            text.push(' ').ok()?;
+        }
+        let (kind, start, end) = (kind_name(token.kind), token.start, token.end);
+        let one = format!(in alloc; "{kind} {start} {end}").ok()?;
+        text.push_str(one.as_str()).ok()?;
+    }
+    Some(text)
+}
+
+fn kind_name(kind: TokenKind) -> &'static str {
+    match kind {
+        TokenKind::Iri => "Iri",
+        TokenKind::PrefixName => "PrefixName",
+        TokenKind::Variable => "Variable",
+        TokenKind::Blank => "Blank",
+        TokenKind::Tag => "Tag",
+        TokenKind::Integer => "Integer",
+        TokenKind::Signed => "Signed",
+        TokenKind::Decimal => "Decimal",
+        TokenKind::Text => "Text",
+        TokenKind::Word => "Word",
+        TokenKind::Mark => "Mark",
+    }
+}
+
+fn fault_name(fault: TokenFault) -> &'static str {
+    match fault {
+        TokenFault::Character => "Character",
+        TokenFault::Escape => "Escape",
+        TokenFault::Unclosed => "Unclosed",
+    }
+}
+
+// How many tokens a text has that is a piece so many times.
+fn count(alloc: Global, piece: &str, times: &str) -> Option<String> {
+    let piece = escapes::text(alloc, piece)?;
+    let text = fields::repeated(alloc, piece.as_str(), times)?;
+    let count = tokens(alloc, text.as_str()).ok()?.len();
+    format!(in alloc; "{count} tokens").ok()
+}
+
+fn split(alloc: Global, text: &str) -> Option<String> {
+    match split_first(text) {
+        Some((first, rest)) => format!(in alloc; "{first}, then {rest}").ok(),
+        None => shown::word(alloc, "None"),
+    }
+}
+
+fn four_digits(alloc: Global, high: &str, text: &str) -> Option<String> {
+    let high = high.parse::<u16>().ok()?;
+    match four(text, u32::from(high)) {
+        Some((number, rest)) => format!(in alloc; "{number}, then {rest}").ok(),
+        None => shown::word(alloc, "None"),
+    }
+}

@@ -1,0 +1,142 @@
+//! The calls of `fx_store`.
+
+use fx_algebra::Solution;
+use fx_notation::{notation, shown};
+use fx_store::Store;
+use fx_terms::{Pattern, Triple, write_iri, write_term};
+use std::alloc::Global;
+
+/// What a call gives.
+pub fn answer(alloc: Global, call: &str, inputs: &[&str]) -> Option<String> {
+    match (call, inputs) {
+        ("Store::triples", [graph]) => triples(alloc, graph),
+        ("Store::matches", [graph, pattern, solution]) => matches(alloc, graph, pattern, solution),
+        ("Store::extend of one row", [graph, pattern, row, count]) => {
+            extend(alloc, graph, pattern, row, count)
+        }
+        ("Store::has", [graph, triple]) => has(alloc, graph, triple),
+        _ => None,
+    }
+}
+
+/// The store of a graph.
+pub fn store(alloc: Global, graph: &str) -> Option<Store> {
+    Store::load(notation::graph(alloc, graph)?).ok()
+}
+
+fn triples(alloc: Global, graph: &str) -> Option<String> {
+    let store = store(alloc, graph)?;
+    let mut text = String::new(alloc);
+    for triple in store.triples() {
+        push_triple(&mut text, triple)?;
+    }
+    Some(text)
+}
+
+fn push_triple(text: &mut String, triple: &Triple) -> Option<()> {
+    write_iri(text, &triple.subject).ok()?;
+    text.push(' ').ok()?;
+    write_iri(text, &triple.predicate).ok()?;
+    text.push(' ').ok()?;
+    write_term(text, &triple.object).ok()?;
+    text.push(';').ok()
+}
+
+fn matches(alloc: Global, graph: &str, pattern: &str, solution: &str) -> Option<String> {
+    let store = store(alloc, graph)?;
+    matches_in(alloc, &store, pattern, solution)
+}
+
+fn matches_in(alloc: Global, store: &Store, pattern: &str, solution: &str) -> Option<String> {
+    let pattern = notation::pattern(alloc, pattern)?;
+    matches_of(alloc, store, &pattern, solution)
+}
+
+fn matches_of(alloc: Global, store: &Store, pattern: &Pattern, solution: &str) -> Option<String> {
+    let solution = notation::solution(alloc, solution)?;
+    matches_text(alloc, store, pattern, &solution)
+}
+
+fn matches_text(
+    alloc: Global,
+    store: &Store,
+    pattern: &Pattern,
+    solution: &Solution,
+) -> Option<String> {
+    let rows = store.matches(alloc, pattern, solution).ok()?;
+    shown::rows(alloc, rows.as_slice())
+}
+
+// What a row that stands so often is extended to by one call, where that is as often what it is extended to alone.
+fn extend(alloc: Global, graph: &str, pattern: &str, row: &str, count: &str) -> Option<String> {
+    let count = count.parse::<usize>().ok()?;
+    let store = store(alloc, graph)?;
+    extend_in(alloc, &store, pattern, row, count)
+}
+
+fn extend_in(
+    alloc: Global,
+    store: &Store,
+    pattern: &str,
+    row: &str,
+    count: usize,
+) -> Option<String> {
+    let pattern = notation::pattern(alloc, pattern)?;
+    extend_of(alloc, store, &pattern, row, count)
+}
+
+fn extend_of(
+    alloc: Global,
+    store: &Store,
+    pattern: &Pattern,
+    row: &str,
+    count: usize,
+) -> Option<String> {
+    let row = notation::solution(alloc, row)?;
+    both_ways(alloc, store, pattern, &row, count)
+}
+
+fn both_ways(
+    alloc: Global,
+    store: &Store,
+    pattern: &Pattern,
+    row: &Solution,
+    count: usize,
+) -> Option<String> {
+    let alone = matches_text(alloc, store, pattern, row)?;
+    let together = extended_text(alloc, store, pattern, row, count)?;
+    if together == alone.as_str().repeat(alloc, count).ok()? {
+        shown::word(alloc, "as each of them")
+    } else {
+        Some(together)
+    }
+}
+
+fn extended_text(
+    alloc: Global,
+    store: &Store,
+    pattern: &Pattern,
+    row: &Solution,
+    count: usize,
+) -> Option<String> {
+    let mut rows = Vec::new(alloc);
+    for _ in 0..count {
+        rows.push(row.copy(alloc).ok()?).ok()?;
+    }
+    let rows = store.extend(alloc, pattern, rows.as_slice()).ok()?;
+    shown::rows(alloc, rows.as_slice())
+}
+
+fn has(alloc: Global, graph: &str, triple: &str) -> Option<String> {
+    let store = store(alloc, graph)?;
+    has_in(alloc, &store, triple)
+}
+
+fn has_in(alloc: Global, store: &Store, triple: &str) -> Option<String> {
+    let triple = triple_of(alloc, triple)?;
+    shown::truth(alloc, store.has(&triple))
+}
+
+fn triple_of(alloc: Global, text: &str) -> Option<Triple> {
+    notation::triple(&notation::pattern(alloc, text)?)
+}
