@@ -1,10 +1,10 @@
 -- What the texts of files give.
 use Rattle.std.proofs.Common.{◌≡◌, ◌∙◌, ap, sym, subst, ℕ, ◌≤◌, List, Option, Some, None, Err, length}
 use Rattle.std.specs.Prelude.{IfSome}
-use Rattle.fx_syntax.specs.Refused.{IsRefused, IsCause}
-use Rattle.fx_syntax.specs.declared.kinds.SyntaxKind.{SyntaxKind}
-use Rattle.fx_syntax.specs.declared.parsing.SyntaxError.{SyntaxError}
-use Rattle.fx_syntax.specs.declared.parsing.SyntaxError.TheVariants.{Refused}
+use Rattle.fx_grammar.specs.Refused.{IsRefused, IsCause}
+use Rattle.fx_grammar.specs.declared.refusals.SyntaxKind.{SyntaxKind}
+use Rattle.fx_grammar.specs.declared.refusals.SyntaxError.{SyntaxError}
+use Rattle.fx_grammar.specs.declared.refusals.SyntaxError.TheVariants.{Refused}
 use Rattle.fx_terms.specs.declared.triples.Triple.{Triple}
 use Rattle.fx_ntriples.specs.Answers.{Answers}
 use Rattle.fx_ntriples.specs.Forms.{IsDocument}

@@ -4,7 +4,7 @@ use Rattle.std.specs.Prelude.{IfSome, slice_get, Result}
 use Rattle.fx_outside.specs.Endpoints.{EndpointParts}
 use Rattle.fx_algebra.specs.Answers.{is_plain, IsPlain}
 use Rattle.fx_algebra.specs.declared.queries.Query.{Query}
-use Rattle.fx_syntax.specs.Accepted.{Accepted}
+use Rattle.fx_grammar.specs.Accepted.{Accepted}
 use Rattle.fx_sources.specs.Registries.{read_registry}
 use Rattle.fx_sources.specs.declared.errors.RegistryError.TheVariants as error
 use Rattle.fx_wire.specs.Exchanges.{Exchange, Seen}

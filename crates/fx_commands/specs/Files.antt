@@ -3,9 +3,9 @@ use Rattle.std.specs.Prelude.{◌≡◌, ℕ, ◌<◌, ◌≤◌, List, Option, 
 use Rattle.fx_terms.specs.declared.triples.Triple.{Triple}
 use Rattle.fx_outside.specs.Endpoints.{EndpointParts}
 use Rattle.fx_algebra.specs.declared.queries.Query.{Query}
-use Rattle.fx_syntax.specs.Accepted.{Accepted}
-use Rattle.fx_syntax.specs.Refused.{IsRefused}
-use Rattle.fx_syntax.specs.declared.kinds.SyntaxKind.{SyntaxKind}
+use Rattle.fx_grammar.specs.Accepted.{Accepted}
+use Rattle.fx_grammar.specs.Refused.{IsRefused}
+use Rattle.fx_grammar.specs.declared.refusals.SyntaxKind.{SyntaxKind}
 use Rattle.fx_ntriples.specs.Forms.{IsDocument}
 use Rattle.fx_ntriples.specs.Reading.{read_document}
 use Rattle.fx_ntriples.specs.declared.faults.NtError.{NtError}

@@ -11,8 +11,8 @@ use Rattle.fx_sources.specs.declared.errors.RegistryError.{RegistryError}
 use Rattle.fx_sources.specs.declared.errors.RegistryError.TheVariants as registry
 use Rattle.fx_engine.specs.FaultTexts.{fault_text}
 use Rattle.fx_engine.specs.declared.errors.ReplyFault.{ReplyFault}
-use Rattle.fx_syntax.specs.Refused.{kind_name}
-use Rattle.fx_syntax.specs.declared.kinds.SyntaxKind.{SyntaxKind}
+use Rattle.fx_grammar.specs.Refused.{kind_name}
+use Rattle.fx_grammar.specs.declared.refusals.SyntaxKind.{SyntaxKind}
 
 abbrev pub line : List ℕ → List ℕ
 line text = text ++ 10 ∷ []

@@ -5,8 +5,8 @@ use Rattle.fx_terms.specs.declared.triples.Triple.{Triple}
 use Rattle.fx_algebra.specs.Answers.{answer, no_graphs}
 use Rattle.fx_algebra.specs.Occurrences.{services}
 use Rattle.fx_algebra.specs.declared.queries.Query.{Query}
-use Rattle.fx_syntax.specs.Accepted.{Accepted}
-use Rattle.fx_syntax.specs.declared.kinds.SyntaxKind.{SyntaxKind}
+use Rattle.fx_grammar.specs.Accepted.{Accepted}
+use Rattle.fx_grammar.specs.declared.refusals.SyntaxKind.{SyntaxKind}
 use Rattle.fx_ntriples.specs.Forms.{IsDocument}
 use Rattle.fx_ntriples.specs.declared.faults.NtError.{NtError}
 use Rattle.fx_results.specs.Documents.{document}

@@ -8,7 +8,7 @@ use Rattle.fx_algebra.specs.Answers.{answer, no_graphs}
 use Rattle.fx_algebra.specs.Occurrences.{services}
 use Rattle.fx_outside.specs.Streams.{AppendsFront}
 use Rattle.fx_results.specs.Documents.{document}
-use Rattle.fx_syntax.specs.Accepted.{Accepted}
+use Rattle.fx_grammar.specs.Accepted.{Accepted}
 use Rattle.fx_commands.specs.declared.limits.TheConstants.{GRAPH_LIMIT, QUERY_LIMIT}
 use Rattle.fx_ntriples.specs.Forms.{IsDocument}
 use Rattle.fx_ntriples.specs.declared.faults.NtError.TheVariants as error

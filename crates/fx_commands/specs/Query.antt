@@ -7,8 +7,8 @@ use Rattle.fx_terms.specs.declared.triples.Triple.{Triple}
 use Rattle.fx_algebra.specs.Answers.{answer_alone, is_plain, IsPlain}
 use Rattle.fx_algebra.specs.Graphs.{union}
 use Rattle.fx_algebra.specs.declared.queries.Query.{Query}
-use Rattle.fx_syntax.specs.Accepted.{Accepted}
-use Rattle.fx_syntax.specs.declared.kinds.SyntaxKind.{SyntaxKind}
+use Rattle.fx_grammar.specs.Accepted.{Accepted}
+use Rattle.fx_grammar.specs.declared.refusals.SyntaxKind.{SyntaxKind}
 use Rattle.fx_results.specs.Documents.{document}
 use Rattle.fx_sources.specs.Keys.{key}
 use Rattle.fx_sources.specs.Patterns.{patterns}

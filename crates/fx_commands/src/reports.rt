@@ -6,7 +6,7 @@ ghost use Rattle.fx_outside.specs.Faults.{HasRisen};
 ghost use Rattle.fx_outside.specs.Streams.{AppendsFront};
 ghost use Rattle.fx_engine.specs.FaultTexts.{fault_text, with_code};
 ghost use Rattle.fx_commands.specs.Lines.{all_pieces, bad_reply, cannot_serve, Gains, graph_refused, line, no_memory, not_built, place, query_refused, registry_refused, request_too_long, unknown_service, usage_line};
-ghost use Rattle.fx_syntax.specs.Refused.{kind_name};
+ghost use Rattle.fx_grammar.specs.Refused.{kind_name};
 ghost use Rattle.fx_commands.specs.LocalSteps.{refusal_line, graph_line, query_line};
 ghost use Rattle.fx_commands.specs.QuerySteps.{registry_line};
 

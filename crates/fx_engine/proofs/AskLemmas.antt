@@ -35,8 +35,8 @@ use Rattle.fx_http.specs.Replies.{IsReply}
 use Rattle.fx_http.proofs.ReplyLaws.{reply_unique}
 use Rattle.fx_results.specs.Reading.{read_results}
 use Rattle.fx_results.specs.Meanings.{SameAnswer}
-use Rattle.fx_syntax.specs.Accepted.{Accepted}
-use Rattle.fx_syntax.specs.Printable.{pattern_query}
+use Rattle.fx_grammar.specs.Accepted.{Accepted}
+use Rattle.fx_spelling.specs.Printable.{pattern_query}
 use Rattle.fx_wire.specs.Exchanges.{exchanged}
 use Rattle.fx_wire.specs.Honest.{IsHonest}
 use Rattle.fx_engine.specs.MemberQueries.{columns_of, IsAsked}

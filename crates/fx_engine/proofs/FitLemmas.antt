@@ -19,11 +19,11 @@ use Rattle.fx_http.specs.Replies.{IsReply}
 use Rattle.fx_http.proofs.ReplyLaws.{reply_unique}
 use Rattle.fx_results.specs.Reading.{read_results}
 use Rattle.fx_results.specs.Meanings.{SameAnswer}
-use Rattle.fx_syntax.specs.Accepted.{Accepted}
-use Rattle.fx_syntax.specs.Printable.{AreFine, IsTriple, IsVerb, IsPrintable, Held, brackets, held, held_element, hold_element, hold_group, is_verb}
-use Rattle.fx_syntax.proofs.printing.Queries.{printed_is_accepted}
-use Rattle.fx_syntax.proofs.printing.Saying.{fine_both}
-use Rattle.fx_syntax.proofs.printing.Terms.{fine_triple}
+use Rattle.fx_grammar.specs.Accepted.{Accepted}
+use Rattle.fx_spelling.specs.Printable.{AreFine, IsTriple, IsVerb, IsPrintable, Held, brackets, held, held_element, hold_element, hold_group, is_verb}
+use Rattle.fx_spelling.proofs.Queries.{printed_is_accepted}
+use Rattle.fx_spelling.proofs.Saying.{fine_both}
+use Rattle.fx_spelling.proofs.Terms.{fine_triple}
 use Rattle.fx_wire.specs.Exchanges.{exchanged}
 use Rattle.fx_wire.specs.Honest.{IsHonest}
 use Rattle.fx_sources.specs.Sources.{ask_query, ask_text, fits}

@@ -8,8 +8,8 @@ use Rattle.fx_terms.specs.declared.patterns.Pattern.{Pattern}
 use Rattle.fx_outside.specs.Endpoints.{EndpointParts}
 use Rattle.fx_algebra.specs.Answers.{is_empty_list}
 use Rattle.fx_http.specs.Requests.{request_of}
-use Rattle.fx_syntax.specs.Printable.{pattern_query, IsTriple}
-use Rattle.fx_syntax.specs.Accepted.{Accepted}
+use Rattle.fx_spelling.specs.Printable.{pattern_query, IsTriple}
+use Rattle.fx_grammar.specs.Accepted.{Accepted}
 use Rattle.fx_wire.specs.Exchanges.{Exchange, Seen}
 use Rattle.fx_engine.specs.MemberQueries.{is_literal, IsAsked}
 use Rattle.fx_sources.specs.Sources.{ask_text}

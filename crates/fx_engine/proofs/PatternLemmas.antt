@@ -14,7 +14,7 @@ use Rattle.fx_algebra.specs.declared.queries.Element.{Element-F, fold-roll-Eleme
 use Rattle.fx_algebra.specs.declared.queries.Element.TheVariants as element
 use Rattle.fx_algebra.specs.declared.queries.Group.{fold-roll-Group}
 use Rattle.fx_algebra.proofs.BgpLemmas.{rows_from-bgp}
-use Rattle.fx_syntax.specs.Printable.{pattern_query}
+use Rattle.fx_spelling.specs.Printable.{pattern_query}
 use Rattle.fx_engine.specs.MemberQueries.{is_literal}
 
 pattern_is : (p : Pattern) → pattern_in (element.Triple p) ≡ Some p

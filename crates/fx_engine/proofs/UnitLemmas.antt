@@ -22,9 +22,9 @@ use Rattle.fx_plan.specs.Plans.{Asked, by_position, in_order, is_sooner, next, p
 use Rattle.fx_plan.specs.declared.parts.Part.TheVariants as part
 use Rattle.fx_plan.proofs.LawLemmas.{filters_are_own, no_source_is_left_out, units_are_of_the_run}
 use Rattle.fx_sources.specs.Sources.{fits, graph_of, sources}
-use Rattle.fx_syntax.specs.Printable.{Held, all_held, are_fresh, held, held_element, hold_element, hold_group, is_verb}
-use Rattle.fx_syntax.specs.Units.{IsExclusive, IsFit, IsPushed, IsSingle}
-use Rattle.fx_syntax.proofs.printing.TakenQueries.{accepted_is_printable}
+use Rattle.fx_spelling.specs.Printable.{Held, all_held, are_fresh, held, held_element, hold_element, hold_group, is_verb}
+use Rattle.fx_spelling.specs.Units.{IsExclusive, IsFit, IsPushed, IsSingle}
+use Rattle.fx_spelling.proofs.TakenQueries.{accepted_is_printable}
 use Rattle.fx_engine.specs.Laws.{HasFitUnits, HasSoundUnits, UnitsAreFit, UnitsAreSound}
 use Rattle.fx_engine.specs.Sections.{Piece, pattern, condition, block, Outline, alternatives, element_piece, group_outline, names_before, outline, part_with, parts_with, piece, piece_filters, run_of, sections, sections_from}
 use Rattle.fx_engine.specs.declared.sections.Section.{Section}

@@ -15,8 +15,8 @@ use Rattle.fx_algebra.specs.declared.answers.Answer.{Answer}
 use Rattle.fx_algebra.specs.declared.queries.Query.{Query}
 use Rattle.fx_http.specs.Requests.{request_of}
 use Rattle.fx_http.specs.declared.replies.ReplyError.TheVariants.{TooLong}
-use Rattle.fx_syntax.specs.Accepted.{Accepted}
-use Rattle.fx_syntax.specs.Printable.{pattern_query}
+use Rattle.fx_grammar.specs.Accepted.{Accepted}
+use Rattle.fx_spelling.specs.Printable.{pattern_query}
 use Rattle.fx_wire.specs.Exchanges.{Exchange, Seen}
 use Rattle.fx_sources.specs.Keys.{key}
 use Rattle.fx_sources.specs.Patterns.{patterns}

@@ -6,8 +6,8 @@ use Rattle.fx_terms.specs.declared.patterns.PatternTerm.{PatternTerm}
 use Rattle.fx_terms.specs.declared.patterns.PatternTerm.TheVariants.{Variable, Constant}
 use Rattle.fx_algebra.specs.Printed.{printed_query}
 use Rattle.fx_algebra.specs.Scopes.{once, pattern_names}
-use Rattle.fx_syntax.specs.Accepted.{Accepted}
-use Rattle.fx_syntax.specs.Printable.{pattern_query}
+use Rattle.fx_grammar.specs.Accepted.{Accepted}
+use Rattle.fx_spelling.specs.Printable.{pattern_query}
 
 -- the variables of a pattern, each once
 abbrev pub columns_of : Pattern → List (List ℕ)

@@ -3,7 +3,7 @@ ghost use Rattle.std.specs.Prelude.{◌≡◌, true};
 ghost use Rattle.fx_terms.specs.declared.patterns.Pattern.{Pattern as PatternTree};
 ghost use Rattle.fx_outside.specs.Endpoints.{is_sendable};
 ghost use Rattle.fx_wire.specs.Exchanges.{IsAfter, seen};
-ghost use Rattle.fx_syntax.specs.Printable.{IsTriple};
+ghost use Rattle.fx_spelling.specs.Printable.{IsTriple};
 ghost use Rattle.fx_sources.specs.Sources.{ask_text as text_that_asks};
 ghost use Rattle.fx_engine.specs.Federation.{GivesFit, GivesRows, Posts};
 ghost use Rattle.fx_engine.specs.MemberQueries.{IsAsked};

@@ -2,7 +2,7 @@
 ghost use Rattle.std.specs.Prelude.{◌≡◌, ◌++◌, false, IfOk, OnOk, string_bytes};
 ghost use Rattle.fx_algebra.specs.Printed.{printed_query};
 ghost use Rattle.fx_algebra.specs.Scopes.{part_names, pattern_names};
-ghost use Rattle.fx_syntax.specs.Printable.{IsPart, IsTriple, pattern_query};
+ghost use Rattle.fx_spelling.specs.Printable.{IsPart, IsTriple, pattern_query};
 ghost use Rattle.fx_engine.specs.MemberQueries as spec;
 
 use fx_algebra::scopes::once;

@@ -23,12 +23,12 @@ use Rattle.fx_algebra.specs.declared.queries.Query.{Query}
 use Rattle.fx_algebra.proofs.ForcedLemmas.{name_from}
 use Rattle.fx_results.specs.Meanings.{is_within, binds_columns}
 use Rattle.fx_results.specs.Reading.{are_distinct}
-use Rattle.fx_syntax.specs.Accepted.{IsSpellable}
-use Rattle.fx_syntax.specs.Grammar.{query, body, query_of, form_of, columns_of, inline_columns}
-use Rattle.fx_syntax.specs.declared.kinds.Token.{Token}
-use Rattle.fx_syntax.specs.declared.parts.Head.{Head}
-use Rattle.fx_syntax.specs.declared.parts.Head.TheVariants as head
-use Rattle.fx_syntax.specs.declared.parts.Main.{Main}
+use Rattle.fx_grammar.specs.Accepted.{IsSpellable}
+use Rattle.fx_grammar.specs.Grammar.{query, body, query_of, form_of, columns_of, inline_columns}
+use Rattle.fx_grammar.specs.declared.kinds.Token.{Token}
+use Rattle.fx_grammar.specs.declared.parts.Head.{Head}
+use Rattle.fx_grammar.specs.declared.parts.Head.TheVariants as head
+use Rattle.fx_grammar.specs.declared.parts.Main.{Main}
 
 both : (a b : Bool) → (a && b) ≡ true → (a ≡ true) × (b ≡ true)
 both true b h = (refl, h)

@@ -15,7 +15,7 @@ use Rattle.fx_http.specs.declared.read_requests.RequestError.TheVariants as kind
 use Rattle.fx_http.proofs.ReadRequestLaws.{asks_one, request_asks_text}
 use Rattle.fx_results.specs.Documents.{document}
 use Rattle.fx_results.specs.Meanings.{Denotes}
-use Rattle.fx_syntax.specs.Accepted.{Accepted}
+use Rattle.fx_grammar.specs.Accepted.{Accepted}
 use Rattle.fx_wire.specs.Honest.{IsHonest, Replies}
 use Rattle.fx_member.specs.FirstHere.{first_up, first_here}
 use Rattle.fx_member.specs.GraphWires.{RepliesTo}

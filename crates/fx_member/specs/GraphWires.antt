@@ -5,7 +5,7 @@ use Rattle.fx_algebra.specs.Answers.{answer_alone}
 use Rattle.fx_algebra.specs.Occurrences.{services}
 use Rattle.fx_algebra.specs.declared.queries.Query.{Query}
 use Rattle.fx_outside.specs.NameCounts.{count_of}
-use Rattle.fx_syntax.specs.Accepted.{Accepted}
+use Rattle.fx_grammar.specs.Accepted.{Accepted}
 use Rattle.fx_terms.specs.Texts.{text_cmp}
 use Rattle.fx_terms.specs.declared.triples.Triple.{Triple}
 use Rattle.fx_wire.specs.Exchanges.{Exchange}

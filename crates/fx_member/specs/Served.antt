@@ -9,9 +9,9 @@ use Rattle.fx_http.specs.Requests.{Asks, status_of, request_error_name}
 use Rattle.fx_http.specs.WrittenReplies.{reply_of}
 use Rattle.fx_http.specs.declared.read_requests.RequestError.{RequestError}
 use Rattle.fx_results.specs.Documents.{document}
-use Rattle.fx_syntax.specs.Accepted.{Accepted}
-use Rattle.fx_syntax.specs.Refused.{IsRefused, kind_name}
-use Rattle.fx_syntax.specs.declared.kinds.SyntaxKind.{SyntaxKind}
+use Rattle.fx_grammar.specs.Accepted.{Accepted}
+use Rattle.fx_grammar.specs.Refused.{IsRefused, kind_name}
+use Rattle.fx_grammar.specs.declared.refusals.SyntaxKind.{SyntaxKind}
 
 -- a status, and the body of the reply
 pub record Told : Type 0 where

@@ -11,7 +11,7 @@ ghost use Rattle.fx_outside.specs.Faults.{HasRisen};
 ghost use Rattle.fx_outside.specs.Streams.{AppendsFront};
 ghost use Rattle.fx_results.specs.Documents.{document};
 ghost use Rattle.fx_results.specs.Meanings.{binds_columns};
-ghost use Rattle.fx_syntax.specs.Accepted.{IsSpellable};
+ghost use Rattle.fx_grammar.specs.Accepted.{IsSpellable};
 ghost use Rattle.fx_wire.specs.Honest.{IsHonest, Replies};
 
 use crate::answering::{MemberError, answer};

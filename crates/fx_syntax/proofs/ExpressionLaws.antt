@@ -1,11 +1,11 @@
 -- Which way an expression goes on, by its next token.
 use Rattle.std.proofs.Common.{◌≡◌, Bool, true, false, ◌||◌, List, refl, [], ◌∷◌}
-use Rattle.fx_syntax.specs.Kinds.{is, kind_of}
-use Rattle.fx_syntax.specs.declared.kinds.Kind.TheVariants as k
-use Rattle.fx_syntax.specs.declared.kinds.Token.{Token}
-use Rattle.fx_syntax.specs.declared.kinds.SyntaxKind.TheVariants.{Unsupported, Unexpected}
-use Rattle.fx_syntax.specs.Rule.{Rule, sees, refuse}
-use Rattle.fx_syntax.specs.Grammar.{Prefixes, constraint, condition, whole_expression, parens, call, primary, primary_iri, primary_literal, iri_name, variable, is_iri_name}
+use Rattle.fx_grammar.specs.Kinds.{is, kind_of}
+use Rattle.fx_grammar.specs.declared.kinds.Kind.TheVariants as k
+use Rattle.fx_grammar.specs.declared.kinds.Token.{Token}
+use Rattle.fx_grammar.specs.declared.refusals.SyntaxKind.TheVariants.{Unsupported, Unexpected}
+use Rattle.fx_grammar.specs.Rule.{Rule, sees, refuse}
+use Rattle.fx_grammar.specs.Grammar.{Prefixes, constraint, condition, whole_expression, parens, call, primary, primary_iri, primary_literal, iri_name, variable, is_iri_name}
 use Rattle.fx_algebra.specs.declared.expressions.Expr.{Expr}
 use Rattle.fx_syntax.proofs.Loops.{sees-alone}
 

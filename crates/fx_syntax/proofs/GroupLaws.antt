@@ -4,17 +4,17 @@ use Rattle.fx_terms.specs.declared.patterns.Pattern.{Pattern}
 use Rattle.fx_algebra.specs.Scopes.{is_among, with_name}
 use Rattle.fx_algebra.specs.declared.queries.Element.{Element}
 use Rattle.fx_algebra.specs.declared.queries.Group.{roll-Group}
-use Rattle.fx_syntax.specs.Kinds.{is}
-use Rattle.fx_syntax.specs.declared.kinds.Kind.{Kind}
-use Rattle.fx_syntax.specs.declared.kinds.SyntaxKind.TheVariants.{Unsupported}
-use Rattle.fx_syntax.proofs.KindLaws.{apart_by}
-use Rattle.fx_syntax.proofs.RuleLaws.{sees-left, sees-right, sees-apart}
-use Rattle.fx_syntax.specs.declared.kinds.Kind.TheVariants as k
-use Rattle.fx_syntax.specs.declared.kinds.Token.{Token}
+use Rattle.fx_grammar.specs.Kinds.{is}
+use Rattle.fx_grammar.specs.declared.kinds.Kind.{Kind}
+use Rattle.fx_grammar.specs.declared.refusals.SyntaxKind.TheVariants.{Unsupported}
+use Rattle.fx_grammar.proofs.KindLaws.{apart_by}
+use Rattle.fx_grammar.proofs.RuleLaws.{sees-left, sees-right, sees-apart}
+use Rattle.fx_grammar.specs.declared.kinds.Kind.TheVariants as k
+use Rattle.fx_grammar.specs.declared.kinds.Token.{Token}
 use Rattle.std.specs.List.{flat_map}
-use Rattle.fx_syntax.specs.Rule.{Apart, Outcome, Refusal, refuse, made, opt, and_then, sees, shape_of, with_front, with_each, number_from}
-use Rattle.fx_syntax.specs.Grammar.{Prefixes, option_items, same_subject, dot_triples, more_triples, more_triples_from, triples, row, new_column, columns, item, items, items_from, with_elements, group, group_of, inside, first_triples, triple_elements, graph_term, part_literal, literal, text_suffix, datatype, iri_name, variable, properties, more_properties, property, objects, verb, verb_iri, no_path}
-use Rattle.fx_syntax.proofs.GrammarLaws.{dot_law, dot_fits, dot_takes, new_column_law, new_column_fits, new_column_takes, item_law, item_fits, item_takes}
+use Rattle.fx_grammar.specs.Rule.{Apart, Outcome, Refusal, refuse, made, opt, and_then, sees, shape_of, with_front, with_each, number_from}
+use Rattle.fx_grammar.specs.Grammar.{Prefixes, option_items, same_subject, dot_triples, more_triples, more_triples_from, triples, row, new_column, columns, item, items, items_from, with_elements, group, group_of, inside, first_triples, triple_elements, graph_term, part_literal, literal, text_suffix, datatype, iri_name, variable, properties, more_properties, property, objects, verb, verb_iri, no_path}
+use Rattle.fx_grammar.proofs.GrammarLaws.{dot_law, dot_fits, dot_takes, new_column_law, new_column_fits, new_column_takes, item_law, item_fits, item_takes}
 use Rattle.fx_syntax.proofs.Loops.{from_turn, from_fails, from_ends, from_smaller, from_each_turn, from_each_fails, from_each_ends, each_is, no_front, sees-alone}
 
 sees-neither : (p q : Kind → Bool) (ts : List Token) → sees p ts ≡ false → sees q ts ≡ false → sees (λ kind. p kind || q kind) ts ≡ false

@@ -1,14 +1,7 @@
 pub mod ExpressionLaws
-pub mod GrammarLaws
 pub mod GroupLaws
-pub mod KindLaws
 pub mod Loops
 pub mod NumberLaws
 pub mod ParsingLaws
-pub mod RuleKept
-pub mod RuleLaws
-pub mod RuleLocal
-pub mod RuleWhole
 pub mod ScopeLaws
 pub mod TextLaws
-pub mod printing

@@ -1,14 +1,15 @@
 -- Loops that read any number of parts, and a rule that may hold itself.
 use Rattle.std.proofs.Common.{◌≡◌, ℕ, Option, Some, None, zero, suc, ◌-◌, ◌<◌, Bool, true, false, cond, List, [], ◌∷◌, ◌++◌, length, Ok, Err, refl, sym, ap, ◌∙◌, arith, append_assoc, append-nil, ◌||◌, subst, sub-one}
-use Rattle.fx_syntax.specs.Kinds.{is, kind_of}
-use Rattle.fx_syntax.specs.declared.kinds.Kind.{Kind}
-use Rattle.fx_syntax.specs.declared.kinds.Token.{Token}
-use Rattle.fx_syntax.specs.declared.kinds.SyntaxKind.TheVariants.{Unexpected}
-use Rattle.fx_syntax.specs.declared.kinds.Fault.{Fault}
-use Rattle.fx_syntax.specs.declared.kinds.Fault.TheVariants.{Refused, Memory}
+use Rattle.fx_grammar.specs.Kinds.{is, kind_of}
+use Rattle.fx_grammar.specs.declared.kinds.Kind.{Kind}
+use Rattle.fx_grammar.specs.declared.kinds.Token.{Token}
+use Rattle.fx_grammar.specs.declared.refusals.SyntaxKind.TheVariants.{Unexpected}
+use Rattle.fx_syntax.specs.declared.faults.Fault.{Fault}
+use Rattle.fx_syntax.specs.declared.faults.Fault.TheVariants.{Refused, Memory}
 use Rattle.std.specs.List.{flat_map}
-use Rattle.fx_syntax.specs.Rule.{any_number, number_from, IsRefusal, refuse, made, with_front, more, Refusal, Outcome, and_then, Rule, Shape, shape_of, Shaped, chain, many, after, token, sees, depth, nested, seq, either, with_each, some, opt}
-use Rattle.fx_syntax.proofs.RuleLaws.{Lawful, lawful_item, same_shape, turn_of, turn_is, shortens, shortens_from, Shortens}
+use Rattle.fx_grammar.specs.Rule.{any_number, number_from, refuse, made, with_front, more, Refusal, Outcome, and_then, Rule, Shape, shape_of, Shaped, chain, many, after, token, sees, depth, nested, seq, either, with_each, some, opt}
+use Rattle.fx_syntax.specs.Gives.{IsRefusal}
+use Rattle.fx_grammar.proofs.RuleLaws.{Lawful, lawful_item, same_shape, turn_of, turn_is, shortens, shortens_from, Shortens}
 
 -- a refusal that is handed on, from what refuses to what then refuses too
 pub hands_on : {A B : Type 0} (fault : Fault) (o : Outcome A) (w : Outcome B) → IsRefusal fault o → ((r : Refusal) → o ≡ Err r → w ≡ Err r) → IsRefusal fault w

@@ -2,7 +2,7 @@
 use Rattle.std.proofs.Common.{◌≡◌, ℕ, ◌+◌, ◌-◌, ◌*◌, ◌<◌, ◌≤◌, suc, Bool, true, false, List, [], ◌∷◌, length, drop, get_or, drop-cons, Some, None, refl, sym, ap, ◌∙◌, arith, subst}
 use Rattle.std.specs.Prelude.{nat_le}
 use Rattle.std.proofs.lemmas.Bool.{leb-true, le-leb}
-use Rattle.fx_syntax.specs.Grammar.{number_from, number_in}
+use Rattle.fx_grammar.specs.Grammar.{number_from, number_in}
 
 grows : (v : ℕ) (ds : List ℕ) → v ≤ number_from v ds
 grows v [] = omega arith

@@ -7,26 +7,26 @@ use Rattle.fx_tokens.specs.declared.TokenFault.{TokenFault}
 use Rattle.fx_tokens.specs.declared.TokenError.{TokenError}
 use Rattle.fx_tokens.specs.declared.TokenError.TheVariants.{Bad, Memory as NoMemory}
 use Rattle.fx_tokens.specs.Answers.{UnlessMemory}
-use Rattle.fx_tokens.proofs.One.{one_answer}
 use Rattle.fx_algebra.specs.declared.queries.Query.{Query}
-use Rattle.fx_syntax.specs.Kinds.{kind_of}
-use Rattle.fx_syntax.specs.declared.classify.Context.{Context}
-use Rattle.fx_syntax.specs.Classified.{classified, all_placed, behind, outermost, says}
-use Rattle.fx_syntax.specs.Grammar.{query}
-use Rattle.fx_syntax.specs.Rule.{Outcome, IsRefusal, Refusal, read_whole}
-use Rattle.fx_syntax.specs.declared.kinds.SyntaxKind.{SyntaxKind}
-use Rattle.fx_syntax.specs.declared.kinds.SyntaxKind.TheVariants.{BadUtf8, BadToken}
-use Rattle.fx_syntax.specs.declared.kinds.Fault.{Fault}
-use Rattle.fx_syntax.specs.declared.kinds.Fault.TheVariants as fault
-use Rattle.fx_syntax.specs.declared.parsing.SyntaxError.{SyntaxError}
-use Rattle.fx_syntax.specs.declared.parsing.SyntaxError.TheVariants.{Refused, Memory}
-use Rattle.fx_syntax.specs.declared.kinds.Token.{Token}
+use Rattle.fx_grammar.specs.Kinds.{kind_of}
+use Rattle.fx_grammar.specs.declared.places.Context.{Context}
+use Rattle.fx_grammar.specs.Classified.{classified, all_placed, behind, outermost, says}
+use Rattle.fx_grammar.specs.Grammar.{query}
+use Rattle.fx_grammar.specs.Rule.{Outcome, Refusal, read_whole}
+use Rattle.fx_syntax.specs.Gives.{IsRefusal}
+use Rattle.fx_grammar.specs.declared.refusals.SyntaxKind.{SyntaxKind}
+use Rattle.fx_grammar.specs.declared.refusals.SyntaxKind.TheVariants.{BadUtf8, BadToken}
+use Rattle.fx_syntax.specs.declared.faults.Fault.{Fault}
+use Rattle.fx_syntax.specs.declared.faults.Fault.TheVariants as fault
+use Rattle.fx_grammar.specs.declared.refusals.SyntaxError.{SyntaxError}
+use Rattle.fx_grammar.specs.declared.refusals.SyntaxError.TheVariants.{Refused, Memory}
+use Rattle.fx_grammar.specs.declared.kinds.Token.{Token}
 use Rattle.std.proofs.lemmas.List.{drop_all}
-use Rattle.fx_syntax.specs.Accepted.{Accepted, OneQuery}
+use Rattle.fx_grammar.specs.Accepted.{Accepted}
 use Rattle.fx_syntax.specs.Answers.{fault_at, StandsWithin, bad_token, IsAnswer, AnswersTokens}
-use Rattle.fx_syntax.specs.Refused.{place_at, IsRefused, not_utf8, no_token, no_query, place_of, utf8_fault}
-use Rattle.fx_syntax.proofs.GrammarLaws.{kept_query}
-use Rattle.fx_syntax.proofs.RuleWhole.{whole_found, whole_read, same_value, left_within}
+use Rattle.fx_grammar.specs.Refused.{place_at, IsRefused, not_utf8, no_token, no_query, place_of, utf8_fault}
+use Rattle.fx_grammar.proofs.GrammarLaws.{kept_query}
+use Rattle.fx_grammar.proofs.RuleWhole.{whole_found, whole_read, same_value, left_within}
 
 pub memory_answered : (bytes : List ℕ) → IsAnswer bytes (Err Memory)
 memory_answered bytes = record { found = tt; only = λ q h. refl; refused = tt; first = λ kind place h. inl refl }
@@ -146,12 +146,3 @@ stands_within bytes tokens fault.Memory e = tt
 pub fault_answers : (bytes : List ℕ) (tokens : List read.Token) (fault : Fault) (s : SyntaxError) → IsRefusal fault (read_whole query (classified bytes tokens)) → s ≡ fault_at bytes tokens fault → AnswersTokens bytes tokens (Err s)
 fault_answers bytes tokens (fault.Refused why left) s e is = rw is (record { why = why; left = left }, e, refl, refl)
 fault_answers bytes tokens fault.Memory s e is = rw is tt
-
--- ---- the law
-
-pub one_query_holds : OneQuery
-one_query_holds bytes p q a b =
-    let one = one_tokens a.tokens b.tokens (Ok a.tokens) refl (one_answer 0 (chars bytes) (Ok a.tokens) (Ok b.tokens) a.lexed b.lexed) in
-    let first = whole_read query kept_query.law (classified bytes b.tokens) p (subst (λ (ts : List read.Token). query.spells (classified bytes ts) p) one a.spelled) in
-    let second = whole_read query kept_query.law (classified bytes b.tokens) q b.spelled in
-    same_value (read_whole query (classified bytes b.tokens)) p q [] [] first second

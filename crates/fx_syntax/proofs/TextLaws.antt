@@ -6,13 +6,13 @@ use Rattle.std.specs.Str.{chars, encode_utf8_all, IsUtf8}
 use Rattle.std.proofs.lemmas.Bool.{eqb-true}
 use Rattle.std.proofs.lemmas.Str.{encodes-chars}
 use Rattle.fx_tokens.specs.Scan.{hexes}
-use Rattle.fx_syntax.specs.Classified.{coded, eight, letter, escape, closes, next, unescaped, behind_first, prefix, behind_colon, local}
+use Rattle.fx_grammar.specs.Classified.{coded, eight, letter, escape, closes, next, unescaped, behind_first, prefix, behind_colon, local}
 use Rattle.fx_tokens.specs.declared.Token as read
-use Rattle.fx_syntax.specs.Kinds.{kind_of}
-use Rattle.fx_syntax.specs.Classified.{says, placed, behind, all_placed}
-use Rattle.fx_syntax.specs.declared.classify.Closing.{Closing}
-use Rattle.fx_syntax.specs.declared.classify.Context.{Context}
-use Rattle.fx_syntax.specs.declared.kinds.Token.{Token}
+use Rattle.fx_grammar.specs.Kinds.{kind_of}
+use Rattle.fx_grammar.specs.Classified.{says, placed, behind, all_placed}
+use Rattle.fx_grammar.specs.declared.places.Closing.{Closing}
+use Rattle.fx_grammar.specs.declared.places.Context.{Context}
+use Rattle.fx_grammar.specs.declared.kinds.Token.{Token}
 
 pub not_equal : (a b : ℕ) → (a ≡ b → ⊥) → (a == b) ≡ false
 not_equal a b n = go (a == b) refl

@@ -4,17 +4,17 @@ use Rattle.fx_tokens.specs.declared.Token as read
 use Rattle.fx_tokens.specs.declared.TokenError.{TokenError}
 use Rattle.fx_tokens.specs.declared.TokenError.TheVariants.{Bad, Memory as NoMemory}
 use Rattle.fx_algebra.specs.declared.queries.Query.{Query}
-use Rattle.fx_syntax.specs.Accepted.{Accepted}
-use Rattle.fx_syntax.specs.Classified.{classified}
-use Rattle.fx_syntax.specs.Grammar.{query}
-use Rattle.fx_syntax.specs.Refused.{IsRefused, IsCause, place_of}
-use Rattle.fx_syntax.specs.Rule.{Refusal, read_whole}
-use Rattle.fx_syntax.specs.declared.kinds.SyntaxKind.{SyntaxKind}
-use Rattle.fx_syntax.specs.declared.kinds.SyntaxKind.TheVariants.{BadToken}
-use Rattle.fx_syntax.specs.declared.kinds.Fault.{Fault}
-use Rattle.fx_syntax.specs.declared.kinds.Fault.TheVariants as fault
-use Rattle.fx_syntax.specs.declared.parsing.SyntaxError.{SyntaxError}
-use Rattle.fx_syntax.specs.declared.parsing.SyntaxError.TheVariants.{Refused, Memory}
+use Rattle.fx_grammar.specs.Accepted.{Accepted}
+use Rattle.fx_grammar.specs.Classified.{classified}
+use Rattle.fx_grammar.specs.Grammar.{query}
+use Rattle.fx_grammar.specs.Refused.{IsRefused, IsCause, place_of}
+use Rattle.fx_grammar.specs.Rule.{Refusal, read_whole}
+use Rattle.fx_grammar.specs.declared.refusals.SyntaxKind.{SyntaxKind}
+use Rattle.fx_grammar.specs.declared.refusals.SyntaxKind.TheVariants.{BadToken}
+use Rattle.fx_syntax.specs.declared.faults.Fault.{Fault}
+use Rattle.fx_syntax.specs.declared.faults.Fault.TheVariants as fault
+use Rattle.fx_grammar.specs.declared.refusals.SyntaxError.{SyntaxError}
+use Rattle.fx_grammar.specs.declared.refusals.SyntaxError.TheVariants.{Refused, Memory}
 
 -- unless memory ran out, the answer is a query, or a refusal, exactly where the text is or is refused so
 pub record IsAnswer (bytes : List ℕ) (result : Result Query SyntaxError) : Type 0 where

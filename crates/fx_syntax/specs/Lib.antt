@@ -1,10 +1,2 @@
-pub mod Accepted
 pub mod Answers
-pub mod Classified
-pub mod Grammar
-pub mod Keywords
-pub mod Kinds
-pub mod Printable
-pub mod Refused
-pub mod Rule
-pub mod Units
+pub mod Gives

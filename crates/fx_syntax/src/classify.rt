@@ -3,37 +3,13 @@ ghost use Rattle.std.specs.Prelude.{◌≡◌, All, IfOk, string_bytes, drop};
 ghost use Rattle.std.specs.Str.{chars, encode_utf8_all};
 ghost use Rattle.fx_tokens.specs.Reads.{IsSlice};
 ghost use Rattle.fx_tokens.specs.Answers.{left_number};
-ghost use Rattle.fx_syntax.specs.Classified as spec;
+ghost use Rattle.fx_grammar.specs.Classified as spec;
 
 use crate::keywords;
-use crate::kinds::{Kind, Text, Token, is};
+use fx_grammar::{Closing, Context, Kind, Service, Text, Token, is};
 use fx_terms::{Iri, Memory, Name, NameError, TermError};
 use fx_tokens::{TokenKind, four, split_first};
 use std::alloc::{AllocError, Global};
-
-/// Where a token stands: how many brackets are open before it, up to 64, and whether it is within a SERVICE.
-#[derive(Clone, Copy, PartialEq, Eq)]
-pub struct Context {
-    pub depth: u64,
-    pub service: Service,
-}
-
-/// Whether a token stands within a SERVICE.
-#[derive(Clone, Copy, PartialEq, Eq)]
-pub enum Service {
-    Outside,
-    /// Its braces are still to come.
-    Named,
-    /// Between its braces, before which so many brackets were open.
-    Inside(u64),
-}
-
-/// The signs behind which a token ends.
-#[derive(Clone, Copy, PartialEq, Eq)]
-pub enum Closing {
-    One(char),
-    Three(char),
-}
 
 /// What the tokens of a text say, each in its place.
 pub fn classify(

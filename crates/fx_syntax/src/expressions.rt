@@ -1,16 +1,16 @@
 //! Expressions. `depth` says how many more expressions may stand within one another.
 ghost use Rattle.std.specs.Prelude.{◌≡◌, ℕ, IfOk, None, Some, [], ◌∷◌};
-ghost use Rattle.fx_syntax.specs.Rule as rule;
-ghost use Rattle.fx_syntax.specs.Rule.{Gives};
-ghost use Rattle.fx_syntax.specs.Grammar as grammar;
+ghost use Rattle.fx_grammar.specs.Rule as rule;
+ghost use Rattle.fx_grammar.specs.Grammar as grammar;
+ghost use Rattle.fx_syntax.specs.Gives.{Gives};
 
-use crate::kinds::{Fault, Kind, SyntaxKind, Text, Token};
-use crate::parts::Relative;
+use crate::faults::Fault;
 use crate::readers::{
     comparison, iri_name, lacks, literal, mark, one_function, refuse, sees, sees_iri_name, signed,
     two_function, variable,
 };
 use fx_algebra::{Expr, Function, Sign};
+use fx_grammar::{Kind, Relative, SyntaxKind, Text, Token};
 use fx_terms::{Boxed, Iri, Items, Term};
 use std::alloc::{AllocError, Global};
 
@@ -116,7 +116,7 @@ fn called(alloc: Global, function: Function, args: Items<Expr>) -> Result<Boxed<
 }
 
 /// The next token is one with which a call begins, or the name of a function that this profile leaves out.
-#[tactic(auto, unfolding(crate::specs::Grammar::call, crate::specs::Grammar::bound_call, crate::specs::Grammar::coalesce_call, crate::specs::Grammar::if_call, crate::specs::Grammar::one_call, crate::specs::Grammar::two_call))]
+#[tactic(auto, unfolding(fx_grammar::specs::Grammar::call, fx_grammar::specs::Grammar::bound_call, fx_grammar::specs::Grammar::coalesce_call, fx_grammar::specs::Grammar::if_call, fx_grammar::specs::Grammar::one_call, fx_grammar::specs::Grammar::two_call))]
 pub fn sees_call(tokens: &[Token]) -> bool
     ensures { (ps : grammar.Prefixes) (n : ℕ) → result ≡ rule.sees (grammar.call (grammar.expression ps n)).begins tokens.now }
 {
@@ -134,7 +134,7 @@ fn sees_other_call(tokens: &[Token]) -> bool
     sees(tokens, Kind::OtherCall) || sees(tokens, Kind::Not)
 }
 
-#[tactic(auto, unfolding(crate::specs::Grammar::primary_iri, crate::specs::Grammar::no_call))]
+#[tactic(auto, unfolding(fx_grammar::specs::Grammar::primary_iri, fx_grammar::specs::Grammar::no_call))]
 fn primary_iri<'a>(
     alloc: Global,
     tokens: &'a [Token],
@@ -148,7 +148,7 @@ fn primary_iri<'a>(
     Ok((expr, rest))
 }
 
-#[tactic(auto, unfolding(crate::specs::Grammar::primary_literal))]
+#[tactic(auto, unfolding(fx_grammar::specs::Grammar::primary_literal))]
 fn primary_literal<'a>(
     alloc: Global,
     tokens: &'a [Token],
@@ -161,7 +161,7 @@ fn primary_literal<'a>(
     Ok((expr, rest))
 }
 
-#[tactic(auto, unfolding(crate::specs::Grammar::bound_call))]
+#[tactic(auto, unfolding(fx_grammar::specs::Grammar::bound_call))]
 fn bound_call(alloc: Global, tokens: &[Token]) -> Result<(Boxed<Expr>, &[Token]), Fault>
     ensures { Gives (λ x. (x.0, x.1.now)) result (grammar.bound_call.read tokens.now) }
 {
@@ -243,7 +243,7 @@ fn some_list<'a>(
     list_more(alloc, parts, rest, prefixes, depth)
 }
 
-#[tactic(auto, unfolding(crate::specs::Grammar::list))]
+#[tactic(auto, unfolding(fx_grammar::specs::Grammar::list))]
 #[cycle(expressions)]
 fn list<'a>(
     alloc: Global,
@@ -263,7 +263,7 @@ fn list<'a>(
     Ok((parts, rest))
 }
 
-#[tactic(auto, unfolding(crate::specs::Grammar::coalesce_call))]
+#[tactic(auto, unfolding(fx_grammar::specs::Grammar::coalesce_call))]
 #[cycle(expressions)]
 fn coalesce_call<'a>(
     alloc: Global,
@@ -279,7 +279,7 @@ fn coalesce_call<'a>(
     Ok((call, rest))
 }
 
-#[tactic(auto, unfolding(crate::specs::Grammar::two_args))]
+#[tactic(auto, unfolding(fx_grammar::specs::Grammar::two_args))]
 #[cycle(expressions)]
 fn two_args<'a>(
     alloc: Global,
@@ -295,7 +295,7 @@ fn two_args<'a>(
     Ok((first, second, rest))
 }
 
-#[tactic(auto, unfolding(crate::specs::Grammar::if_call))]
+#[tactic(auto, unfolding(fx_grammar::specs::Grammar::if_call))]
 #[cycle(expressions)]
 fn if_call<'a>(
     alloc: Global,
@@ -316,7 +316,7 @@ fn if_call<'a>(
     Ok((call, rest))
 }
 
-#[tactic(auto, unfolding(crate::specs::Grammar::one_call))]
+#[tactic(auto, unfolding(fx_grammar::specs::Grammar::one_call))]
 #[cycle(expressions)]
 fn one_call<'a>(
     alloc: Global,
@@ -333,7 +333,7 @@ fn one_call<'a>(
     Ok((call, rest))
 }
 
-#[tactic(auto, unfolding(crate::specs::Grammar::two_call))]
+#[tactic(auto, unfolding(fx_grammar::specs::Grammar::two_call))]
 #[cycle(expressions)]
 fn two_call<'a>(
     alloc: Global,
@@ -353,7 +353,7 @@ fn two_call<'a>(
 }
 
 /// A call of a function.
-#[tactic(auto, unfolding(crate::specs::Grammar::call, crate::specs::Grammar::bound_call, crate::specs::Grammar::coalesce_call, crate::specs::Grammar::if_call, crate::specs::Grammar::one_call, crate::specs::Grammar::two_call))]
+#[tactic(auto, unfolding(fx_grammar::specs::Grammar::call, fx_grammar::specs::Grammar::bound_call, fx_grammar::specs::Grammar::coalesce_call, fx_grammar::specs::Grammar::if_call, fx_grammar::specs::Grammar::one_call, fx_grammar::specs::Grammar::two_call))]
 #[cycle(expressions)]
 pub fn call<'a>(
     alloc: Global,
@@ -384,7 +384,7 @@ pub fn call<'a>(
     Err(refuse(SyntaxKind::Unexpected, tokens))
 }
 
-#[tactic(auto, unfolding(crate::specs::Grammar::primary, crate::specs::Grammar::call, crate::specs::Grammar::bound_call, crate::specs::Grammar::coalesce_call, crate::specs::Grammar::if_call, crate::specs::Grammar::one_call, crate::specs::Grammar::two_call, crate::specs::Grammar::primary_iri, crate::specs::Grammar::iri_name, crate::specs::Grammar::variable))]
+#[tactic(auto, unfolding(fx_grammar::specs::Grammar::primary, fx_grammar::specs::Grammar::call, fx_grammar::specs::Grammar::bound_call, fx_grammar::specs::Grammar::coalesce_call, fx_grammar::specs::Grammar::if_call, fx_grammar::specs::Grammar::one_call, fx_grammar::specs::Grammar::two_call, fx_grammar::specs::Grammar::primary_iri, fx_grammar::specs::Grammar::iri_name, fx_grammar::specs::Grammar::variable))]
 #[cycle(expressions)]
 fn primary<'a>(
     alloc: Global,
@@ -411,7 +411,7 @@ fn primary<'a>(
     primary_literal(alloc, tokens, prefixes)
 }
 
-#[tactic(auto, unfolding(crate::specs::Grammar::unary))]
+#[tactic(auto, unfolding(fx_grammar::specs::Grammar::unary))]
 #[cycle(expressions)]
 fn unary<'a>(
     alloc: Global,
@@ -442,7 +442,7 @@ fn unary<'a>(
     primary(alloc, tokens, prefixes, depth)
 }
 
-#[tactic(auto, unfolding(crate::specs::Grammar::factor, crate::specs::Grammar::no_quotient))]
+#[tactic(auto, unfolding(fx_grammar::specs::Grammar::factor, fx_grammar::specs::Grammar::no_quotient))]
 #[cycle(expressions)]
 fn factor<'a>(
     alloc: Global,
@@ -478,7 +478,7 @@ fn product_more<'a>(
     Ok((parts, rest))
 }
 
-#[tactic(auto, unfolding(crate::specs::Grammar::product))]
+#[tactic(auto, unfolding(fx_grammar::specs::Grammar::product))]
 #[cycle(expressions)]
 fn product<'a>(
     alloc: Global,
@@ -495,7 +495,7 @@ fn product<'a>(
     Ok((product, rest))
 }
 
-#[tactic(auto, unfolding(crate::specs::Grammar::signed_product))]
+#[tactic(auto, unfolding(fx_grammar::specs::Grammar::signed_product))]
 #[cycle(expressions)]
 fn signed_product<'a>(
     alloc: Global,
@@ -515,7 +515,7 @@ fn signed_product<'a>(
     Ok((Sign::Minus, part, rest))
 }
 
-#[tactic(auto, unfolding(crate::specs::Grammar::signed_literal))]
+#[tactic(auto, unfolding(fx_grammar::specs::Grammar::signed_literal))]
 #[cycle(expressions)]
 fn signed_literal<'a>(
     alloc: Global,
@@ -533,7 +533,7 @@ fn signed_literal<'a>(
     Ok((Sign::Plus, product, rest))
 }
 
-#[tactic(auto, unfolding(crate::specs::Grammar::addend, crate::specs::Grammar::signed_product))]
+#[tactic(auto, unfolding(fx_grammar::specs::Grammar::addend, fx_grammar::specs::Grammar::signed_product))]
 #[cycle(expressions)]
 fn addend<'a>(
     alloc: Global,
@@ -550,7 +550,7 @@ fn addend<'a>(
 }
 
 // Whether the next token goes on a sum.
-#[tactic(auto, unfolding(crate::specs::Grammar::addend, crate::specs::Grammar::signed_product, crate::specs::Grammar::signed_literal))]
+#[tactic(auto, unfolding(fx_grammar::specs::Grammar::addend, fx_grammar::specs::Grammar::signed_product, fx_grammar::specs::Grammar::signed_literal))]
 fn sees_addend(tokens: &[Token]) -> bool
     ensures { (ps : grammar.Prefixes) (n : ℕ) → result ≡ rule.sees (grammar.addend ps (grammar.expression ps n)).begins tokens.now }
 {
@@ -577,7 +577,7 @@ fn addends<'a>(
     Ok((parts, rest))
 }
 
-#[tactic(auto, unfolding(crate::specs::Grammar::sum, crate::specs::Rule::any_number))]
+#[tactic(auto, unfolding(fx_grammar::specs::Grammar::sum, fx_grammar::specs::Rule::any_number))]
 #[cycle(expressions)]
 fn sum<'a>(
     alloc: Global,
@@ -593,7 +593,7 @@ fn sum<'a>(
     Ok((sum, rest))
 }
 
-#[tactic(auto, unfolding(crate::specs::Grammar::compared))]
+#[tactic(auto, unfolding(fx_grammar::specs::Grammar::compared))]
 #[cycle(expressions)]
 fn compared<'a>(
     alloc: Global,
@@ -608,7 +608,7 @@ fn compared<'a>(
     Ok((Relative::Compared { op, right }, rest))
 }
 
-#[tactic(auto, unfolding(crate::specs::Grammar::among))]
+#[tactic(auto, unfolding(fx_grammar::specs::Grammar::among))]
 #[cycle(expressions)]
 fn among<'a>(
     alloc: Global,
@@ -629,7 +629,7 @@ fn among<'a>(
     Ok((Relative::Among { negated, list }, rest))
 }
 
-#[tactic(auto, unfolding(crate::specs::Grammar::compared, crate::specs::Grammar::among))]
+#[tactic(auto, unfolding(fx_grammar::specs::Grammar::compared, fx_grammar::specs::Grammar::among))]
 #[cycle(expressions)]
 fn relative<'a>(
     alloc: Global,
@@ -650,7 +650,7 @@ fn relative<'a>(
     Ok((None, tokens))
 }
 
-#[tactic(auto, unfolding(crate::specs::Grammar::relation))]
+#[tactic(auto, unfolding(fx_grammar::specs::Grammar::relation))]
 #[cycle(expressions)]
 fn relation<'a>(
     alloc: Global,
@@ -687,7 +687,7 @@ fn and_more<'a>(
     Ok((parts, rest))
 }
 
-#[tactic(auto, unfolding(crate::specs::Grammar::conjunction))]
+#[tactic(auto, unfolding(fx_grammar::specs::Grammar::conjunction))]
 #[cycle(expressions)]
 fn conjunction<'a>(
     alloc: Global,
@@ -725,7 +725,7 @@ fn or_more<'a>(
     Ok((parts, rest))
 }
 
-#[tactic(auto, unfolding(crate::specs::Grammar::disjunction))]
+#[tactic(auto, unfolding(fx_grammar::specs::Grammar::disjunction))]
 #[cycle(expressions)]
 fn disjunction<'a>(
     alloc: Global,

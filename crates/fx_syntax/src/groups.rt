@@ -1,22 +1,23 @@
 //! Groups. `depth` says how many more groups may stand within one another.
 ghost use Rattle.fx_algebra.specs.Scopes.{all_of, mentions, with_name};
 ghost use Rattle.std.specs.Prelude.{◌≡◌, ℕ, fold, IfOk, OnOk, true, map, [], ◌∷◌};
-ghost use Rattle.fx_syntax.specs.Rule as rule;
-ghost use Rattle.fx_syntax.specs.Rule.{Gives};
-ghost use Rattle.fx_syntax.specs.Grammar as grammar;
+ghost use Rattle.fx_grammar.specs.Rule as rule;
+ghost use Rattle.fx_grammar.specs.Grammar as grammar;
+ghost use Rattle.fx_syntax.specs.Gives.{Gives};
 
 use crate::expressions::{call, expression, parens, sees_call};
-use crate::kinds::{Fault, Kind, SyntaxKind, Text, Token};
+use crate::faults::Fault;
 use crate::readers::{iri_name, mark, refuse, sees, sees_iri_name};
 use crate::triples::{sees_graph_term, triples};
 use crate::values::{add, block, has, no_names};
 use fx_algebra::scopes::add_element;
 use fx_algebra::{Element, Expr, Group};
+use fx_grammar::{Kind, SyntaxKind, Text, Token};
 use fx_terms::{Boxed, Iri, Items, Memory, Name, Pattern};
 use indexmap::IndexSet;
 use std::alloc::{AllocError, Global};
 
-#[tactic(auto, unfolding(crate::specs::Grammar::whole_expression))]
+#[tactic(auto, unfolding(fx_grammar::specs::Grammar::whole_expression))]
 fn whole_expression<'a>(
     alloc: Global,
     tokens: &'a [Token],
@@ -28,7 +29,7 @@ fn whole_expression<'a>(
 }
 
 /// An expression between brackets.
-#[tactic(auto, unfolding(crate::specs::Grammar::whole_expression))]
+#[tactic(auto, unfolding(fx_grammar::specs::Grammar::whole_expression))]
 pub fn whole_parens<'a>(
     alloc: Global,
     tokens: &'a [Token],
@@ -39,7 +40,7 @@ pub fn whole_parens<'a>(
     parens(alloc, tokens, prefixes, 64)
 }
 
-#[tactic(auto, unfolding(crate::specs::Grammar::whole_expression))]
+#[tactic(auto, unfolding(fx_grammar::specs::Grammar::whole_expression))]
 fn whole_call<'a>(
     alloc: Global,
     tokens: &'a [Token],
@@ -50,7 +51,7 @@ fn whole_call<'a>(
     call(alloc, tokens, prefixes, 64)
 }
 
-#[tactic(auto, unfolding(crate::specs::Grammar::whole_expression))]
+#[tactic(auto, unfolding(fx_grammar::specs::Grammar::whole_expression))]
 fn sees_whole_call(tokens: &[Token]) -> bool
     ensures { (ps : grammar.Prefixes) → result ≡ rule.sees (grammar.call (grammar.whole_expression ps)).begins tokens.now }
 {
@@ -90,7 +91,7 @@ pub fn sees_constraint(tokens: &[Token]) -> bool
     sees_iri_name(tokens)
 }
 
-#[tactic(auto, unfolding(crate::specs::Grammar::unbound))]
+#[tactic(auto, unfolding(fx_grammar::specs::Grammar::unbound))]
 fn unbound<'a>(tokens: &'a [Token], names: &IndexSet<Name>) -> Result<(Name, &'a [Token]), Fault>
     ensures { Gives (λ x. (x.0, x.1.now)) result ((grammar.unbound names.now.keys).read tokens.now) }
 {
@@ -119,7 +120,7 @@ fn filtered(alloc: Global, condition: Boxed<Expr>) -> Result<Boxed<Element>, All
     Boxed::new(alloc, Element::Filter(condition.into_inner()))
 }
 
-#[tactic(auto, unfolding(crate::specs::Grammar::binding))]
+#[tactic(auto, unfolding(fx_grammar::specs::Grammar::binding))]
 fn binding<'a>(
     alloc: Global,
     tokens: &'a [Token],
@@ -138,7 +139,7 @@ fn binding<'a>(
     Ok((element, rest))
 }
 
-#[tactic(auto, unfolding(crate::specs::Grammar::service_name, crate::specs::Grammar::iri_name))]
+#[tactic(auto, unfolding(fx_grammar::specs::Grammar::service_name, fx_grammar::specs::Grammar::iri_name))]
 fn service_name<'a>(
     alloc: Global,
     tokens: &'a [Token],
@@ -189,7 +190,7 @@ fn opt_triples<'a>(
     Ok((none, tokens))
 }
 
-#[tactic(auto, unfolding(crate::specs::Grammar::behind_other))]
+#[tactic(auto, unfolding(fx_grammar::specs::Grammar::behind_other))]
 fn behind_other<'a>(
     alloc: Global,
     tokens: &'a [Token],
@@ -255,7 +256,7 @@ fn one_group(alloc: Global, part: Group) -> Result<Items<Group>, AllocError>
 }
 
 /// The next token is one with which an element other than a triple may begin, or one that is refused by name there.
-#[tactic(auto, unfolding(crate::specs::Grammar::item, crate::specs::Grammar::other, crate::specs::Grammar::union, crate::specs::Grammar::service, crate::specs::Grammar::binding, crate::specs::Grammar::group, crate::specs::Grammar::braced))]
+#[tactic(auto, unfolding(fx_grammar::specs::Grammar::item, fx_grammar::specs::Grammar::other, fx_grammar::specs::Grammar::union, fx_grammar::specs::Grammar::service, fx_grammar::specs::Grammar::binding, fx_grammar::specs::Grammar::group, fx_grammar::specs::Grammar::braced))]
 fn sees_item(tokens: &[Token]) -> bool
     ensures { (ps : grammar.Prefixes) (n : ℕ) → result ≡ rule.sees (grammar.item ps (grammar.group ps n) []).begins tokens.now }
 {
@@ -285,7 +286,7 @@ pub fn group<'a>(
     braced(alloc, tokens, prefixes, depth - 1)
 }
 
-#[tactic(auto, unfolding(crate::specs::Grammar::braced))]
+#[tactic(auto, unfolding(fx_grammar::specs::Grammar::braced))]
 #[cycle(groups)]
 fn braced<'a>(
     alloc: Global,
@@ -339,7 +340,7 @@ fn items<'a>(
     Ok((elements, rest))
 }
 
-#[tactic(auto, unfolding(crate::specs::Grammar::item))]
+#[tactic(auto, unfolding(fx_grammar::specs::Grammar::item))]
 #[cycle(groups)]
 fn item<'a>(
     alloc: Global,
@@ -357,7 +358,7 @@ fn item<'a>(
     Ok((elements, rest))
 }
 
-#[tactic(auto, unfolding(crate::specs::Grammar::other, crate::specs::Grammar::union, crate::specs::Grammar::service, crate::specs::Grammar::binding, crate::specs::Grammar::group, crate::specs::Grammar::braced))]
+#[tactic(auto, unfolding(fx_grammar::specs::Grammar::other, fx_grammar::specs::Grammar::union, fx_grammar::specs::Grammar::service, fx_grammar::specs::Grammar::binding, fx_grammar::specs::Grammar::group, fx_grammar::specs::Grammar::braced))]
 #[cycle(groups)]
 fn other<'a>(
     alloc: Global,
@@ -407,7 +408,7 @@ fn other<'a>(
     Err(refuse(SyntaxKind::Unexpected, tokens))
 }
 
-#[tactic(auto, unfolding(crate::specs::Grammar::union))]
+#[tactic(auto, unfolding(fx_grammar::specs::Grammar::union))]
 #[cycle(groups)]
 fn union<'a>(
     alloc: Global,
@@ -445,7 +446,7 @@ fn union_more<'a>(
     Ok((parts, rest))
 }
 
-#[tactic(auto, unfolding(crate::specs::Grammar::service))]
+#[tactic(auto, unfolding(fx_grammar::specs::Grammar::service))]
 #[cycle(groups)]
 fn service<'a>(
     alloc: Global,

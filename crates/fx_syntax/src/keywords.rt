@@ -1,10 +1,10 @@
 //! Keywords and marks.
 ghost use Rattle.std.specs.Prelude.{◌≡◌, IfOk};
 ghost use Rattle.std.specs.Str.{bytes_eq};
-ghost use Rattle.fx_syntax.specs.Keywords as spec;
+ghost use Rattle.fx_grammar.specs.Keywords as spec;
 
-use crate::kinds::{Kind, Token};
 use fx_algebra::{Compare, Function};
+use fx_grammar::{Kind, Token};
 use fx_terms::Memory;
 use std::alloc::Global;
 

@@ -5,40 +5,20 @@ ghost use Rattle.std.specs.Str.{IsErrorLen, valid_up_to, error_len};
 ghost use Rattle.std.specs.Str.Lossy.{utf8_valid_len, utf8_error_len};
 ghost use Rattle.fx_algebra.specs.declared.queries.Query.{Query as QueryTree};
 ghost use Rattle.fx_tokens.specs.Reads.{IsSlice};
-ghost use Rattle.fx_syntax.specs.declared.kinds.SyntaxKind.{SyntaxKind as Kind};
-ghost use Rattle.fx_syntax.specs.Accepted.{Accepted};
+ghost use Rattle.fx_grammar.specs.declared.refusals.SyntaxKind.{SyntaxKind as Kind};
+ghost use Rattle.fx_grammar.specs.Accepted.{Accepted};
 ghost use Rattle.fx_syntax.specs.Answers as answers;
-ghost use Rattle.fx_syntax.specs.Refused as spec;
+ghost use Rattle.fx_grammar.specs.Refused as spec;
 
 use crate::classify::classify;
-use crate::kinds::{Fault, SyntaxKind};
+use crate::faults::Fault;
 use crate::queries::whole_query;
 use fx_algebra::Query;
-use fx_terms::Memory;
+use fx_grammar::{SyntaxError, SyntaxKind};
 use fx_tokens::{Token, TokenError, tokens};
 use std::alloc::Global;
 use std::str;
 use std::str::Utf8Error;
-
-/// Why a text is refused.
-#[derive(Clone, Copy, Debug, PartialEq, Eq)]
-pub enum SyntaxError {
-    /// For this reason, at this byte place.
-    Refused { kind: SyntaxKind, place: u64 },
-    /// Memory ran out.
-    Memory,
-}
-
-impl From<Memory> for SyntaxError {
-    ghost use Rattle.std.specs.Prelude.{◌≡◌};
-    ghost use Rattle.fx_syntax.specs.declared.parsing.SyntaxError.TheVariants.{Memory as NoMemory};
-
-    ghost from_gives = { λ _ e. e ≡ NoMemory };
-
-    fn from(_error: Memory) -> SyntaxError {
-        SyntaxError::Memory
-    }
-}
 
 /// The query that a text is (SPARQL 1.1 section 19.8, in this project's profile).
 ///

@@ -1,17 +1,17 @@
 //! Queries, and the texts that are queries.
 ghost use Rattle.std.specs.Prelude.{◌≡◌, ◌++◌, ◌<◌, IfOk, OnOk, None, Some, Ok, true, [], ◌∷◌};
-ghost use Rattle.fx_syntax.specs.Kinds as kinds;
-ghost use Rattle.fx_syntax.specs.Rule as rule;
-ghost use Rattle.fx_syntax.specs.Rule.{Gives};
-ghost use Rattle.fx_syntax.specs.Grammar as grammar;
+ghost use Rattle.fx_grammar.specs.Kinds as kinds;
+ghost use Rattle.fx_grammar.specs.Rule as rule;
+ghost use Rattle.fx_grammar.specs.Grammar as grammar;
+ghost use Rattle.fx_syntax.specs.Gives.{Gives};
 
+use crate::faults::Fault;
 use crate::groups::{constraint, group, sees_constraint, whole_parens};
-use crate::kinds::{Fault, Kind, SyntaxKind, Text, Token};
-use crate::parts::{Head, Limits, Main, Modifiers};
 use crate::readers::{mark, refuse, sees, variable};
 use crate::values::block;
 use fx_algebra::scopes::{once, scope};
 use fx_algebra::{Expr, Form, Group, Inline, Order, Query};
+use fx_grammar::{Head, Kind, Limits, Main, Modifiers, SyntaxKind, Text, Token};
 use fx_terms::{Boxed, Iri, Items, Memory, Name};
 use std::alloc::{AllocError, Global};
 
@@ -28,7 +28,7 @@ fn number_of(digits: &Text) -> Option<u64>
     Some(number)
 }
 
-#[tactic(auto, unfolding(crate::specs::Grammar::number))]
+#[tactic(auto, unfolding(fx_grammar::specs::Grammar::number))]
 fn number(tokens: &[Token]) -> Result<(u64, &[Token]), Fault>
     ensures { Gives (λ x. (x.0, x.1.now)) result (grammar.number.read tokens.now) }
 {
@@ -41,21 +41,21 @@ fn number(tokens: &[Token]) -> Result<(u64, &[Token]), Fault>
     }
 }
 
-#[tactic(auto, unfolding(crate::specs::Grammar::limit))]
+#[tactic(auto, unfolding(fx_grammar::specs::Grammar::limit))]
 fn limit(tokens: &[Token]) -> Result<(u64, &[Token]), Fault>
     ensures { Gives (λ x. (x.0, x.1.now)) result (grammar.limit.read tokens.now) }
 {
     number(mark(tokens, Kind::Limit)?)
 }
 
-#[tactic(auto, unfolding(crate::specs::Grammar::offset))]
+#[tactic(auto, unfolding(fx_grammar::specs::Grammar::offset))]
 fn offset(tokens: &[Token]) -> Result<(u64, &[Token]), Fault>
     ensures { Gives (λ x. (x.0, x.1.now)) result (grammar.offset.read tokens.now) }
 {
     number(mark(tokens, Kind::Offset)?)
 }
 
-#[tactic(auto, unfolding(crate::specs::Grammar::limit))]
+#[tactic(auto, unfolding(fx_grammar::specs::Grammar::limit))]
 fn opt_limit(tokens: &[Token]) -> Result<(Option<u64>, &[Token]), Fault>
     ensures { Gives (λ x. (x.0, x.1.now)) result ((rule.opt grammar.limit).read tokens.now) }
 {
@@ -66,7 +66,7 @@ fn opt_limit(tokens: &[Token]) -> Result<(Option<u64>, &[Token]), Fault>
     Ok((None, tokens))
 }
 
-#[tactic(auto, unfolding(crate::specs::Grammar::offset))]
+#[tactic(auto, unfolding(fx_grammar::specs::Grammar::offset))]
 fn opt_offset(tokens: &[Token]) -> Result<(Option<u64>, &[Token]), Fault>
     ensures { Gives (λ x. (x.0, x.1.now)) result ((rule.opt grammar.offset).read tokens.now) }
 {
@@ -77,7 +77,7 @@ fn opt_offset(tokens: &[Token]) -> Result<(Option<u64>, &[Token]), Fault>
     Ok((None, tokens))
 }
 
-#[tactic(auto, unfolding(crate::specs::Grammar::limits, crate::specs::Grammar::limit, crate::specs::Grammar::offset))]
+#[tactic(auto, unfolding(fx_grammar::specs::Grammar::limits, fx_grammar::specs::Grammar::limit, fx_grammar::specs::Grammar::offset))]
 fn opt_limits(tokens: &[Token]) -> Result<(Option<Limits>, &[Token]), Fault>
     ensures { Gives (λ x. (x.0, x.1.now)) result ((rule.opt grammar.limits).read tokens.now) }
 {
@@ -102,7 +102,7 @@ fn opt_limits(tokens: &[Token]) -> Result<(Option<Limits>, &[Token]), Fault>
     Ok((None, tokens))
 }
 
-#[tactic(auto, unfolding(crate::specs::Grammar::column, crate::specs::Grammar::variable))]
+#[tactic(auto, unfolding(fx_grammar::specs::Grammar::column, fx_grammar::specs::Grammar::variable))]
 fn column(tokens: &[Token]) -> Result<(Name, &[Token]), Fault>
     ensures { Gives (λ x. (x.0, x.1.now)) result (grammar.column.read tokens.now) }
 {
@@ -115,7 +115,7 @@ fn column(tokens: &[Token]) -> Result<(Name, &[Token]), Fault>
     Err(refuse(SyntaxKind::Unexpected, tokens))
 }
 
-#[tactic(auto, unfolding(crate::specs::Grammar::column, crate::specs::Grammar::variable))]
+#[tactic(auto, unfolding(fx_grammar::specs::Grammar::column, fx_grammar::specs::Grammar::variable))]
 fn sees_column(tokens: &[Token]) -> bool
     ensures { result ≡ rule.sees grammar.column.begins tokens.now }
 {
@@ -151,7 +151,7 @@ fn columns(alloc: Global, tokens: &[Token]) -> Result<(Items<Name>, &[Token]), F
     columns_more(parts, rest)
 }
 
-#[tactic(auto, unfolding(crate::specs::Grammar::selected))]
+#[tactic(auto, unfolding(fx_grammar::specs::Grammar::selected))]
 fn selected(alloc: Global, tokens: &[Token]) -> Result<(Option<Items<Name>>, &[Token]), Fault>
     ensures { Gives (λ x. (x.0, x.1.now)) result (grammar.selected.read tokens.now) }
 {
@@ -163,7 +163,7 @@ fn selected(alloc: Global, tokens: &[Token]) -> Result<(Option<Items<Name>>, &[T
     Ok((Some(names), rest))
 }
 
-#[tactic(auto, unfolding(crate::specs::Grammar::distinct))]
+#[tactic(auto, unfolding(fx_grammar::specs::Grammar::distinct))]
 fn distinct(tokens: &[Token]) -> Result<(Option<bool>, &[Token]), Fault>
     ensures { Gives (λ x. (x.0, x.1.now)) result (grammar.distinct.read tokens.now) }
 {
@@ -178,7 +178,7 @@ fn distinct(tokens: &[Token]) -> Result<(Option<bool>, &[Token]), Fault>
     Ok((None, tokens))
 }
 
-#[tactic(auto, unfolding(crate::specs::Grammar::select_head))]
+#[tactic(auto, unfolding(fx_grammar::specs::Grammar::select_head))]
 fn select_head(alloc: Global, tokens: &[Token]) -> Result<(Head, &[Token]), Fault>
     ensures { Gives (λ x. (x.0, x.1.now)) result (grammar.select_head.read tokens.now) }
 {
@@ -189,7 +189,7 @@ fn select_head(alloc: Global, tokens: &[Token]) -> Result<(Head, &[Token]), Faul
     Ok((Head::Select { distinct, columns }, rest))
 }
 
-#[tactic(auto, unfolding(crate::specs::Grammar::query_head, crate::specs::Grammar::select_head))]
+#[tactic(auto, unfolding(fx_grammar::specs::Grammar::query_head, fx_grammar::specs::Grammar::select_head))]
 fn query_head(alloc: Global, tokens: &[Token]) -> Result<(Head, &[Token]), Fault>
     ensures { Gives (λ x. (x.0, x.1.now)) result (grammar.query_head.read tokens.now) }
 {
@@ -230,7 +230,7 @@ fn whole_iri(tokens: &[Token]) -> Result<(Iri, &[Token]), Fault>
     }
 }
 
-#[tactic(auto, unfolding(crate::specs::Grammar::prefix))]
+#[tactic(auto, unfolding(fx_grammar::specs::Grammar::prefix))]
 fn prefix(tokens: &[Token]) -> Result<(Text, Iri, &[Token]), Fault>
     ensures { Gives (λ x. ((x.0, x.1), x.2.now)) result (grammar.prefix.read tokens.now) }
 {
@@ -240,7 +240,7 @@ fn prefix(tokens: &[Token]) -> Result<(Text, Iri, &[Token]), Fault>
     Ok((name, iri, rest))
 }
 
-#[tactic(auto, unfolding(crate::specs::Grammar::prefix))]
+#[tactic(auto, unfolding(fx_grammar::specs::Grammar::prefix))]
 fn sees_prefix(tokens: &[Token]) -> bool
     ensures { result ≡ rule.sees grammar.prefix.begins tokens.now }
 {
@@ -267,7 +267,7 @@ fn key(descending: bool, expr: Boxed<Expr>) -> Order
     Order { descending, expr }
 }
 
-#[tactic(auto, unfolding(crate::specs::Grammar::condition, crate::specs::Grammar::variable))]
+#[tactic(auto, unfolding(fx_grammar::specs::Grammar::condition, fx_grammar::specs::Grammar::variable))]
 fn condition<'a>(
     alloc: Global,
     tokens: &'a [Token],
@@ -348,7 +348,7 @@ fn conditions<'a>(
     conditions_more(alloc, parts, rest, prefixes)
 }
 
-#[tactic(auto, unfolding(crate::specs::Grammar::order))]
+#[tactic(auto, unfolding(fx_grammar::specs::Grammar::order))]
 fn order<'a>(
     alloc: Global,
     tokens: &'a [Token],
@@ -379,7 +379,7 @@ fn limits_or(limits: Option<Limits>) -> Limits
     }
 }
 
-#[tactic(auto, unfolding(crate::specs::Grammar::modifiers))]
+#[tactic(auto, unfolding(fx_grammar::specs::Grammar::modifiers))]
 fn modifiers<'a>(
     alloc: Global,
     tokens: &'a [Token],
@@ -393,7 +393,7 @@ fn modifiers<'a>(
     Ok((Modifiers { order, limits }, rest))
 }
 
-#[tactic(auto, unfolding(crate::specs::Grammar::where_group, crate::specs::Grammar::whole_group))]
+#[tactic(auto, unfolding(fx_grammar::specs::Grammar::where_group, fx_grammar::specs::Grammar::whole_group))]
 fn where_group<'a>(
     alloc: Global,
     tokens: &'a [Token],
@@ -411,7 +411,7 @@ fn where_group<'a>(
     group(alloc, tokens, prefixes, 64)
 }
 
-#[tactic(auto, unfolding(crate::specs::Grammar::main))]
+#[tactic(auto, unfolding(fx_grammar::specs::Grammar::main))]
 fn main_part<'a>(
     alloc: Global,
     tokens: &'a [Token],
@@ -500,7 +500,7 @@ fn query_of(alloc: Global, main: Main, inline: Option<Inline>) -> Result<Query, 
     })
 }
 
-#[tactic(auto, unfolding(crate::specs::Grammar::block))]
+#[tactic(auto, unfolding(fx_grammar::specs::Grammar::block))]
 fn opt_values<'a>(
     alloc: Global,
     tokens: &'a [Token],
@@ -516,7 +516,7 @@ fn opt_values<'a>(
     Ok((None, tokens))
 }
 
-#[tactic(auto, unfolding(crate::specs::Grammar::body))]
+#[tactic(auto, unfolding(fx_grammar::specs::Grammar::body))]
 fn body<'a>(
     alloc: Global,
     tokens: &'a [Token],
@@ -531,7 +531,7 @@ fn body<'a>(
 }
 
 /// A query at the front of some tokens, and the tokens behind it.
-#[tactic(auto, unfolding(crate::specs::Grammar::query, crate::specs::Grammar::prologue, crate::specs::Rule::any_number))]
+#[tactic(auto, unfolding(fx_grammar::specs::Grammar::query, fx_grammar::specs::Grammar::prologue, fx_grammar::specs::Rule::any_number))]
 fn query(alloc: Global, tokens: &[Token]) -> Result<(Query, &[Token]), Fault>
     ensures { Gives (λ x. (x.0, x.1.now)) result (grammar.query.read tokens.now) }
 {
@@ -541,7 +541,7 @@ fn query(alloc: Global, tokens: &[Token]) -> Result<(Query, &[Token]), Fault>
 }
 
 /// The query that all the tokens are.
-#[tactic(auto, unfolding(crate::specs::Rule::read_whole, crate::specs::Rule::to_end))]
+#[tactic(auto, unfolding(fx_grammar::specs::Rule::read_whole, fx_grammar::specs::Rule::to_end))]
 pub fn whole_query(alloc: Global, tokens: &[Token]) -> Result<Query, Fault>
     ensures { Gives (λ q. (q, [])) result (rule.read_whole grammar.query tokens.now) }
 {

@@ -4,14 +4,14 @@ ghost use Rattle.std.specs.Str.{bytes_eq};
 ghost use Rattle.fx_terms.specs.Iris.{read_iri};
 ghost use Rattle.fx_terms.specs.Literals.{lang_string, is_tag};
 ghost use Rattle.fx_terms.specs.declared.terms.Term.TheVariants as Term;
-ghost use Rattle.fx_syntax.specs.Kinds as kinds;
-ghost use Rattle.fx_syntax.specs.Rule as rule;
-ghost use Rattle.fx_syntax.specs.Rule.{Gives};
-ghost use Rattle.fx_syntax.specs.Grammar as grammar;
+ghost use Rattle.fx_grammar.specs.Kinds as kinds;
+ghost use Rattle.fx_grammar.specs.Rule as rule;
+ghost use Rattle.fx_grammar.specs.Grammar as grammar;
+ghost use Rattle.fx_syntax.specs.Gives.{Gives};
 
-use crate::kinds::{Fault, Kind, SyntaxKind, Text, Token, is};
-use crate::parts::Annotation;
+use crate::faults::Fault;
 use fx_algebra::{Compare, Function};
+use fx_grammar::{Annotation, Kind, SyntaxKind, Text, Token, is};
 use fx_terms::{Iri, Literal, LiteralError, Memory, Name, Term, TermError, is_tag};
 use std::alloc::{AllocError, Global};
 
@@ -82,7 +82,7 @@ pub fn lacks(tokens: &[Token], kind: Kind) -> Result<(), Fault>
 }
 
 /// The name of a variable.
-#[tactic(auto, unfolding(crate::specs::Grammar::variable))]
+#[tactic(auto, unfolding(fx_grammar::specs::Grammar::variable))]
 pub fn variable(tokens: &[Token]) -> Result<(Name, &[Token]), Fault>
     ensures { Gives (λ x. (x.0, x.1.now)) result (grammar.variable.read tokens.now) }
 {
@@ -160,7 +160,7 @@ fn named_by(
 }
 
 /// An IRI, as it stands or by a name with a prefix.
-#[tactic(auto, unfolding(crate::specs::Grammar::iri_name))]
+#[tactic(auto, unfolding(fx_grammar::specs::Grammar::iri_name))]
 pub fn iri_name<'a>(
     alloc: Global,
     tokens: &'a [Token],
@@ -198,7 +198,7 @@ fn not_lang_string(named: Result<Iri, SyntaxKind>) -> Result<Iri, SyntaxKind>
 }
 
 /// The datatype of a literal, in an expression or elsewhere.
-#[tactic(auto, unfolding(crate::specs::Grammar::datatype))]
+#[tactic(auto, unfolding(fx_grammar::specs::Grammar::datatype))]
 fn datatype<'a>(
     alloc: Global,
     tokens: &'a [Token],
@@ -219,7 +219,7 @@ fn datatype<'a>(
     }
 }
 
-#[tactic(auto, unfolding(crate::specs::Grammar::no_call))]
+#[tactic(auto, unfolding(fx_grammar::specs::Grammar::no_call))]
 fn datatype_in<'a>(
     alloc: Global,
     tokens: &'a [Token],
@@ -262,7 +262,7 @@ fn tag(tokens: &[Token]) -> Result<(Text, &[Token]), Fault>
 }
 
 /// What stands behind a text that is a literal's form, where something does.
-#[tactic(auto, unfolding(crate::specs::Grammar::text_suffix))]
+#[tactic(auto, unfolding(fx_grammar::specs::Grammar::text_suffix))]
 fn text_suffix<'a>(
     alloc: Global,
     tokens: &'a [Token],
@@ -392,7 +392,7 @@ pub fn sees_literal(tokens: &[Token]) -> bool
 }
 
 /// A literal, in an expression or elsewhere.
-#[tactic(auto, unfolding(crate::specs::Grammar::literal))]
+#[tactic(auto, unfolding(fx_grammar::specs::Grammar::literal))]
 pub fn literal<'a>(
     alloc: Global,
     tokens: &'a [Token],

@@ -1,13 +1,14 @@
 //! Triples, with what is written once for several of them.
 ghost use Rattle.std.specs.Prelude.{◌≡◌, ◌++◌, IfOk, OnOk, None, Some, true, [], ◌∷◌};
-ghost use Rattle.fx_syntax.specs.Rule as rule;
-ghost use Rattle.fx_syntax.specs.Rule.{Gives};
-ghost use Rattle.fx_syntax.specs.Grammar as grammar;
+ghost use Rattle.fx_grammar.specs.Rule as rule;
+ghost use Rattle.fx_grammar.specs.Grammar as grammar;
+ghost use Rattle.fx_syntax.specs.Gives.{Gives};
 
-use crate::kinds::{Fault, Kind, SyntaxKind, Text, Token};
+use crate::faults::Fault;
 use crate::readers::{
     iri_name, known, literal, mark, refuse, sees, sees_iri_name, sees_literal, variable,
 };
+use fx_grammar::{Kind, SyntaxKind, Text, Token};
 use fx_terms::{Iri, Items, Memory, Pattern, PatternTerm, Term};
 use std::alloc::{AllocError, Global};
 
@@ -37,7 +38,7 @@ fn sees_path_more(tokens: &[Token]) -> bool
 }
 
 /// The next token is one with which a subject or an object may begin, or one that is refused by name there.
-#[tactic(auto, unfolding(crate::specs::Grammar::graph_term, crate::specs::Grammar::part_literal, crate::specs::Grammar::literal, crate::specs::Grammar::variable, crate::specs::Grammar::iri_name))]
+#[tactic(auto, unfolding(fx_grammar::specs::Grammar::graph_term, fx_grammar::specs::Grammar::part_literal, fx_grammar::specs::Grammar::literal, fx_grammar::specs::Grammar::variable, fx_grammar::specs::Grammar::iri_name))]
 pub fn sees_graph_term(tokens: &[Token]) -> bool
     ensures { (ps : grammar.Prefixes) → result ≡ rule.sees (grammar.graph_term ps).begins tokens.now }
 {
@@ -49,7 +50,7 @@ pub fn sees_graph_term(tokens: &[Token]) -> bool
 }
 
 /// A subject or an object.
-#[tactic(auto, unfolding(crate::specs::Grammar::graph_term, crate::specs::Grammar::part_literal, crate::specs::Grammar::variable, crate::specs::Grammar::iri_name))]
+#[tactic(auto, unfolding(fx_grammar::specs::Grammar::graph_term, fx_grammar::specs::Grammar::part_literal, fx_grammar::specs::Grammar::variable, fx_grammar::specs::Grammar::iri_name))]
 fn graph_term<'a>(
     alloc: Global,
     tokens: &'a [Token],
@@ -82,7 +83,7 @@ fn rdf_type(alloc: Global) -> Result<Iri, Memory>
 }
 
 /// A path is refused.
-#[tactic(auto, unfolding(crate::specs::Grammar::no_path))]
+#[tactic(auto, unfolding(fx_grammar::specs::Grammar::no_path))]
 fn no_path(tokens: &[Token]) -> Result<(), Fault>
     ensures { Gives (λ x. (None, tokens.now)) result (grammar.no_path.read tokens.now) }
 {
@@ -93,7 +94,7 @@ fn no_path(tokens: &[Token]) -> Result<(), Fault>
     }
 }
 
-#[tactic(auto, unfolding(crate::specs::Grammar::verb_iri))]
+#[tactic(auto, unfolding(fx_grammar::specs::Grammar::verb_iri))]
 fn verb_iri<'a>(
     alloc: Global,
     tokens: &'a [Token],
@@ -112,7 +113,7 @@ fn verb_iri<'a>(
     Ok((iri, rest))
 }
 
-#[tactic(auto, unfolding(crate::specs::Grammar::verb, crate::specs::Grammar::verb_iri, crate::specs::Grammar::variable, crate::specs::Grammar::iri_name))]
+#[tactic(auto, unfolding(fx_grammar::specs::Grammar::verb, fx_grammar::specs::Grammar::verb_iri, fx_grammar::specs::Grammar::variable, fx_grammar::specs::Grammar::iri_name))]
 fn verb<'a>(
     alloc: Global,
     tokens: &'a [Token],
@@ -135,7 +136,7 @@ fn verb<'a>(
 }
 
 /// The next token is one with which a verb may begin, or one that is refused by name there.
-#[tactic(auto, unfolding(crate::specs::Grammar::property, crate::specs::Grammar::verb, crate::specs::Grammar::verb_iri, crate::specs::Grammar::variable, crate::specs::Grammar::iri_name))]
+#[tactic(auto, unfolding(fx_grammar::specs::Grammar::property, fx_grammar::specs::Grammar::verb, fx_grammar::specs::Grammar::verb_iri, fx_grammar::specs::Grammar::variable, fx_grammar::specs::Grammar::iri_name))]
 fn sees_property(tokens: &[Token]) -> bool
     ensures { (ps : grammar.Prefixes) → result ≡ rule.sees (grammar.property ps).begins tokens.now }
 {
@@ -172,7 +173,7 @@ fn objects_more<'a>(
     Ok((parts, rest))
 }
 
-#[tactic(auto, unfolding(crate::specs::Grammar::objects))]
+#[tactic(auto, unfolding(fx_grammar::specs::Grammar::objects))]
 fn objects<'a>(
     alloc: Global,
     tokens: &'a [Token],
@@ -185,7 +186,7 @@ fn objects<'a>(
     objects_more(alloc, parts, rest, prefixes)
 }
 
-#[tactic(auto, unfolding(crate::specs::Grammar::property))]
+#[tactic(auto, unfolding(fx_grammar::specs::Grammar::property))]
 fn property<'a>(
     alloc: Global,
     tokens: &'a [Token],
@@ -251,7 +252,7 @@ fn one_property(alloc: Global, part: Property) -> Result<Items<Property>, AllocE
     Ok(parts)
 }
 
-#[tactic(auto, unfolding(crate::specs::Grammar::properties, crate::specs::Grammar::more_properties))]
+#[tactic(auto, unfolding(fx_grammar::specs::Grammar::properties, fx_grammar::specs::Grammar::more_properties))]
 fn properties<'a>(
     alloc: Global,
     tokens: &'a [Token],
@@ -296,7 +297,7 @@ fn triples_of(
     Ok(patterns)
 }
 
-#[tactic(auto, unfolding(crate::specs::Grammar::same_subject))]
+#[tactic(auto, unfolding(fx_grammar::specs::Grammar::same_subject))]
 fn same_subject<'a>(
     alloc: Global,
     tokens: &'a [Token],
@@ -335,7 +336,7 @@ fn opt_same_subject<'a>(
     Ok((None, tokens))
 }
 
-#[tactic(auto, unfolding(crate::specs::Grammar::dot_triples))]
+#[tactic(auto, unfolding(fx_grammar::specs::Grammar::dot_triples))]
 fn dot_triples<'a>(
     alloc: Global,
     tokens: &'a [Token],
@@ -384,7 +385,7 @@ fn triples_more<'a>(
 }
 
 /// Triples, with dots between them and perhaps behind the last.
-#[tactic(auto, unfolding(crate::specs::Grammar::triples))]
+#[tactic(auto, unfolding(fx_grammar::specs::Grammar::triples))]
 pub fn triples<'a>(
     alloc: Global,
     tokens: &'a [Token],

@@ -1,15 +1,16 @@
 //! Blocks of VALUES.
 ghost use Rattle.std.specs.Prelude.{◌≡◌, IfOk, OnOk, None, Some, false, map, [], ◌∷◌};
 ghost use Rattle.fx_algebra.specs.Scopes.{is_among, with_name};
-ghost use Rattle.fx_syntax.specs.Rule as rule;
-ghost use Rattle.fx_syntax.specs.Rule.{Gives};
-ghost use Rattle.fx_syntax.specs.Grammar as grammar;
+ghost use Rattle.fx_grammar.specs.Rule as rule;
+ghost use Rattle.fx_grammar.specs.Grammar as grammar;
+ghost use Rattle.fx_syntax.specs.Gives.{Gives};
 
-use crate::kinds::{Fault, Kind, SyntaxKind, Text, Token};
+use crate::faults::Fault;
 use crate::readers::{
     iri_name, literal, mark, refuse, sees, sees_iri_name, sees_literal, variable,
 };
 use fx_algebra::Inline;
+use fx_grammar::{Kind, SyntaxKind, Text, Token};
 use fx_terms::{Iri, Items, Memory, Name, Term};
 use indexmap::IndexSet;
 use std::alloc::{AllocError, Global};
@@ -44,14 +45,14 @@ pub fn in_order(alloc: Global, names: IndexSet<Name>) -> Result<Items<Name>, Mem
 }
 
 /// The next token is one with which a value may begin.
-#[tactic(auto, unfolding(crate::specs::Grammar::value, crate::specs::Grammar::literal, crate::specs::Grammar::iri_name))]
+#[tactic(auto, unfolding(fx_grammar::specs::Grammar::value, fx_grammar::specs::Grammar::literal, fx_grammar::specs::Grammar::iri_name))]
 fn sees_value(tokens: &[Token]) -> bool
     ensures { (ps : grammar.Prefixes) → result ≡ rule.sees (grammar.value ps).begins tokens.now }
 {
     sees_iri_name(tokens) || sees(tokens, Kind::Undef) || sees_literal(tokens)
 }
 
-#[tactic(auto, unfolding(crate::specs::Grammar::value, crate::specs::Grammar::iri_name))]
+#[tactic(auto, unfolding(fx_grammar::specs::Grammar::value, fx_grammar::specs::Grammar::iri_name))]
 fn value<'a>(
     alloc: Global,
     tokens: &'a [Token],
@@ -116,7 +117,7 @@ fn single_rows(alloc: Global, values: &[Option<Term>]) -> Result<Items<Items<Opt
     Ok(rows)
 }
 
-#[tactic(auto, unfolding(crate::specs::Grammar::single_block, crate::specs::Rule::any_number))]
+#[tactic(auto, unfolding(fx_grammar::specs::Grammar::single_block, fx_grammar::specs::Rule::any_number))]
 fn single_block<'a>(
     alloc: Global,
     tokens: &'a [Token],
@@ -134,7 +135,7 @@ fn single_block<'a>(
     Ok((Inline { columns, rows }, rest))
 }
 
-#[tactic(auto, unfolding(crate::specs::Grammar::new_column))]
+#[tactic(auto, unfolding(fx_grammar::specs::Grammar::new_column))]
 fn new_column<'a>(tokens: &'a [Token], names: &IndexSet<Name>) -> Result<(Name, &'a [Token]), Fault>
     ensures reads { Gives (λ x. (x.0, x.1.now)) result ((grammar.new_column names.now.keys).read tokens.now) }
     ensures new { IfOk result (λ x. is_among names.now.keys x.0 ≡ false) }
@@ -164,7 +165,7 @@ fn columns(alloc: Global, tokens: &[Token]) -> Result<(Items<Name>, &[Token]), F
     Ok((in_order(alloc, names)?, rest))
 }
 
-#[tactic(auto, unfolding(crate::specs::Grammar::row_end))]
+#[tactic(auto, unfolding(fx_grammar::specs::Grammar::row_end))]
 fn row_end<'a>(
     tokens: &'a [Token],
     width: usize,
@@ -181,7 +182,7 @@ fn row_end<'a>(
     mark(tokens, Kind::RightParen)
 }
 
-#[tactic(auto, unfolding(crate::specs::Grammar::row, crate::specs::Rule::any_number))]
+#[tactic(auto, unfolding(fx_grammar::specs::Grammar::row, fx_grammar::specs::Rule::any_number))]
 fn row<'a>(
     alloc: Global,
     tokens: &'a [Token],
@@ -224,7 +225,7 @@ fn column_list(alloc: Global, tokens: &[Token]) -> Result<(Items<Name>, &[Token]
     Ok((columns, rest))
 }
 
-#[tactic(auto, unfolding(crate::specs::Grammar::rows, crate::specs::Rule::any_number))]
+#[tactic(auto, unfolding(fx_grammar::specs::Grammar::rows, fx_grammar::specs::Rule::any_number))]
 fn rows<'a>(
     alloc: Global,
     tokens: &'a [Token],
@@ -239,7 +240,7 @@ fn rows<'a>(
     Ok((rows, rest))
 }
 
-#[tactic(auto, unfolding(crate::specs::Grammar::wide_block))]
+#[tactic(auto, unfolding(fx_grammar::specs::Grammar::wide_block))]
 fn wide_block<'a>(
     alloc: Global,
     tokens: &'a [Token],
@@ -253,7 +254,7 @@ fn wide_block<'a>(
 }
 
 /// A block of VALUES, behind its keyword.
-#[tactic(auto, unfolding(crate::specs::Grammar::block, crate::specs::Grammar::single_block, crate::specs::Grammar::variable))]
+#[tactic(auto, unfolding(fx_grammar::specs::Grammar::block, fx_grammar::specs::Grammar::single_block, fx_grammar::specs::Grammar::variable))]
 pub fn block<'a>(
     alloc: Global,
     tokens: &'a [Token],

@@ -5,7 +5,7 @@ use Rattle.fx_algebra.specs.Answers.{answer_alone}
 use Rattle.fx_algebra.specs.Occurrences.{services}
 use Rattle.fx_algebra.specs.declared.answers.Answer.{Answer}
 use Rattle.fx_algebra.specs.declared.queries.Query.{Query}
-use Rattle.fx_syntax.specs.Accepted.{Accepted}
+use Rattle.fx_grammar.specs.Accepted.{Accepted}
 use Rattle.fx_results.specs.Meanings.{Denotes}
 use Rattle.fx_http.specs.Requests.{IsRequest}
 use Rattle.fx_http.specs.Replies.{IsReply}

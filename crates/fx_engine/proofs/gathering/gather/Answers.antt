@@ -3,9 +3,9 @@ use Rattle.std.proofs.lemmas.List.Sorted.{IsPermutation-refl}
 use Rattle.fx_algebra.specs.Graphs.{union}
 use Rattle.fx_algebra.specs.Solutions.{Bindings, SameRows}
 use Rattle.fx_sources.specs.Sources.{graph_of, sources}
-use Rattle.fx_syntax.specs.Accepted.{Accepted}
-use Rattle.fx_syntax.specs.Printable.{pattern_query}
-use Rattle.fx_syntax.proofs.printing.PatternQuery.{pattern_query_is_accepted}
+use Rattle.fx_grammar.specs.Accepted.{Accepted}
+use Rattle.fx_spelling.specs.Printable.{pattern_query}
+use Rattle.fx_spelling.proofs.PatternQuery.{pattern_query_is_accepted}
 use Rattle.fx_wire.specs.Exchanges.{seen}
 use Rattle.fx_engine.specs.Federation.{AreBegun, AreRowsOf, AreSent, member_questions, source_questions}
 use Rattle.fx_engine.specs.MemberQueries.{IsAsked}

@@ -1,6 +1,6 @@
 use Rattle.std.proofs.Common.{ap, ◌∙◌}
 use Rattle.std.proofs.lemmas.List.{drop_all}
-use Rattle.fx_syntax.specs.Classified.{token_of}
+use Rattle.fx_grammar.specs.Classified.{token_of}
 use Rattle.fx_syntax.proofs.TextLaws.{placed_turn, placed_end}
 use Rattle.fx_syntax.proofs.classify.classify.Goals as goal
 

@@ -1,5 +1,5 @@
 use Rattle.std.proofs.Common.{◌≡◌, ◌++◌, map, drop}
-use Rattle.fx_syntax.specs.Classified.{all_placed, says, classified}
+use Rattle.fx_grammar.specs.Classified.{all_placed, says, classified}
 use Rattle.fx_syntax.proofs.classify.classify.Given as goal
 
 -- what is left completes the tokens

@@ -1,6 +1,6 @@
 use Rattle.std.proofs.Common.{rules, sym, ap, ◌∙◌, ◌∷◌, ◌-◌}
 use Rattle.std.specs.Str.{chars}
-use Rattle.fx_syntax.specs.Classified.{unescaped}
+use Rattle.fx_grammar.specs.Classified.{unescaped}
 use Rattle.fx_syntax.proofs.TextLaws.{unescaped_none, unescaped_last, unescaped_closed, unescaped_more, written, ended}
 use Rattle.fx_syntax.proofs.classify.decoded.Goals as goal
 

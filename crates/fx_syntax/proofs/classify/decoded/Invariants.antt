@@ -3,7 +3,7 @@ use denote.Text.{Utf8}
 use denote.Shadow.{shadow}
 use Rattle.std.specs.Prelude.{string_bytes}
 use Rattle.std.specs.Str.{chars, encode_utf8_all}
-use Rattle.fx_syntax.specs.Classified.{unescaped}
+use Rattle.fx_grammar.specs.Classified.{unescaped}
 use Rattle.fx_syntax.proofs.classify.decoded.Given as goal
 
 abbrev pub invariant-each : goal.invariant-each

@@ -1,6 +1,6 @@
 use Rattle.std.proofs.Common.{ap, sym, ◌∙◌}
 use Rattle.std.specs.Str.{chars}
-use Rattle.fx_syntax.specs.Classified.{coded}
+use Rattle.fx_grammar.specs.Classified.{coded}
 use Rattle.fx_syntax.proofs.TextLaws.{escape_none, escape_short, escape_long, escape_letter}
 use Rattle.fx_syntax.proofs.classify.escape.Goals as goal
 

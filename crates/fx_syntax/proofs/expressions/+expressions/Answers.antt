@@ -1,12 +1,12 @@
 use Rattle.std.proofs.Common.{arith, sym, ap, ◌∙◌, refl, ◌∷◌, []}
 use Rattle.std.proofs.lemmas.Result.{err_from_is_err_and}
-use Rattle.fx_syntax.specs.declared.kinds.Kind.TheVariants as k
+use Rattle.fx_grammar.specs.declared.kinds.Kind.TheVariants as k
 use Rattle.fx_algebra.specs.declared.expressions.Expr.TheVariants as expr
 use Rattle.fx_algebra.specs.declared.expressions.Sign.TheVariants as sign
-use Rattle.fx_syntax.specs.Rule.{one}
-use Rattle.fx_syntax.specs.Kinds.{is}
-use Rattle.fx_syntax.specs.Grammar.{expression, disjunction, conjunction, product, factor, signed_literal, signed_of, one_or}
-use Rattle.fx_syntax.proofs.GrammarLaws.{law_expression, law_factor, law_addend, addend_takes, law_relation, law_conjunction}
+use Rattle.fx_grammar.specs.Rule.{one}
+use Rattle.fx_grammar.specs.Kinds.{is}
+use Rattle.fx_grammar.specs.Grammar.{expression, disjunction, conjunction, product, factor, signed_literal, signed_of, one_or}
+use Rattle.fx_grammar.proofs.GrammarLaws.{law_expression, law_factor, law_addend, addend_takes, law_relation, law_conjunction}
 use Rattle.fx_syntax.proofs.Loops.{hands_on, chain_is, chain_made, chain_made_refused, chain_turn, chain_fails, chain_ends, chain_smaller, headed_made, headed_refused, any_turn, any_fails, any_ends, any_smaller, no_front, nested_none, nested_more}
 use Rattle.fx_syntax.proofs.ExpressionLaws.{primary_call, primary_last}
 use Rattle.fx_syntax.proofs.expressions.+expressions.Goals as goal

@@ -1,6 +1,6 @@
 use Rattle.std.proofs.Common.{sym, ◌∙◌, refl, true, false}
 use Rattle.std.proofs.lemmas.Result.{err_from_is_err_and}
-use Rattle.fx_syntax.specs.Grammar.{triples, triple_elements}
+use Rattle.fx_grammar.specs.Grammar.{triples, triple_elements}
 use Rattle.fx_syntax.proofs.Loops.{hands_on, opt_made_here, opt_made_fails, opt_made_none}
 use Rattle.fx_syntax.proofs.GroupLaws.{triples_see}
 use Rattle.fx_syntax.proofs.groups.opt_triples.Goals as goal

@@ -1,4 +1,4 @@
-use Rattle.fx_syntax.specs.Grammar.{column}
+use Rattle.fx_grammar.specs.Grammar.{column}
 use Rattle.fx_syntax.proofs.Loops.{some_is}
 use Rattle.fx_syntax.proofs.queries.columns.Goals as goal
 

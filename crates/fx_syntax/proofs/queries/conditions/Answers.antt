@@ -1,4 +1,4 @@
-use Rattle.fx_syntax.specs.Grammar.{condition}
+use Rattle.fx_grammar.specs.Grammar.{condition}
 use Rattle.fx_syntax.proofs.Loops.{some_is}
 use Rattle.fx_syntax.proofs.queries.conditions.Goals as goal
 

@@ -1,6 +1,6 @@
 use Rattle.std.proofs.Common.{arith, sym, ap, ◌∙◌}
 use Rattle.std.proofs.lemmas.List.{drop_all}
-use Rattle.fx_syntax.specs.Grammar.{number_from, number_in}
+use Rattle.fx_grammar.specs.Grammar.{number_from, number_in}
 use Rattle.fx_syntax.proofs.NumberLaws.{too_wide, some_in}
 use Rattle.fx_syntax.proofs.queries.number_of.Goals as goal
 

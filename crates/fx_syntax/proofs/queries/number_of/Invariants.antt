@@ -1,5 +1,5 @@
 use Rattle.std.proofs.Common.{◌≡◌, ◌≤◌, drop}
-use Rattle.fx_syntax.specs.Grammar.{number_from}
+use Rattle.fx_grammar.specs.Grammar.{number_from}
 use Rattle.fx_syntax.proofs.queries.number_of.Given as goal
 
 abbrev pub invariant-loop-digit : goal.invariant-loop-digit

@@ -1,6 +1,6 @@
 use Rattle.std.proofs.Common.{◌≡◌, length}
-use Rattle.fx_syntax.specs.Rule.{with_front, any_number}
-use Rattle.fx_syntax.specs.Grammar.{prefix}
+use Rattle.fx_grammar.specs.Rule.{with_front, any_number}
+use Rattle.fx_grammar.specs.Grammar.{prefix}
 use Rattle.fx_syntax.proofs.queries.prologue.Given as goal
 
 abbrev pub invariant-more : goal.invariant-more

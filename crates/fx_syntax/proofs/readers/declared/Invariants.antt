@@ -1,6 +1,6 @@
 use Rattle.std.proofs.Common.{◌≡◌, drop}
 use Rattle.std.specs.Prelude.{option_map}
-use Rattle.fx_syntax.specs.Grammar.{declared, if_later}
+use Rattle.fx_grammar.specs.Grammar.{declared, if_later}
 use Rattle.fx_syntax.proofs.readers.declared.Given as goal
 
 -- the last of those that are left, or else what was found

@@ -1,5 +1,5 @@
-use Rattle.fx_syntax.specs.declared.kinds.Kind.TheVariants as k
-use Rattle.fx_syntax.specs.Grammar.{graph_term, objects}
+use Rattle.fx_grammar.specs.declared.kinds.Kind.TheVariants as k
+use Rattle.fx_grammar.specs.Grammar.{graph_term, objects}
 use Rattle.fx_syntax.proofs.Loops.{chain_is}
 use Rattle.fx_syntax.proofs.triples.objects.Goals as goal
 

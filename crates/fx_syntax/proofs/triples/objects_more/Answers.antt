@@ -1,8 +1,8 @@
 use Rattle.std.proofs.Common.{sym, ◌∙◌}
 use Rattle.std.proofs.lemmas.Result.{err_from_is_err_and}
-use Rattle.fx_syntax.specs.declared.kinds.Kind.TheVariants as k
-use Rattle.fx_syntax.specs.Grammar.{graph_term}
-use Rattle.fx_syntax.proofs.GrammarLaws.{graph_term_law}
+use Rattle.fx_grammar.specs.declared.kinds.Kind.TheVariants as k
+use Rattle.fx_grammar.specs.Grammar.{graph_term}
+use Rattle.fx_grammar.proofs.GrammarLaws.{graph_term_law}
 use Rattle.fx_syntax.proofs.Loops.{hands_on, chain_turn, chain_fails, chain_ends, chain_smaller}
 use Rattle.fx_syntax.proofs.triples.objects_more.Goals as goal
 

@@ -1,7 +1,7 @@
 use Rattle.std.proofs.Common.{◌≡◌, length}
-use Rattle.fx_syntax.specs.Rule.{with_front, more}
-use Rattle.fx_syntax.specs.Grammar.{graph_term}
-use Rattle.fx_syntax.specs.declared.kinds.Kind.TheVariants as k
+use Rattle.fx_grammar.specs.Rule.{with_front, more}
+use Rattle.fx_grammar.specs.Grammar.{graph_term}
+use Rattle.fx_grammar.specs.declared.kinds.Kind.TheVariants as k
 use Rattle.fx_syntax.proofs.triples.objects_more.Given as goal
 
 abbrev pub invariant-more : goal.invariant-more

@@ -1,6 +1,6 @@
 use Rattle.std.proofs.Common.{sym, ◌∙◌}
 use Rattle.std.proofs.lemmas.Result.{err_from_is_err_and}
-use Rattle.fx_syntax.specs.Grammar.{property}
+use Rattle.fx_grammar.specs.Grammar.{property}
 use Rattle.fx_syntax.proofs.Loops.{hands_on, opt_here, opt_fails, opt_none}
 use Rattle.fx_syntax.proofs.triples.opt_property.Goals as goal
 

@@ -1,6 +1,6 @@
 use Rattle.std.proofs.Common.{[], ◌∷◌}
-use Rattle.fx_syntax.specs.Rule.{more}
-use Rattle.fx_syntax.specs.Grammar.{property, properties, more_properties, option_list}
+use Rattle.fx_grammar.specs.Rule.{more}
+use Rattle.fx_grammar.specs.Grammar.{property, properties, more_properties, option_list}
 use Rattle.fx_syntax.proofs.Loops.{each_is}
 use Rattle.fx_syntax.proofs.triples.properties.Goals as goal
 

@@ -1,9 +1,9 @@
 use Rattle.std.proofs.Common.{sym, ◌∙◌}
 use Rattle.std.proofs.lemmas.Result.{err_from_is_err_and}
-use Rattle.fx_syntax.specs.declared.kinds.Kind.TheVariants as k
-use Rattle.fx_syntax.specs.Rule.{opt}
-use Rattle.fx_syntax.specs.Grammar.{property, option_list}
-use Rattle.fx_syntax.proofs.GrammarLaws.{opt_property_law}
+use Rattle.fx_grammar.specs.declared.kinds.Kind.TheVariants as k
+use Rattle.fx_grammar.specs.Rule.{opt}
+use Rattle.fx_grammar.specs.Grammar.{property, option_list}
+use Rattle.fx_grammar.proofs.GrammarLaws.{opt_property_law}
 use Rattle.fx_syntax.proofs.Loops.{hands_on, chain_each_turn, chain_each_fails, chain_each_ends, chain_smaller}
 use Rattle.fx_syntax.proofs.triples.properties_more.Goals as goal
 

@@ -1,7 +1,7 @@
 use Rattle.std.proofs.Common.{◌≡◌, length}
-use Rattle.fx_syntax.specs.Rule.{with_each, more, opt}
-use Rattle.fx_syntax.specs.Grammar.{property, option_list}
-use Rattle.fx_syntax.specs.declared.kinds.Kind.TheVariants as k
+use Rattle.fx_grammar.specs.Rule.{with_each, more, opt}
+use Rattle.fx_grammar.specs.Grammar.{property, option_list}
+use Rattle.fx_grammar.specs.declared.kinds.Kind.TheVariants as k
 use Rattle.fx_syntax.proofs.triples.properties_more.Given as goal
 
 abbrev pub invariant-more : goal.invariant-more

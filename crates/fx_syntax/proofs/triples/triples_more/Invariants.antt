@@ -1,6 +1,6 @@
 use Rattle.std.proofs.Common.{◌≡◌, true, length}
-use Rattle.fx_syntax.specs.Rule.{with_each}
-use Rattle.fx_syntax.specs.Grammar.{more_triples_from, option_items}
+use Rattle.fx_grammar.specs.Rule.{with_each}
+use Rattle.fx_grammar.specs.Grammar.{more_triples_from, option_items}
 use Rattle.fx_syntax.proofs.triples.triples_more.Given as goal
 
 abbrev pub invariant-more : goal.invariant-more

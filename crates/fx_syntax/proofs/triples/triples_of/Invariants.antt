@@ -1,6 +1,6 @@
 use Rattle.std.proofs.Common.{◌≡◌, ◌++◌, drop}
 use Rattle.std.specs.List.{flat_map}
-use Rattle.fx_syntax.specs.Grammar.{property_triples}
+use Rattle.fx_grammar.specs.Grammar.{property_triples}
 use Rattle.fx_syntax.proofs.triples.triples_of.Given as goal
 
 -- what is left completes the triples

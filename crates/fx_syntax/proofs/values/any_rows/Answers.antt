@@ -1,8 +1,8 @@
 use Rattle.std.proofs.Common.{sym, ◌∙◌}
 use Rattle.std.proofs.lemmas.Result.{err_from_is_err_and}
 use Rattle.std.proofs.Common.{true, false}
-use Rattle.fx_syntax.specs.Grammar.{row}
-use Rattle.fx_syntax.proofs.GrammarLaws.{row_law, row_takes}
+use Rattle.fx_grammar.specs.Grammar.{row}
+use Rattle.fx_grammar.proofs.GrammarLaws.{row_law, row_takes}
 use Rattle.fx_syntax.proofs.GroupLaws.{row_sees}
 use Rattle.fx_syntax.proofs.Loops.{hands_on, any_turn, any_fails, any_ends, any_smaller, no_front}
 use Rattle.fx_syntax.proofs.values.any_rows.Goals as goal

@@ -1,5 +1,5 @@
 use Rattle.std.proofs.Common.{◌≡◌, length, []}
-use Rattle.fx_syntax.specs.Grammar.{columns}
+use Rattle.fx_grammar.specs.Grammar.{columns}
 use Rattle.fx_syntax.proofs.GroupLaws.{columns_from}
 use Rattle.fx_syntax.proofs.values.columns.Given as goal
 

@@ -1,7 +1,7 @@
 use Rattle.std.proofs.Common.{sym, ◌∙◌}
 use Rattle.std.proofs.lemmas.Result.{err_from_is_err_and}
-use Rattle.fx_syntax.specs.Grammar.{value}
-use Rattle.fx_syntax.proofs.GrammarLaws.{value_law, value_takes}
+use Rattle.fx_grammar.specs.Grammar.{value}
+use Rattle.fx_grammar.proofs.GrammarLaws.{value_law, value_takes}
 use Rattle.fx_syntax.proofs.Loops.{hands_on, any_turn, any_fails, any_ends, any_smaller, no_front}
 use Rattle.fx_syntax.proofs.values.values.Goals as goal
 

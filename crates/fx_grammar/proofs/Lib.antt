@@ -1,0 +1,7 @@
+pub mod GrammarLaws
+pub mod KindLaws
+pub mod OneQuery
+pub mod RuleKept
+pub mod RuleLaws
+pub mod RuleLocal
+pub mod RuleWhole

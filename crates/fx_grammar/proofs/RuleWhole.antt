@@ -1,0 +1,92 @@
+-- All the tokens are read exactly where they are spelled, and a refusal stays one.
+use Rattle.std.proofs.Common.{◌≡◌, List, [], ◌∷◌, ◌++◌, length, Ok, Err, refl, sym, ap, ◌∙◌, subst, append-nil, ◌≤◌, arith, length-append}
+use Rattle.fx_grammar.specs.declared.kinds.Token.{Token}
+use Rattle.fx_grammar.specs.declared.refusals.SyntaxKind.TheVariants.{Unexpected}
+use Rattle.fx_grammar.specs.Rule.{Outcome, Refusal, and_then, Rule, to_end, read_whole, ReadAsSpelled, RefusedForGood, RefusedTheSame, RefusedFitly, IsFitting}
+use Rattle.fx_grammar.proofs.RuleLaws.{Sound, Lawful}
+use Rattle.fx_grammar.proofs.RuleLocal.{Local, Alike, Leaves, then_alike, leaves_then, leaves_unexpected, refused_alike}
+
+value_of : {A : Type 0} → A → Outcome A → A
+value_of d (Ok p) = p.0
+value_of d (Err r) = d
+
+pub same_value : {A : Type 0} (o : Outcome A) (x y : A) (ts us : List Token) → o ≡ Ok (x, ts) → o ≡ Ok (y, us) → x ≡ y
+unfolding value_of
+same_value o x y ts us e f = ap (value_of x) (sym e ∙ f)
+
+module _ {A : Type 0} (r : Rule A) (l : Lawful r) (ts : List Token) where
+  found_at : (x y : A) (rest : List Token) → (front : List Token) × (ts ≡ front ++ rest) × r.spells front x → to_end x rest ≡ Ok (y, []) → r.spells ts y
+  unfolding to_end
+  found_at x y [] h e =
+      let P : A → Type 0 = λ v. r.spells ts v in
+      let Q : List Token → Type 0 = λ v. r.spells v x in
+      subst P (same_value (to_end x []) x y [] [] refl e) (subst Q (sym (h.1 ∙ append-nil h.0)) h.2)
+  found_at x y (t ∷ rest) h e = absurd (cc)
+
+  found_in : (o : Outcome A) (y : A) → Sound r.spells ts o → and_then o to_end ≡ Ok (y, []) → r.spells ts y
+  found_in (Ok p) y h e = found_at p.0 y p.1 h e
+  found_in (Err f) y h e = absurd (cc)
+
+  pub whole_found : (y : A) → read_whole r ts ≡ Ok (y, []) → r.spells ts y
+  unfolding read_whole
+  whole_found y e = found_in (r.read ts) y (l.sound ts) e
+
+  pub whole_read : (g : A) → r.spells ts g → read_whole r ts ≡ Ok (g, [])
+  unfolding read_whole to_end
+  whole_read g s = rw (subst (λ (v : List Token). r.read v ≡ Ok (g, [])) (append-nil ts) (l.complete ts [] g s refl)) refl
+
+pub read_as_spelled : {A : Type 0} (r : Rule A) → Lawful r → ReadAsSpelled r
+read_as_spelled r l = (λ ts x e. whole_found r l ts x e, λ ts x s. whole_read r l ts x s)
+
+module _ {A : Type 0} (r : Rule A) (law : Lawful r) (l : Local r) where
+  end_leaves : (x : A) (ts : List Token) → Leaves ts (to_end x ts)
+  unfolding to_end
+  end_leaves x [] = ([], refl)
+  end_leaves x (t ∷ ts) = leaves_unexpected A (t ∷ ts)
+
+  end_alike : (t : Token) (u v : List Token) (x : A) (m : List Token) → Alike t u v (to_end x (m ++ t ∷ u)) (to_end x (m ++ t ∷ v))
+  unfolding to_end
+  end_alike t u v x [] = refused_alike A Unexpected t u v []
+  end_alike t u v x (y ∷ m) = refused_alike A Unexpected t u v (y ∷ m)
+
+  whole_alike : (t : Token) (u v front : List Token) → Alike t u v (read_whole r (front ++ t ∷ u)) (read_whole r (front ++ t ∷ v))
+  unfolding read_whole
+  whole_alike t u v front =
+      then_alike t u v front to_end (r.read (front ++ t ∷ u)) (r.read (front ++ t ∷ v)) (l.alike t u v front) (l.leaves (front ++ t ∷ u)) end_leaves (λ x m e. end_alike t u v x m)
+
+  within_by : (ts : List Token) (o : Outcome A) (f : Refusal) → Leaves ts o → o ≡ Err f → f.left ≤ length ts
+  within_by ts (Ok p) f h e = absurd (cc)
+  within_by ts (Err g) f h e =
+      let same : g ≡ f = cc e in
+      let long : length ts ≡ length (h.0 ++ h.1) = ap length h.2 in
+      let left : g.left ≡ f.left = ap (λ (x : Refusal). x.left) same in
+      omega (arith, length-append h.0 h.1, h.3, long, left)
+
+  -- a refusal stands within the tokens, or behind the last
+  pub left_within : (ts : List Token) (f : Refusal) → read_whole r ts ≡ Err f → f.left ≤ length ts
+  unfolding read_whole
+  left_within ts f e = within_by ts (and_then (r.read ts) to_end) f (leaves_then ts (r.read ts) to_end (l.leaves ts) end_leaves) e
+
+  refused_again : (t : Token) (u v front : List Token) (f : Refusal) (x : A) → read_whole r (front ++ t ∷ u) ≡ Err f → f.left ≡ length (t ∷ u) → read_whole r (front ++ t ∷ v) ≡ Ok (x, []) → ⊥
+  refused_again t u v front f x e h g =
+      let a : Alike t u v (Err f) (read_whole r (front ++ t ∷ v)) = subst (λ (o : Outcome A). Alike t u v o (read_whole r (front ++ t ∷ v))) e (whole_alike t u v front) in
+      let b = a [] h in cc (b, g)
+
+  pub refused_for_good : RefusedForGood r
+  refused_for_good tokens refusal e = λ front rest t is h other x s.
+      refused_again t rest other front refusal x (ap (read_whole r) (sym is) ∙ e) h (whole_read r law (front ++ t ∷ other) x s)
+
+  pub refused_the_same : RefusedTheSame r
+  refused_the_same tokens refusal e = λ front rest t is h other.
+      let a : Alike t rest other (Err refusal) (read_whole r (front ++ t ∷ other)) = subst (λ (o : Outcome A). Alike t rest other o (read_whole r (front ++ t ∷ other))) (ap (read_whole r) (sym is) ∙ e) (whole_alike t rest other front) in
+      a [] h
+
+  fit_by : (ts : List Token) (o : Outcome A) (f : Refusal) → Leaves ts o → o ≡ Err f → (front rest : List Token) × (ts ≡ front ++ rest) × (f.left ≡ length rest) × IsFitting f.why rest
+  fit_by ts (Ok p) f h e = absurd (cc)
+  fit_by ts (Err g) f h e =
+      let same : g ≡ f = cc e in
+      subst (λ (x : Refusal). (front rest : List Token) × (ts ≡ front ++ rest) × (x.left ≡ length rest) × IsFitting x.why rest) same h
+
+  pub refused_fitly : RefusedFitly r
+  unfolding read_whole
+  refused_fitly ts f e = fit_by ts (and_then (r.read ts) to_end) f (leaves_then ts (r.read ts) to_end (l.leaves ts) end_leaves) e

@@ -1,0 +1,71 @@
+-- Why a text is refused, and where.
+use Rattle.std.specs.Prelude.{◌≡◌, ℕ, ◌+◌, ◌-◌, if◌then◌else◌, List, [], ◌∷◌, length, drop, slice_index, codes, Option, Some, None, Ok, Err}
+use Rattle.std.specs.Int.{is_in_range}
+use Rattle.std.specs.Str.{chars, IsUtf8}
+use Rattle.std.specs.Str.Lossy.{utf8_valid_len, utf8_error_len}
+use Rattle.fx_tokens.specs.Reads.{Reads}
+use Rattle.fx_tokens.specs.declared.Token as read
+use Rattle.fx_tokens.specs.declared.TokenFault.{TokenFault}
+use Rattle.fx_tokens.specs.declared.TokenError.TheVariants.{Bad}
+use Rattle.fx_grammar.specs.Classified.{classified}
+use Rattle.fx_grammar.specs.Grammar.{query}
+use Rattle.fx_grammar.specs.Rule.{Refusal, read_whole}
+use Rattle.fx_grammar.specs.declared.refusals.SyntaxKind.{SyntaxKind}
+use Rattle.fx_grammar.specs.declared.refusals.SyntaxKind.TheVariants as kind
+use Rattle.fx_grammar.specs.declared.refusals.SyntaxError.{SyntaxError}
+use Rattle.fx_grammar.specs.declared.refusals.SyntaxError.TheVariants.{Refused, Memory}
+
+-- ---- places
+
+-- of bytes with which no character begins: how many at the front begin one; all of them where they end first
+abbrev pub begun : ℕ → List ℕ → Option ℕ → ℕ
+begun first bytes None = length bytes
+begun first bytes (Some n) = if is_in_range 0xC2 0xF4 first then n else 0
+
+-- the first byte such that no UTF-8 begins with the bytes up to it, or the number of bytes where they end inside a character
+abbrev pub utf8_fault : List ℕ → ℕ
+utf8_fault bytes =
+    let n = utf8_valid_len bytes in
+    n + begun (slice_index bytes n) (drop n bytes) (utf8_error_len (drop n bytes))
+
+-- where the first of some tokens begins, or the end of the text
+abbrev pub place_at : List ℕ → List read.Token → ℕ
+place_at bytes [] = length bytes
+place_at bytes (t ∷ tokens) = t.start
+
+-- where the tokens begin of which so many are left
+abbrev pub place_of : List ℕ → List read.Token → ℕ → ℕ
+place_of bytes tokens left = place_at bytes (drop (length tokens - left) tokens)
+
+-- ---- refusals
+
+-- bytes that aren't UTF-8; or else a text with a place where no token stands; or else tokens that the grammar refuses
+pub data IsRefused (bytes : List ℕ) (why : SyntaxKind) (place : ℕ) : Type 0 where
+  not_utf8 : (IsUtf8 bytes → ⊥) → why ≡ kind.BadUtf8 → place ≡ utf8_fault bytes → IsRefused bytes why place
+  no_token : IsUtf8 bytes → (fault : TokenFault) → Reads 0 (chars bytes) (Err (Bad place fault)) → why ≡ kind.BadToken → IsRefused bytes why place
+  no_query : IsUtf8 bytes → (tokens : List read.Token) → Reads 0 (chars bytes) (Ok tokens) → (refusal : Refusal) → read_whole query (classified bytes tokens) ≡ Err refusal → why ≡ refusal.why → place ≡ place_of bytes tokens refusal.left
+      → IsRefused bytes why place
+
+-- a refusal has its reason at its place; want of memory has none
+abbrev pub IsCause : List ℕ → SyntaxError → Type 0
+IsCause bytes Memory = Unit {0}
+IsCause bytes (Refused why place) = IsRefused bytes why place
+
+-- ---- names
+
+-- the name of a reason
+abbrev pub kind_name : SyntaxKind → List ℕ
+kind_name kind.BadUtf8 = codes "BadUtf8"
+kind_name kind.BadToken = codes "BadToken"
+kind_name kind.TooDeep = codes "TooDeep"
+kind_name kind.UnknownPrefix = codes "UnknownPrefix"
+kind_name kind.RelativeIri = codes "RelativeIri"
+kind_name kind.BlankNode = codes "BlankNode"
+kind_name kind.Decimal = codes "Decimal"
+kind_name kind.BadLiteral = codes "BadLiteral"
+kind_name kind.BindInScope = codes "BindInScope"
+kind_name kind.ValuesWidth = codes "ValuesWidth"
+kind_name kind.RepeatedName = codes "RepeatedName"
+kind_name kind.NumberTooWide = codes "NumberTooWide"
+kind_name kind.Unsupported = codes "Unsupported"
+kind_name kind.Unexpected = codes "Unexpected"

@@ -1,5 +1,0 @@
-use Rattle.fx_syntax.proofs.printing.PatternQuery as laws
-use Rattle.fx_syntax.proofs.laws.pattern_query_is_accepted.Goals as goal
-
-pub returns : goal.returns
-returns c = laws.pattern_query_is_accepted
