@@ -9,3 +9,6 @@ pub mod JoinLemmas
 pub mod WeightLemmas
 pub mod UnionLemmas
 pub mod PlainLemmas
+pub mod CutLemmas
+pub mod OperatorLemmas
+pub mod MoveLemmas

@@ -1,6 +1,7 @@
 pub mod Answers
 pub mod BasicGraphPatterns
 pub mod Conditions
+pub mod Cuts
 pub mod Evaluation
 pub mod Graphs
 pub mod Groups
@@ -13,6 +14,7 @@ pub mod Printed
 pub mod Scopes
 pub mod Sequences
 pub mod Solutions
+pub mod Stations
 pub mod Units
 pub mod Values
 pub mod Words

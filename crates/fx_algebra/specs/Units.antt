@@ -1,9 +1,9 @@
 -- What a unit of a run gives from rows, which filters may go with it, and which members have anything for a pattern.
-use Rattle.std.specs.Prelude.{ℕ, Bool, true, false, not, ◌&&◌, ◌||◌, List, [], ◌∷◌, ◌++◌, map, nat_le, if◌then◌else◌}
-use Rattle.std.specs.List.{flat_map, list_all, list_any}
-use Rattle.std.proofs.Common.{suc}
+use Rattle.std.specs.Prelude.{ℕ, Bool, true, false, not, ◌&&◌, ◌||◌, List, [], ◌∷◌, ◌++◌, map, filter, length, get_or, nat_le}
+use Rattle.std.specs.List.{flat_map, list_all, list_any, range_with_len}
 use Rattle.fx_terms.specs.declared.triples.Triple.{Triple}
 use Rattle.fx_terms.specs.declared.patterns.Pattern.{Pattern}
+use Rattle.fx_algebra.specs.Answers.{has_rows}
 use Rattle.fx_algebra.specs.BasicGraphPatterns.{bgp, variables}
 use Rattle.fx_algebra.specs.Measures.{measured, condition_nest}
 use Rattle.fx_algebra.specs.Operators.{merges, filtered}
@@ -92,14 +92,13 @@ is_covered ps e = list_all (is_among (variables ps)) (expr_names e)
 -- ---- which members have anything for a pattern
 
 -- a pattern has a solution over a graph
-abbrev pub fits : List Triple → Pattern → Bool
-fits graph p = not (is_empty (bgp graph (p ∷ [])))
+abbrev pub fits : Pattern → List Triple → Bool
+fits p graph = has_rows (bgp graph (p ∷ []))
 
--- the numbers of the graphs that a pattern fits, where they are numbered from a number on
-abbrev pub sources_from : ℕ → List (List Triple) → Pattern → List ℕ
-sources_from number [] p = []
-sources_from number (graph ∷ graphs) p = if fits graph p then number ∷ sources_from (suc number) graphs p else sources_from (suc number) graphs p
+-- the graph of a member, by its number
+abbrev pub graph_of : List (List Triple) → ℕ → List Triple
+graph_of graphs at = get_or graphs at []
 
--- the sources of a pattern: the members whose graph it fits, by number
+-- the sources of a pattern: the members, by number, whose graph it fits
 abbrev pub sources : List (List Triple) → Pattern → List ℕ
-sources graphs p = sources_from 0 graphs p
+sources graphs p = filter (λ at. fits p (graph_of graphs at)) (range_with_len 0 (length graphs))

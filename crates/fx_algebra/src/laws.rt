@@ -1,5 +1,6 @@
 //! Laws of the definitions, each the contract of a function that does nothing.
 ghost use Rattle.fx_algebra.specs.BasicGraphPatterns.{BgpLaw};
+ghost use Rattle.fx_algebra.specs.Cuts.{CutHasTheNames, MeaningHasTheTree, SeedsForEachStation, StationsAreFixed};
 ghost use Rattle.fx_algebra.specs.Sequences.{OneSequence};
 
 /// The solutions of a basic graph pattern (SPARQL 1.1 section 18.3.1). Over a graph whose triples rise, each stands once, and
@@ -13,4 +14,14 @@ pub fn bgp_law()
 /// however they arrived, give one list of rows, with or without DISTINCT, OFFSET and LIMIT.
 pub fn one_sequence()
     ensures { OneSequence }
+{}
+
+/// The pass over a group that gives its rows also gives its stations, the places that requests are sent for, with the rows that enter
+/// each of them. The stations are the same over all graphs and whichever occurrences of SERVICE are down, each has its rows, and the
+/// pass keeps the group and the names in its scope.
+pub fn one_cut()
+    ensures fixed { StationsAreFixed }
+    ensures seeds { SeedsForEachStation }
+    ensures tree { MeaningHasTheTree }
+    ensures names { CutHasTheNames }
 {}

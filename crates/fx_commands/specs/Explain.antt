@@ -8,7 +8,7 @@ use Rattle.fx_algebra.specs.declared.queries.Query.{Query}
 use Rattle.fx_grammar.specs.Accepted.{Accepted}
 use Rattle.fx_grammar.specs.declared.refusals.SyntaxKind.{SyntaxKind}
 use Rattle.fx_sources.specs.Registries.{read_registry}
-use Rattle.fx_sources.specs.Sources.{sources}
+use Rattle.fx_algebra.specs.Units.{sources}
 use Rattle.fx_sources.specs.declared.errors.RegistryError.{RegistryError}
 use Rattle.fx_plan.specs.Explained.{explained}
 use Rattle.fx_wire.specs.Exchanges.{Seen}

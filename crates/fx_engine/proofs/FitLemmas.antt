@@ -26,7 +26,8 @@ use Rattle.fx_spelling.proofs.Saying.{fine_both}
 use Rattle.fx_spelling.proofs.Terms.{fine_triple}
 use Rattle.fx_wire.specs.Exchanges.{exchanged}
 use Rattle.fx_wire.specs.Honest.{IsHonest}
-use Rattle.fx_sources.specs.Sources.{ask_query, ask_text, fits}
+use Rattle.fx_algebra.specs.Units.{fits}
+use Rattle.fx_sources.specs.Sources.{ask_query, ask_text}
 use Rattle.fx_sources.proofs.AskLemmas.{ask_tells}
 use Rattle.fx_engine.specs.Federation.{fit_of, IsBadExchange}
 use Rattle.fx_engine.specs.ReplyChecks.{a_truth, HasFault}

@@ -16,7 +16,7 @@ use Rattle.fx_algebra.specs.Operators.{join}
 use Rattle.fx_algebra.specs.Solutions.{Bindings, SameRows}
 use Rattle.fx_algebra.proofs.BgpLemmas.{rows_from-bgp}
 use Rattle.fx_algebra.proofs.MemberLemmas.{among_map, among_from_map}
-use Rattle.fx_sources.specs.Sources.{fits, graph_of, sources}
+use Rattle.fx_algebra.specs.Units.{fits, graph_of, sources}
 use Rattle.fx_engine.specs.Federation.{Tells, AreRowsOf}
 use Rattle.fx_engine.proofs.FederationLemmas.{joined_more}
 use Rattle.fx_engine.proofs.GatherLemmas.{gathered, no_rows}

@@ -7,12 +7,12 @@ use Rattle.std.proofs.lemmas.List.FromFn.{get_or-range_with_len, length-range_wi
 use Rattle.std.proofs.lemmas.List.Kept.{AllPairs-filter}
 use Rattle.fx_terms.specs.declared.triples.Triple.{Triple}
 use Rattle.fx_terms.specs.declared.patterns.Pattern.{Pattern}
-use Rattle.fx_algebra.specs.Answers.{has_rows, is_empty_list}
+use Rattle.fx_algebra.specs.Answers.{has_rows, is_empty_list, no_graphs}
 use Rattle.fx_algebra.specs.BasicGraphPatterns.{bgp, variables}
+use Rattle.fx_algebra.specs.Groups.{Meaning, Part, pattern, condition, operator, names_before, group_cut, element_meaning, group_meaning}
 use Rattle.fx_algebra.specs.Measures.{is_some, measured}
-use Rattle.fx_algebra.specs.Units.{is_covered, is_empty, is_pushable, sources_from}
+use Rattle.fx_algebra.specs.Units.{is_covered, is_empty, is_pushable}
 use Rattle.fx_algebra.specs.Solutions.{Bindings}
-use Rattle.fx_algebra.specs.Units as own
 use Rattle.fx_algebra.specs.declared.expressions.Expr.{Expr}
 use Rattle.fx_algebra.specs.declared.queries.Element.{Element, Element-F, map-Element, fold-roll-Element, roll-Element}
 use Rattle.fx_algebra.specs.declared.queries.Group.{Group, Group-F, ind-Group, fold-roll-Group, map-Group, roll-Group}
@@ -20,13 +20,15 @@ use Rattle.fx_algebra.specs.declared.units.Unit as unit
 use Rattle.fx_plan.specs.Laws as plans
 use Rattle.fx_plan.specs.Plans.{Asked, by_position, in_order, is_sooner, next, plan, pushed, shared, taken}
 use Rattle.fx_plan.specs.declared.parts.Part.TheVariants as part
-use Rattle.fx_plan.proofs.LawLemmas.{filters_are_own, no_source_is_left_out, units_are_of_the_run}
-use Rattle.fx_sources.specs.Sources.{fits, graph_of, sources}
+use Rattle.fx_plan.proofs.LawLemmas.{filters_are_own, filters_of_run, no_source_is_left_out, units_are_of_the_run}
+use Rattle.fx_algebra.specs.Units.{fits, graph_of, sources}
 use Rattle.fx_spelling.specs.Printable.{Held, all_held, are_fresh, held, held_element, hold_element, hold_group, is_verb}
 use Rattle.fx_spelling.specs.Units.{IsExclusive, IsFit, IsPushed, IsSingle}
 use Rattle.fx_spelling.proofs.TakenQueries.{accepted_is_printable}
 use Rattle.fx_engine.specs.Laws.{HasFitUnits, HasSoundUnits, UnitsAreFit, UnitsAreSound}
-use Rattle.fx_engine.specs.Sections.{Piece, pattern, condition, block, Outline, alternatives, element_piece, group_outline, names_before, outline, part_with, parts_with, piece, piece_filters, run_of, sections, sections_from}
+use Rattle.fx_engine.specs.SectionSteps.{part_of, group_of, part_filters, sections_in, alternatives, run_of, sections_from}
+use Rattle.fx_engine.specs.Sections.{part_with, parts_with, sections}
+use Rattle.fx_engine.proofs.SectionLemmas.{of_alternatives, of_parts}
 use Rattle.fx_engine.specs.declared.sections.Section.{Section}
 use Rattle.fx_engine.specs.declared.sections.Section.TheVariants.{Run, Service}
 
@@ -73,38 +75,39 @@ GoodSection (Service iri) = Unit {0}
 abbrev GoodSections : List Section → Type 0
 GoodSections ss = AllByRecursion GoodSection ss
 
--- so it is of each piece, whatever names are bound before it
-abbrev GoodPiece : Piece → Type 0
-GoodPiece (pattern p) = HasVerb p
-GoodPiece (condition e) = IsGood e
-GoodPiece (block names inside) = (before : List (List ℕ)) → GoodSections (inside before)
+-- so it is of each element, whatever names are bound before it
+abbrev GoodPart : Part → Type 0
+GoodPart (pattern p) = HasVerb p
+GoodPart (condition e) = IsGood e
+GoodPart (operator o) = (before : List (List ℕ)) → GoodSections (sections_in o.cut before)
 
 good_run : (filters : List Expr) (known : List (List ℕ)) (ps : List Pattern) → AllByRecursion IsGood filters → AllByRecursion HasVerb ps → GoodSections (run_of filters known ps)
 good_run filters known [] f h = tt
 good_run filters known (p ∷ ps) f h = ((h, f), tt)
 
-good_from : (filters : List Expr) (known : List (List ℕ)) (run : List Pattern) (pieces : List Piece) → AllByRecursion IsGood filters → AllByRecursion HasVerb run → AllByRecursion GoodPiece pieces → GoodSections (sections_from filters known run pieces)
+good_from : (filters : List Expr) (known : List (List ℕ)) (run : List Pattern) (parts : List Part) → AllByRecursion IsGood filters → AllByRecursion HasVerb run → AllByRecursion GoodPart parts → GoodSections (sections_from filters known run parts)
 good_from filters known run [] f r h = good_run filters known run f r
-good_from filters known run (pattern p ∷ pieces) f r h = good_from filters known (run ++ p ∷ []) pieces f (each_append HasVerb run (p ∷ []) r (h.0, tt)) h.1
-good_from filters known run (condition e ∷ pieces) f r h = good_from filters known run pieces f r h.1
-good_from filters known run (block names inside ∷ pieces) f r h =
+good_from filters known run (pattern p ∷ parts) f r h = good_from filters known (run ++ p ∷ []) parts f (each_append HasVerb run (p ∷ []) r (h.0, tt)) h.1
+good_from filters known run (condition e ∷ parts) f r h = good_from filters known run parts f r h.1
+good_from filters known run (operator o ∷ parts) f r h =
     let before = known ++ variables run in
-    each_append GoodSection (run_of filters known run) (inside before ++ sections_from filters (before ++ names) [] pieces) (good_run filters known run f r)
-    (each_append GoodSection (inside before) (sections_from filters (before ++ names) [] pieces) (h.0 before) (good_from filters (before ++ names) [] pieces f tt h.1))
+    let rest = sections_from filters (before ++ o.cut.names) [] parts in
+    each_append GoodSection (run_of filters known run) (sections_in o.cut before ++ rest) (good_run filters known run f r)
+    (each_append GoodSection (sections_in o.cut before) rest (h.0 before) (good_from filters (before ++ o.cut.names) [] parts f tt h.1))
 
-good_filters : (pieces : List Piece) → AllByRecursion GoodPiece pieces → AllByRecursion IsGood (flat_map piece_filters pieces)
+good_filters : (parts : List Part) → AllByRecursion GoodPart parts → AllByRecursion IsGood (flat_map part_filters parts)
 good_filters [] h = tt
-good_filters (pattern p ∷ pieces) h = good_filters pieces h.1
-good_filters (condition e ∷ pieces) h = (h.0, good_filters pieces h.1)
-good_filters (block names inside ∷ pieces) h = good_filters pieces h.1
+good_filters (pattern p ∷ parts) h = good_filters parts h.1
+good_filters (condition e ∷ parts) h = (h.0, good_filters parts h.1)
+good_filters (operator o ∷ parts) h = good_filters parts h.1
 
 -- ---- by induction over the group
 
 abbrev ElementGood : Element → Type 0
-ElementGood e = (held_element e).good ≡ true → GoodPiece (piece e)
+ElementGood e = (held_element e).good ≡ true → GoodPart (part_of e)
 
 abbrev GroupGood : Group → Type 0
-GroupGood g = (held g).good ≡ true → (before : List (List ℕ)) → GoodSections ((outline g).sections before)
+GroupGood g = (held g).good ≡ true → (before : List (List ℕ)) → GoodSections (sections_in (group_of g).cut before)
 
 abbrev GoodElement : Type 0
 GoodElement = (e : Element) × ElementGood e
@@ -114,20 +117,21 @@ GoodGroup = (g : Group) × GroupGood g
 
 abbrev LayerGood : Element-F Element Group → Type 0
 LayerGood x =
-    (hold_element (map-Element Element Group Held Held held_element held x)).good ≡ true → GoodPiece (element_piece (map-Element Element Group Piece Outline piece outline x))
+    (hold_element (map-Element Element Group Held Held held_element held x)).good ≡ true → GoodPart (element_meaning no_graphs [] (map-Element Element Group Part Meaning part_of group_of x))
 
-alternatives_good : (gs : List GoodGroup) → all_held (map held (map (λ g. g.0) gs)) ≡ true → GoodSections (alternatives (map outline (map (λ g. g.0) gs)))
+alternatives_good : (gs : List GoodGroup) → all_held (map held (map (λ g. g.0) gs)) ≡ true → GoodSections (alternatives (map group_of (map (λ g. g.0) gs)))
 alternatives_good [] h = tt
 alternatives_good (g ∷ gs) h =
     let t = both_true (held g.0).good (all_held (map held (map (λ (k : GoodGroup). k.0) gs))) h in
-    each_append GoodSection ((outline g.0).sections []) (alternatives (map outline (map (λ (k : GoodGroup). k.0) gs))) (g.1 t.0 []) (alternatives_good gs t.1)
+    each_append GoodSection (sections_in (group_of g.0).cut []) (alternatives (map group_of (map (λ (k : GoodGroup). k.0) gs))) (g.1 t.0 []) (alternatives_good gs t.1)
 
 layer_good : (y : Element-F GoodElement GoodGroup) → LayerGood (map-Element GoodElement GoodGroup Element Group (λ e. e.0) (λ g. g.0) y)
 layer_good (Element-F.Triple p) = λ h. h
 layer_good (Element-F.Filter e) = λ h. h
-layer_good (Element-F.Optional g) = λ h before. g.1 h (names_before (outline g.0).simple before)
+layer_good (Element-F.Optional g) = λ h before. g.1 h (names_before (group_of g.0).is_simple before)
 layer_good (Element-F.Union gs) =
-    λ h before. alternatives_good gs (both_true (is_some (map held (map (λ (k : GoodGroup). k.0) gs))) (all_held (map held (map (λ (k : GoodGroup). k.0) gs))) h).1
+    λ h before. subst GoodSections (sym (of_alternatives (map (λ (k : GoodGroup). k.0) gs) 0))
+    (alternatives_good gs (both_true (is_some (map held (map (λ (k : GoodGroup). k.0) gs))) (all_held (map held (map (λ (k : GoodGroup). k.0) gs))) h).1)
 layer_good (Element-F.Minus g) = λ h before. g.1 h []
 layer_good (Element-F.Bind e name) = λ h before. tt
 layer_good (Element-F.Values inline) = λ h before. tt
@@ -135,56 +139,27 @@ layer_good (Element-F.Service silent iri g) = λ h before. (tt, tt)
 
 element_good : (x : Element-F Element Group) (y : Element-F GoodElement GoodGroup) → map-Element GoodElement GoodGroup Element Group (λ e. e.0) (λ g. g.0) y ≡ x → ElementGood (roll-Element x)
 element_good x y is = λ h.
-    subst GoodPiece (sym (fold-roll-Element Piece Outline element_piece group_outline x))
+    subst GoodPart (sym (fold-roll-Element Part Meaning (element_meaning no_graphs []) group_meaning x))
     (subst LayerGood is (layer_good y) (ap (λ (v : Held). v.good) (sym (fold-roll-Element Held Held hold_element hold_group x)) ∙ h))
 
 abbrev LayerGroupGood : Group-F Element Group → Type 0
-LayerGroupGood x = all_held (map held_element x.elements) ≡ true → AllByRecursion GoodPiece (map piece x.elements)
+LayerGroupGood x = all_held (map held_element x.elements) ≡ true → AllByRecursion GoodPart (map part_of x.elements)
 
-pieces_good : (es : List GoodElement) → all_held (map held_element (map (λ e. e.0) es)) ≡ true → AllByRecursion GoodPiece (map piece (map (λ e. e.0) es))
-pieces_good [] h = tt
-pieces_good (e ∷ es) h =
+parts_good : (es : List GoodElement) → all_held (map held_element (map (λ e. e.0) es)) ≡ true → AllByRecursion GoodPart (map part_of (map (λ e. e.0) es))
+parts_good [] h = tt
+parts_good (e ∷ es) h =
     let t = both_true (held_element e.0).good (all_held (map held_element (map (λ (k : GoodElement). k.0) es))) h in
-    (e.1 t.0, pieces_good es t.1)
+    (e.1 t.0, parts_good es t.1)
 
 group_good : (x : Group-F Element Group) (y : Group-F GoodElement GoodGroup) → map-Group GoodElement GoodGroup Element Group (λ e. e.0) (λ g. g.0) y ≡ x → GroupGood (roll-Group x)
 group_good x y is = λ h before.
     let good = ap (λ (v : Held). v.good) (sym (fold-roll-Group Held Held hold_element hold_group x)) ∙ h in
-    let each = subst LayerGroupGood is (pieces_good y.elements) (both_true (all_held (map held_element x.elements)) (are_fresh [] (map held_element x.elements)) good).0 in
-    subst (λ (o : Outline). GoodSections (o.sections before)) (sym (fold-roll-Group Piece Outline element_piece group_outline x))
-    (good_from (flat_map piece_filters (map piece x.elements)) before [] (map piece x.elements) (good_filters (map piece x.elements) each) tt each)
+    let each = subst LayerGroupGood is (parts_good y.elements) (both_true (all_held (map held_element x.elements)) (are_fresh [] (map held_element x.elements)) good).0 in
+    subst (λ (m : Meaning). GoodSections (sections_in m.cut before)) (sym (fold-roll-Group Part Meaning (element_meaning no_graphs []) group_meaning x))
+    (subst GoodSections (sym (of_parts x.elements before)) (good_from (flat_map part_filters (map part_of x.elements)) before [] (map part_of x.elements) (good_filters (map part_of x.elements) each) tt each))
 
 sections_good : (g : Group) → GroupGood g
 sections_good = ind-Group ElementGood GroupGood element_good group_good
-
--- ---- the filters of a plan are among those of the run
-
-module _ (P : unit.Unit → Type 0) (known : List (List ℕ)) where
-  of_next : (u : unit.Unit) (us : List unit.Unit) → P u → AllByRecursion P us → P (next known u us).0 × AllByRecursion P (next known u us).1
-  of_next u [] h k = (h, tt)
-  of_next u (v ∷ vs) h k = by (of_next v vs k.0 k.1) (is_sooner known (next known v vs).0 u)
-    where
-      by : P (next known v vs).0 × AllByRecursion P (next known v vs).1 → (b : Bool) →
-          (λ (r : unit.Unit × List unit.Unit). P r.0 × AllByRecursion P r.1) (if b then ((next known v vs).0, u ∷ (next known v vs).1) else (u, v ∷ vs))
-      by r true = (r.0, (h, r.1))
-      by r false = (h, k)
-
-of_taken : (P : unit.Unit → Type 0) (n : ℕ) (known : List (List ℕ)) (us : List unit.Unit) → AllByRecursion P us → AllByRecursion P (taken n known us)
-of_taken P zero known us h = tt
-of_taken P (suc n) known [] h = tt
-of_taken P (suc n) known (u ∷ us) h =
-    let r = of_next P known u us h.0 h.1 in
-    (r.0, of_taken P n (known ++ variables (next known u us).0.patterns) (next known u us).1 r.1)
-
-of_shared : (P : Expr → Type 0) (es : List Expr) (us : List unit.Unit) → AllByRecursion P es → AllByRecursion (λ u. AllByRecursion P u.filters) (shared es us)
-of_shared P es [] h = tt
-of_shared P es (u ∷ us) h = (each_filter P (is_covered u.patterns) es h, of_shared P (filter (λ e. not (is_covered u.patterns e)) es) us (each_filter P (λ e. not (is_covered u.patterns e)) es h))
-
-filters_of_run : (P : Expr → Type 0) (run : List Pattern) (asked : List (List ℕ)) (filters : List Expr) (bound : List (List ℕ)) → AllByRecursion P filters → All (λ u. AllByRecursion P u.filters) (plan run asked filters bound)
-filters_of_run P run asked filters bound h =
-    let us = pushed filters (by_position (zip run asked)) in
-    All-from_recursion (λ u. AllByRecursion P u.filters) (in_order bound us)
-    (of_taken (λ u. AllByRecursion P u.filters) (length us) bound us (of_shared P (filter is_pushable filters) (by_position (zip run asked)) (each_filter P is_pushable filters h)))
 
 -- ---- the units of a plan can be asked for
 
@@ -283,33 +258,15 @@ range_rises a n i j d before within =
 sources_rise : (graphs : List (List Triple)) (p : Pattern) → AllPairs ◌<◌ (sources graphs p)
 sources_rise graphs p = AllPairs-filter ◌<◌ (λ at. fits p (graph_of graphs at)) (range_with_len 0 (length graphs)) (range_rises 0 (length graphs))
 
-rows_or_none : (rows : List Bindings) → not (is_empty rows) ≡ has_rows rows
-rows_or_none [] = refl
-rows_or_none (row ∷ rows) = refl
-
--- the numbers from n on of the graphs that a pattern fits, by a test of numbers
-from_is : (p : Pattern) (test : ℕ → Bool) (n : ℕ) (gs : List (List Triple)) → ((k : ℕ) → k < length gs → test (n + k) ≡ own.fits (get_or gs k []) p) → sources_from n gs p ≡ filter test (range_with_len n (length gs))
-from_is p test n [] h = refl
-from_is p test n (g ∷ gs) h =
-    let here : own.fits g p ≡ test n = sym (h 0 (omega arith)) ∙ ap test (omega arith) in
-    let rest : sources_from (suc n) gs p ≡ filter test (range_with_len (n + 1) (length gs)) =
-    from_is p test (suc n) gs (λ k low. ap test (omega arith) ∙ h (suc k) (omega arith)) ∙ ap (λ (m : ℕ). filter test (range_with_len m (length gs))) (omega arith) in
-    λ i. cond (here i) (n ∷ rest i) (rest i)
-
--- the sources of the algebra are the same
-same_sources : (graphs : List (List Triple)) (p : Pattern) → own.sources graphs p ≡ sources graphs p
-same_sources graphs p = from_is p (λ at. fits p (graph_of graphs at)) 0 graphs (λ k low. ap (λ (m : ℕ). fits p (graph_of graphs m)) (omega arith) ∙ sym (rows_or_none (bgp (graph_of graphs k) (p ∷ []))))
-
 -- ---- no member of a unit is left out
 
 whole : (graphs : List (List Triple)) (u : unit.Unit) → plans.IsExclusive graphs u ⊎ plans.IsComplete graphs u → IsSingle graphs u ⊎ IsExclusive graphs u
 whole graphs u (inl x) = inr (record { member = x.member; alone = x.alone; only = x.only })
 whole graphs u (inr x) =
-    inl (record { pattern = x.pattern; alone = x.alone; all = subst (λ (ms : List ℕ). All (Contains ms) (own.sources graphs x.pattern)) (sym x.all) (All-contains_itself (own.sources graphs x.pattern)) })
+    inl (record { pattern = x.pattern; alone = x.alone; all = subst (λ (ms : List ℕ). All (Contains ms) (sources graphs x.pattern)) (sym x.all) (All-contains_itself (sources graphs x.pattern)) })
 
 none_left_out : (graphs : List (List Triple)) (ps : List Pattern) (filters : List Expr) (bound : List (List ℕ)) → All (λ u. plans.IsExclusive graphs u ⊎ plans.IsComplete graphs u) (plan ps (map (sources graphs) ps) filters bound)
-none_left_out graphs ps filters bound =
-    subst (λ (f : Pattern → List ℕ). All (λ u. plans.IsExclusive graphs u ⊎ plans.IsComplete graphs u) (plan ps (map f ps) filters bound)) (λ i p. same_sources graphs p i) (no_source_is_left_out graphs ps filters bound)
+none_left_out graphs ps filters bound = no_source_is_left_out graphs ps filters bound
 
 sound_part : (graphs : List (List Triple)) (s : Section) → HasFitUnits (part_with (sources graphs) s) → HasSoundUnits graphs (part_with (sources graphs) s)
 sound_part graphs (Run ps filters bound) h = by (list_any is_empty_list (map (sources graphs) ps)) h

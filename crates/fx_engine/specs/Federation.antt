@@ -21,7 +21,8 @@ use Rattle.fx_wire.specs.Exchanges.{Exchange, Seen}
 use Rattle.fx_sources.specs.Keys.{key}
 use Rattle.fx_sources.specs.Patterns.{patterns}
 use Rattle.fx_sources.specs.Probes.{Entry, chosen, key_of, learned, missing, probe, told}
-use Rattle.fx_sources.specs.Sources.{ask_query, ask_text, fits, graph_of, sources}
+use Rattle.fx_algebra.specs.Units.{fits, graph_of, sources}
+use Rattle.fx_sources.specs.Sources.{ask_query, ask_text}
 use Rattle.fx_sources.specs.Sources as source
 use Rattle.fx_sources.specs.declared.probes.Probe.{Probe}
 use Rattle.fx_engine.specs.MemberQueries.{columns_of, is_literal, IsAsked}

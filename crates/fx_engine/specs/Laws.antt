@@ -7,7 +7,7 @@ use Rattle.fx_algebra.specs.declared.queries.Query.{Query}
 use Rattle.fx_plan.specs.declared.parts.Part.{Part}
 use Rattle.fx_plan.specs.declared.parts.Part.TheVariants.{Run, EmptyRun, Service}
 use Rattle.fx_sources.specs.Patterns.{patterns}
-use Rattle.fx_sources.specs.Sources.{sources}
+use Rattle.fx_algebra.specs.Units.{sources}
 use Rattle.fx_grammar.specs.Accepted.{Accepted}
 use Rattle.fx_spelling.specs.Units.{IsFit, IsSound}
 use Rattle.fx_engine.specs.Sections.{parts_with, run_patterns, sections}

@@ -5,6 +5,7 @@ pub mod MemberQueries
 pub mod Planning
 pub mod Refusals
 pub mod ReplyChecks
+pub mod SectionSteps
 pub mod Sections
 pub mod TableErrors
 pub mod Tables

@@ -1,8 +1,11 @@
 //! The parts of a query that requests are sent for.
 ghost use Rattle.std.specs.Prelude.{◌≡◌, ◌++◌, [], IfOk, OnOk, map};
+ghost use Rattle.std.specs.List.{flat_map};
 ghost use Rattle.fx_algebra.specs.BasicGraphPatterns.{variables};
 ghost use Rattle.fx_algebra.specs.Scopes.{once as once_each};
-ghost use Rattle.fx_engine.specs.Sections as spec;
+ghost use Rattle.fx_algebra.specs.Groups.{keeps_run as keeps};
+ghost use Rattle.fx_engine.specs.SectionSteps as spec;
+ghost use Rattle.fx_engine.specs.Sections.{sections as sections_of};
 
 use crate::queries::push_names;
 use fx_algebra::scopes::{add_element as add_names, once};
@@ -38,7 +41,7 @@ struct Pending {
 /// elements before it in its group; those before the run of an OPTIONAL that holds triple patterns and filters alone are those
 /// before the OPTIONAL.
 pub(crate) fn sections(alloc: Global, query: &Query) -> Result<Vec<Section>, Memory>
-    ensures { IfOk result (λ sections. sections.items ≡ spec.sections query.now) }
+    ensures { IfOk result (λ sections. sections.items ≡ sections_of query.now) }
 {
     let mut sections = Vec::new(alloc);
     add_group(alloc, &mut sections, &query.group, &[])?;
@@ -53,7 +56,7 @@ fn add_group(
     group: &Group,
     before: &[Name],
 ) -> Result<(), Memory>
-    ensures { OnOk result (sections.new.items ≡ sections.old.items ++ (spec.outline group.now).sections before.now) }
+    ensures { OnOk result (sections.new.items ≡ sections.old.items ++ spec.sections_in (spec.group_of group.now).cut before.now) }
 {
     let filters = filters_of(alloc, group)?;
     let mut pending = begin(alloc, before)?;
@@ -77,7 +80,7 @@ fn add_inside(
     element: &Element,
     before: &[Name],
 ) -> Result<(), Memory>
-    ensures { OnOk result (sections.new.items ≡ sections.old.items ++ spec.inside_of (spec.piece element.now) before.now) }
+    ensures { OnOk result (sections.new.items ≡ sections.old.items ++ spec.inside_of (spec.part_of element.now) before.now) }
 {
     match element {
         Element::Triple(_) => Ok(()),
@@ -106,7 +109,7 @@ fn add_inside(
 
 #[cycle(sections)]
 fn add_groups(alloc: Global, sections: &mut Vec<Section>, groups: &[Group]) -> Result<(), Memory>
-    ensures { OnOk result (sections.new.items ≡ sections.old.items ++ spec.alternatives (map spec.outline groups.now)) }
+    ensures { OnOk result (sections.new.items ≡ sections.old.items ++ spec.alternatives (map spec.group_of groups.now)) }
 {
     for group in groups {
         add_group(alloc, sections, group, &[])?;
@@ -164,7 +167,7 @@ fn push_variables(names: &mut Vec<Name>, patterns: &[Pattern]) -> Result<(), Mem
 
 // The pattern of an element, behind those that were there, where it is a triple pattern.
 fn push_pattern(run: &mut Vec<Pattern>, element: &Element) -> Result<(), Memory>
-    ensures { OnOk result (run.new.items ≡ run.old.items ++ spec.piece_patterns (spec.piece element.now)) }
+    ensures { OnOk result (run.new.items ≡ run.old.items ++ spec.part_patterns (spec.part_of element.now)) }
 {
     if let Element::Triple(pattern) = element {
         run.push(pattern.copy()?)?;
@@ -174,7 +177,7 @@ fn push_pattern(run: &mut Vec<Pattern>, element: &Element) -> Result<(), Memory>
 
 // The filters of a group.
 fn filters_of(alloc: Global, group: &Group) -> Result<Vec<Expr>, Memory>
-    ensures { IfOk result (λ filters. filters.items ≡ (spec.outline group.now).filters) }
+    ensures { IfOk result (λ filters. filters.items ≡ flat_map spec.part_filters (map spec.part_of group.now.elements)) }
 {
     let mut filters = Vec::new(alloc);
     for element in group.elements.as_slice() {
@@ -185,7 +188,7 @@ fn filters_of(alloc: Global, group: &Group) -> Result<Vec<Expr>, Memory>
 
 // The condition of an element, behind those that were there, where it is a filter.
 fn push_filter(alloc: Global, filters: &mut Vec<Expr>, element: &Element) -> Result<(), Memory>
-    ensures { OnOk result (filters.new.items ≡ filters.old.items ++ spec.piece_filters (spec.piece element.now)) }
+    ensures { OnOk result (filters.new.items ≡ filters.old.items ++ spec.part_filters (spec.part_of element.now)) }
 {
     if let Element::Filter(filter) = element {
         filters.push(filter.copy(alloc)?)?;
@@ -195,7 +198,7 @@ fn push_filter(alloc: Global, filters: &mut Vec<Expr>, element: &Element) -> Res
 
 // Whether a group holds triple patterns and filters alone.
 fn is_simple(group: &Group) -> bool
-    ensures { result ≡ (spec.outline group.now).simple }
+    ensures { result ≡ (spec.group_of group.now).is_simple }
 {
     for element in group.elements.as_slice() {
         if !keeps_run(element) {
@@ -207,7 +210,7 @@ fn is_simple(group: &Group) -> bool
 
 // Whether a run goes on behind an element: it is a triple pattern or a filter.
 fn keeps_run(element: &Element) -> bool
-    ensures { result ≡ spec.is_simple (spec.piece element.now) }
+    ensures { result ≡ keeps (spec.part_of element.now) }
 {
     match element {
         Element::Triple(_) => true,

@@ -12,7 +12,7 @@ use Rattle.fx_algebra.specs.declared.queries.Query.{Query}
 use Rattle.fx_solutions.specs.Tables.{OneAnswer}
 use Rattle.fx_member.specs.FirstHere.{first_up, first_here}
 use Rattle.fx_member.specs.GroupRows.{AreDown, AreRowsOf, IsAnswerOf}
-use Rattle.fx_member.proofs.OperatorLemmas.{with_inline_moves}
+use Rattle.fx_algebra.proofs.OperatorLemmas.{with_inline_moves}
 use Rattle.fx_member.proofs.CountLemmas.{services_count}
 
 pub answer_of_rows : (q : Query) (graph : List Triple) (found all : List Bindings) (made : Answer) → OneAnswer → AreRowsOf q.group graph found → IsPermutation (with_inline q.inline found) all → All (λ s. IsTrue (rises s)) all

@@ -22,7 +22,8 @@ use Rattle.fx_algebra.specs.declared.queries.Group.{Group, fold_out-Group}
 use Rattle.fx_algebra.proofs.ForcedLemmas.{IsForced, of_outcome, forced_is}
 use Rattle.fx_algebra.proofs.JoinLemmas.{join_extends, join_run, same_join}
 use Rattle.fx_member.specs.GroupRows.{AreDown, part_of, after_part, AreRowsOf, AreUnfiltered, AreFilters, AreMoreFilters, AreAlternatives, AreAfter}
-use Rattle.fx_member.proofs.OperatorLemmas.{filtered_moves, extend_moves, minus_moves, left_join_moves, join_one}
+use Rattle.fx_algebra.proofs.MoveLemmas.{after_moves, steps_move}
+use Rattle.fx_algebra.proofs.OperatorLemmas.{filtered_moves, minus_moves, left_join_moves, join_one}
 
 -- the rows rise by their names
 abbrev pub AllRise : List Bindings → Type 0
@@ -65,54 +66,7 @@ join_more graph p ps rows up = join_run graph (p ∷ ps) rows up ∙ sym (join_r
 pub after_pattern : (graph : List Triple) (number : ℕ) (p : Pattern) (steps : List Step) (rows : List Bindings) → AllRise rows → after graph number rows (with_pattern p steps) ≡ after graph number (extended graph p rows) steps
 after_pattern graph number p [] rows up = join_extends graph p rows up
 after_pattern graph number p (run ps ∷ steps) rows up = ap (λ v. after graph number v steps) (join_more graph p ps rows up)
-after_pattern graph number p (apply count f ∷ steps) rows up = ap (λ v. after graph number v (apply count f ∷ steps)) (join_extends graph p rows up)
-
--- ---- the same rows before give the same rows after
-
-abbrev Moves : (List Triple → ℕ → List Bindings → List Bindings) → Type 0
-Moves f = (graph : List Triple) (number : ℕ) (xs ys : List Bindings) → IsPermutation xs ys → IsPermutation (f graph number xs) (f graph number ys)
-
-abbrev PartMoves : Part → Type 0
-PartMoves (pattern p) = Unit {0}
-PartMoves (condition e) = Unit {0}
-PartMoves (operator count f) = Moves f
-
-abbrev StepMoves : Step → Type 0
-StepMoves (run ps) = Unit {0}
-StepMoves (apply count f) = Moves f
-
-element_moves : (graphs : List ℕ → List Triple) (down : List ℕ) (e : Element-F Part Meaning) → PartMoves (element_meaning graphs down e)
-element_moves graphs down (Element-F.Triple p) = tt
-element_moves graphs down (Element-F.Filter e) = tt
-element_moves graphs down (Element-F.Optional g) = λ graph number xs ys h. left_join_moves xs ys (g.rows graph number) (g.rows graph number) g.filters h (IsPermutation-refl (g.rows graph number))
-element_moves graphs down (Element-F.Union gs) = λ graph number xs ys h. same_join xs ys (alternatives gs graph number) (alternatives gs graph number) h (IsPermutation-refl (alternatives gs graph number))
-element_moves graphs down (Element-F.Minus g) = λ graph number xs ys h. minus_moves xs ys (group_rows g graph number) (group_rows g graph number) h (IsPermutation-refl (group_rows g graph number))
-element_moves graphs down (Element-F.Bind e name) = λ graph number xs ys h. extend_moves name e xs ys h
-element_moves graphs down (Element-F.Values inline) = λ graph number xs ys h. same_join xs ys (inline_rows inline) (inline_rows inline) h (IsPermutation-refl (inline_rows inline))
-element_moves graphs down (Element-F.Service silent iri g) =
-    λ graph number xs ys h. same_join xs ys (service_rows graphs down iri g number) (service_rows graphs down iri g number) h (IsPermutation-refl (service_rows graphs down iri g number))
-
-part_moves : (graphs : List ℕ → List Triple) (down : List ℕ) (e : Element) → PartMoves (part_of graphs down e)
-part_moves graphs down e = subst PartMoves (sym (fold_out-Element Part Meaning (element_meaning graphs down) group_meaning e)) (element_moves graphs down _)
-
-with_pattern_moves : (p : Pattern) (steps : List Step) → AllByRecursion StepMoves steps → AllByRecursion StepMoves (with_pattern p steps)
-with_pattern_moves p [] h = (tt, tt)
-with_pattern_moves p (run ps ∷ steps) h = (tt, h.1)
-with_pattern_moves p (apply count f ∷ steps) h = (tt, h)
-
-with_part_moves : (part : Part) (steps : List Step) → PartMoves part → AllByRecursion StepMoves steps → AllByRecursion StepMoves (with_part part steps)
-with_part_moves (pattern p) steps h k = with_pattern_moves p steps k
-with_part_moves (condition e) steps h k = k
-with_part_moves (operator count f) steps h k = (h, k)
-
-steps_move : (graphs : List ℕ → List Triple) (down : List ℕ) (elements : List Element) → AllByRecursion StepMoves (steps_of (map (part_of graphs down) elements))
-steps_move graphs down [] = tt
-steps_move graphs down (e ∷ es) = with_part_moves (part_of graphs down e) (steps_of (map (part_of graphs down) es)) (part_moves graphs down e) (steps_move graphs down es)
-
-after_moves : (graph : List Triple) (steps : List Step) → AllByRecursion StepMoves steps → (number : ℕ) (xs ys : List Bindings) → IsPermutation xs ys → IsPermutation (after graph number xs steps) (after graph number ys steps)
-after_moves graph [] all number xs ys h = h
-after_moves graph (run ps ∷ steps) all number xs ys h = after_moves graph steps all.1 number (join xs (bgp graph ps)) (join ys (bgp graph ps)) (same_join xs ys (bgp graph ps) (bgp graph ps) h (IsPermutation-refl (bgp graph ps)))
-after_moves graph (apply count f ∷ steps) all number xs ys h = after_moves graph steps all.1 (number + count) (f graph number xs) (f graph number ys) (all.0 graph number xs ys h)
+after_pattern graph number p (apply o ∷ steps) rows up = ap (λ v. after graph number v (apply o ∷ steps)) (join_extends graph p rows up)
 
 -- ---- one element more
 
@@ -122,7 +76,7 @@ plus_none n = omega arith
 part_step : (graph : List Triple) (number : ℕ) (part : Part) (steps : List Step) (rows : List Bindings) → AllRise rows → after graph number rows (with_part part steps) ≡ after graph (number + part_services part) (after_part graph number rows part) steps
 part_step graph number (pattern p) steps rows up = after_pattern graph number p steps rows up ∙ ap (λ n. after graph n (extended graph p rows) steps) (sym (plus_none number))
 part_step graph number (condition e) steps rows up = ap (λ n. after graph n rows steps) (sym (plus_none number))
-part_step graph number (operator count f) steps rows up = refl
+part_step graph number (operator o) steps rows up = refl
 
 abbrev pub services_of : (List ℕ → List Triple) → List ℕ → List Element → ℕ
 services_of graphs down elements = parts_services (map (part_of graphs down) elements)
@@ -297,7 +251,7 @@ conditions_append : (parts : List Part) (part : Part) → conditions_of (parts +
 conditions_append [] part = refl
 conditions_append (pattern p ∷ parts) part = conditions_append parts part
 conditions_append (condition e ∷ parts) part = ap (λ v. e ∷ v) (conditions_append parts part)
-conditions_append (operator count f ∷ parts) part = conditions_append parts part
+conditions_append (operator o ∷ parts) part = conditions_append parts part
 
 pub filters_none : AreFiltersSoFar [] []
 filters_none = record { same = λ graphs down. refl }

@@ -1,4 +1,3 @@
-pub mod OperatorLemmas
 pub mod GroupLemmas
 pub mod CountLemmas
 pub mod PlaceLemmas

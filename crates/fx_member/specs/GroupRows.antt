@@ -25,7 +25,7 @@ part_of graphs down = fold-Element Part Meaning (element_meaning graphs down) gr
 abbrev pub after_part : List Triple → ℕ → List Bindings → Part → List Bindings
 after_part graph number rows (pattern p) = extended graph p rows
 after_part graph number rows (condition e) = rows
-after_part graph number rows (operator count f) = f graph number rows
+after_part graph number rows (operator o) = o.rows graph number rows
 
 -- the rows are those of a group over a graph, whatever graphs the endpoints have, where all that the group would ask are down
 pub record AreRowsOf (group : Group) (graph : List Triple) (rows : List Bindings) : Type 0 where

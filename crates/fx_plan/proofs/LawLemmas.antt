@@ -71,6 +71,17 @@ own_shared : (es : List Expr) (us : List unit.Unit) → AllByRecursion (λ e. is
 own_shared es [] h = tt
 own_shared es (u ∷ us) h = (own_filters u.patterns es h, own_shared (filter (λ e. not (is_covered u.patterns e)) es) us (each_filter (λ e. is_pushable e ≡ true) (λ e. not (is_covered u.patterns e)) es h))
 
+-- what holds of each filter of the run holds of those that go with a unit
+filters_shared : (P : Expr → Type 0) (es : List Expr) (us : List unit.Unit) → AllByRecursion P es → AllByRecursion (λ u. AllByRecursion P u.filters) (shared es us)
+filters_shared P es [] h = tt
+filters_shared P es (u ∷ us) h = (each_filter P (is_covered u.patterns) es h, filters_shared P (filter (λ e. not (is_covered u.patterns e)) es) us (each_filter P (λ e. not (is_covered u.patterns e)) es h))
+
+pub filters_of_run : (P : Expr → Type 0) (run : List Pattern) (asked : List (List ℕ)) (filters : List Expr) (bound : List (List ℕ)) → AllByRecursion P filters → All (λ u. AllByRecursion P u.filters) (plan run asked filters bound)
+filters_of_run P run asked filters bound h =
+    let us = pushed filters (by_position (zip run asked)) in
+    All-from_recursion (λ u. AllByRecursion P u.filters) (in_order bound us)
+    (of_taken (λ u. AllByRecursion P u.filters) (length us) bound us (filters_shared P (filter is_pushable filters) (by_position (zip run asked)) (each_filter P is_pushable filters h)))
+
 pub filters_are_own : FiltersAreOwn
 filters_are_own run asked filters bound =
     let us = pushed filters (by_position (zip run asked)) in

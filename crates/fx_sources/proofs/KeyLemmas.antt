@@ -19,7 +19,8 @@ use Rattle.fx_algebra.specs.Solutions.{Bindings, term_of, with_pair, same_term}
 use Rattle.fx_algebra.proofs.BgpLemmas.{rows_from-bgp}
 use Rattle.fx_algebra.proofs.ForcedLemmas.{name_from, with_pair_has}
 use Rattle.fx_sources.specs.Keys.{name_among, numbered, place, renamed, renamed_part}
-use Rattle.fx_sources.specs.Sources.{fits, KeyFitsAlike}
+use Rattle.fx_algebra.specs.Units.{fits}
+use Rattle.fx_sources.specs.Sources.{KeyFitsAlike}
 
 same_bool : (a b : Bool) → (a ≡ true → b ≡ true) → (b ≡ true → a ≡ true) → a ≡ b
 same_bool true b f g = sym (f refl)

@@ -1,11 +1,11 @@
--- Sources of patterns, and the query that asks for them (source selection by ASK, as in FedX).
-use Rattle.std.specs.Prelude.{◌≡◌, ℕ, Bool, List, [], ◌∷◌, ◌++◌, map, filter, length, get_or, All, None}
-use Rattle.std.specs.List.{range_with_len, zip}
+-- The query that asks for the sources of a pattern, and what its answers tell (source selection by ASK, as in FedX).
+use Rattle.std.specs.Prelude.{◌≡◌, ℕ, Bool, List, [], ◌∷◌, ◌++◌, map, length, All, None}
+use Rattle.std.specs.List.{zip}
 use Rattle.fx_terms.specs.declared.patterns.Pattern.{Pattern}
 use Rattle.fx_terms.specs.declared.triples.Triple.{Triple}
-use Rattle.fx_algebra.specs.Answers.{answer_alone, has_rows}
-use Rattle.fx_algebra.specs.BasicGraphPatterns.{bgp}
+use Rattle.fx_algebra.specs.Answers.{answer_alone}
 use Rattle.fx_algebra.specs.Printed.{printed_query}
+use Rattle.fx_algebra.specs.Units.{fits, graph_of, sources}
 use Rattle.fx_algebra.specs.declared.answers.Answer.TheVariants.{Truth}
 use Rattle.fx_algebra.specs.declared.queries.Element.TheVariants as element
 use Rattle.fx_algebra.specs.declared.queries.Form.TheVariants as form
@@ -14,20 +14,6 @@ use Rattle.fx_algebra.specs.declared.queries.Query.{Query}
 use Rattle.fx_sources.specs.Keys.{key}
 use Rattle.fx_sources.specs.Patterns.{patterns}
 use Rattle.fx_sources.specs.Probes.{Entry, chosen, missing, told}
-
--- ---- sources
-
--- a pattern has a solution over a graph
-abbrev pub fits : Pattern → List Triple → Bool
-fits p graph = has_rows (bgp graph (p ∷ []))
-
--- the graph of a member, by its number
-abbrev pub graph_of : List (List Triple) → ℕ → List Triple
-graph_of graphs at = get_or graphs at []
-
--- the members, by number, whose graph a pattern fits
-abbrev pub sources : List (List Triple) → Pattern → List ℕ
-sources graphs p = filter (λ at. fits p (graph_of graphs at)) (range_with_len 0 (length graphs))
 
 -- ---- asking
 

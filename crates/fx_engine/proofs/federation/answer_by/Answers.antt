@@ -9,6 +9,7 @@ use Rattle.fx_algebra.specs.Graphs.{union}
 use Rattle.fx_algebra.specs.Solutions.{SameRows}
 use Rattle.fx_sources.specs.Patterns.{patterns}
 use Rattle.fx_sources.specs.Probes.{chosen, missing, told}
+use Rattle.fx_algebra.specs.Units.{sources}
 use Rattle.fx_sources.specs.Sources as source
 use Rattle.fx_sources.specs.declared.probes.Probe.{Probe}
 use Rattle.fx_sources.proofs.SourceLemmas.{chooses}
@@ -46,13 +47,13 @@ returns-in-Ok-answer_of_rows-clause-answer g c =
     let graph = g.W.Wire.graph c.args.wire.now in
     let many : length graphs ≡ length es = as_many graph es graphs t in
     let asked : c.args.probes.now ≡ missing q (length graphs) cache = c.requires.asked ∙ ap (λ (n : ℕ). missing q n cache) (sym many) in
-    let found : c.in-Ok.sources.members ≡ map (source.sources graphs) (patterns q) =
+    let found : c.in-Ok.sources.members ≡ map (sources graphs) (patterns q) =
     c.in-Ok.ensures.chosen
     ∙ ap (λ (n : ℕ). chosen q n (told c.args.probes.now truths ++ cache)) (sym many)
     ∙ ap (λ (ps : List Probe). chosen q (length graphs) (told ps truths ++ cache)) asked
     ∙ chooses q graphs cache truths (sym c.requires.lengths ∙ ap length asked) held (subst (λ (ps : List Probe). All (source.Tells graphs) (zip ps truths)) asked answers) in
     let own : c.as_slice.result.now ≡ patterns q = c.as_slice.ensures.value ∙ c.in-Ok-patterns.ensures in
-    let members : c.as_slice-2.result.now ≡ map (source.sources graphs) c.as_slice.result.now = c.as_slice-2.ensures ∙ found ∙ ap (map (source.sources graphs)) (sym own) in
+    let members : c.as_slice-2.result.now ≡ map (sources graphs) c.as_slice.result.now = c.as_slice-2.ensures ∙ found ∙ ap (map (sources graphs)) (sym own) in
     let gathered : SameRows (bgp u c.as_slice.result.now) rows = c.in-Ok-join_all.ensures.rows graphs (subst (λ (v : List EndpointParts). Tells graph v graphs) (sym c.endpoints.ensures.value) t) members in
     c.in-Ok-answer_of_rows.ensures
     ∙ ap (form_answer q q.form) c.as_slice-in-Ok-join_all.ensures.value

@@ -4,7 +4,7 @@ use Rattle.fx_algebra.specs.BasicGraphPatterns.{bgp}
 use Rattle.fx_algebra.specs.Graphs.{union}
 use Rattle.fx_algebra.specs.Solutions.{SameRows}
 use Rattle.fx_wire.specs.Exchanges.{IsAfter, seen}
-use Rattle.fx_sources.specs.Sources as source
+use Rattle.fx_algebra.specs.Units.{sources}
 use Rattle.std.specs.List.{flat_map, zip}
 use Rattle.fx_engine.specs.Federation.{AreSent, Gained, Tells, source_questions}
 use Rattle.fx_engine.proofs.federation.join_all.Given as goal
@@ -13,5 +13,5 @@ abbrev pub invariant-loop-at : goal.invariant-loop-at
 invariant-loop-at g l = record {
   after : IsAfter (seen g.W.Wire.tells_log g.W.Wire.log g.W.Wire.graph g.W.Wire.faults l.initial.wire) (seen g.W.Wire.tells_log g.W.Wire.log g.W.Wire.graph g.W.Wire.faults l.wire);
   alone : Gained (AreSent l.endpoints (flat_map (λ a. source_questions a.0 a.1) (take l.at (zip l.patterns l.sources)))) (seen g.W.Wire.tells_log g.W.Wire.log g.W.Wire.graph g.W.Wire.faults l.initial.wire) (seen g.W.Wire.tells_log g.W.Wire.log g.W.Wire.graph g.W.Wire.faults l.wire);
-  rows : (graphs : List (List Triple)) → Tells (g.W.Wire.graph l.initial.wire) l.endpoints graphs → l.sources ≡ map (source.sources graphs) l.patterns → SameRows (bgp (union graphs) (take l.at l.patterns)) l.rows.items;
+  rows : (graphs : List (List Triple)) → Tells (g.W.Wire.graph l.initial.wire) l.endpoints graphs → l.sources ≡ map (sources graphs) l.patterns → SameRows (bgp (union graphs) (take l.at l.patterns)) l.rows.items;
 }

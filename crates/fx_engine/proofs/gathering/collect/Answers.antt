@@ -4,7 +4,7 @@ use Rattle.std.proofs.lemmas.List.{take_more, take_all}
 use Rattle.std.proofs.lemmas.Option.{slice_get_read}
 use Rattle.fx_terms.specs.declared.triples.Triple.{Triple}
 use Rattle.fx_wire.specs.Exchanges.{seen}
-use Rattle.fx_sources.specs.Sources.{graph_of}
+use Rattle.fx_algebra.specs.Units.{graph_of}
 use Rattle.std.proofs.lemmas.List.Elements.{Contains-get_or}
 use Rattle.fx_terms.proofs.SetLemmas.{contains_from}
 use Rattle.fx_engine.specs.Federation.{rows_of, OfSources, IsRefused, AreBegun, AreRowsOf, AreSent, Gained, IsPostedAtMost, IsPostedOnce, member_questions}

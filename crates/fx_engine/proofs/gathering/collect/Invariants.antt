@@ -2,7 +2,7 @@ use Rattle.std.proofs.Common.{List, map, take}
 use Rattle.fx_terms.specs.declared.triples.Triple.{Triple}
 use Rattle.fx_terms.specs.declared.patterns.Pattern.{Pattern}
 use Rattle.fx_wire.specs.Exchanges.{IsAfter, seen}
-use Rattle.fx_sources.specs.Sources.{graph_of}
+use Rattle.fx_algebra.specs.Units.{graph_of}
 use Rattle.fx_engine.specs.MemberQueries.{IsAsked}
 use Rattle.fx_engine.specs.Federation.{AreRowsOf, AreSent, Gained, Tells, member_questions}
 use Rattle.fx_engine.proofs.gathering.collect.Given as goal

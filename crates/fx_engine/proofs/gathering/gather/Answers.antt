@@ -2,7 +2,7 @@ use Rattle.std.proofs.Common.{◌≡◌, ◌∙◌, sym, subst, List, [], ℕ, m
 use Rattle.std.proofs.lemmas.List.Sorted.{IsPermutation-refl}
 use Rattle.fx_algebra.specs.Graphs.{union}
 use Rattle.fx_algebra.specs.Solutions.{Bindings, SameRows}
-use Rattle.fx_sources.specs.Sources.{graph_of, sources}
+use Rattle.fx_algebra.specs.Units.{graph_of, sources}
 use Rattle.fx_grammar.specs.Accepted.{Accepted}
 use Rattle.fx_spelling.specs.Printable.{pattern_query}
 use Rattle.fx_spelling.proofs.PatternQuery.{pattern_query_is_accepted}

@@ -5,10 +5,12 @@ use Rattle.std.specs.declared.vec.Vec.{Vec}
 use Rattle.std.specs.declared.alloc.Global.{Global}
 use Rattle.fx_algebra.specs.declared.expressions.Expr.{Expr}
 use Rattle.fx_algebra.specs.declared.queries.Element.{Element}
-use Rattle.fx_engine.specs.Sections as spec
+use Rattle.fx_algebra.specs.declared.queries.Element.TheVariants.{Union}
+use Rattle.fx_algebra.specs.declared.queries.Group.{Group}
+use Rattle.fx_engine.specs.SectionSteps as spec
 use Rattle.fx_engine.specs.declared.sections.Pending.{Pending}
 use Rattle.fx_engine.specs.declared.sections.Section.{Section}
-use Rattle.fx_engine.proofs.SectionLemmas.{IsSoFar, so_far_all, so_far_ended, so_far_kept}
+use Rattle.fx_engine.proofs.SectionLemmas.{IsSoFar, inside_union, so_far_all, so_far_ended, so_far_kept}
 use Rattle.fx_engine.proofs.sections.+sections.Goals.{add_group-then-keeps_run+in_ok-push_pattern, add_group-else-keeps_run+in_ok-end_run+in_ok-add_inside+in_ok-add_element}
 use Rattle.fx_engine.proofs.sections.+sections.Goals as goal
 
@@ -37,7 +39,7 @@ add_group-loop-element-preserved t c =
           (w.in_ok-end_run.ensures.sections ∙ ap (λ (v : List Expr). done ++ spec.run_of v known run) w.as_slice.ensures.value)
           w.in_ok-end_run.ensures.known
           w.in_ok-end_run.ensures.run
-          (w.in_ok-add_inside.ensures ∙ ap (λ (v : List (List ℕ)). w.end_run.new.sections.items ++ spec.inside_of (spec.piece e) v) w.as_slice-else-keeps_run.ensures.value)
+          (w.in_ok-add_inside.ensures ∙ ap (λ (v : List (List ℕ)). w.end_run.new.sections.items ++ spec.inside_of (spec.part_of e) v) w.as_slice-else-keeps_run.ensures.value)
           w.in_ok-add_element.ensures
           c.loop-element.invariant))
     ]
@@ -50,3 +52,15 @@ add_group-returns t c =
     (λ ends. so_far_all c.args.sections.now.items c.args.before.now c.args.group.now c.as_slice-2.result.now c.in_ok-filters.filters.items c.loop-element.sections.items c.end_run-2.new.sections.items c.loop-element.pending.known.items
     c.loop-element.pending.run.items (drop i all) all c.as_slice-element-items.ensures c.in_ok-filters.ensures c.as_slice-2.ensures.value (drop_all i all c.loop-element-test.false) ends c.loop-element.invariant)
     c.end_run-2.ensures.sections
+
+pub add_inside-returns-in-Union : goal.add_inside-returns-in-Union
+add_inside-returns-in-Union t c =
+    let start = c.args.sections.now.items in
+    let before = c.args.before.now in
+    on_ok_weaker c.add_groups.result
+    (λ more.
+    more
+    ∙ ap (λ (v : List Section). start ++ v) (sym (inside_union c.as_slice.result.now before))
+    ∙ ap (λ (gs : List Group). start ++ spec.inside_of (spec.part_of (Union gs)) before) c.as_slice.ensures
+    ∙ ap (λ (e : Element). start ++ spec.inside_of (spec.part_of e) before) (sym c.in-Union.is))
+    c.add_groups.ensures

@@ -1,4 +1,4 @@
-use Rattle.fx_member.proofs.OperatorLemmas.{filtered_by_empty}
+use Rattle.fx_algebra.proofs.OperatorLemmas.{filtered_by_empty}
 use Rattle.fx_member.proofs.groups.filtered.Goals as goal
 
 pub returns-then-is_empty : goal.returns-then-is_empty

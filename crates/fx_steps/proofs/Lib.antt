@@ -1,0 +1,5 @@
+pub mod ValueLemmas
+pub mod FilterLemmas
+pub mod PlanLemmas
+pub mod StepLemmas
+pub mod GroupLemmas

@@ -1,0 +1,6 @@
+-- The law is the lemma of `GroupLemmas`.
+use Rattle.fx_steps.proofs.GroupLemmas.{filters_hold_at_the_end}
+use Rattle.fx_steps.proofs.filters_hold_at_the_end.Goals as goal
+
+pub returns : goal.returns
+returns c = filters_hold_at_the_end
