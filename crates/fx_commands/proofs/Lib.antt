@@ -1,3 +1,4 @@
+pub mod CountLemmas
 pub mod GainLemmas
 pub mod LoadLemmas
 pub mod ReportLemmas

@@ -80,13 +80,13 @@ pub record IsServedSo (graph : List Triple) (before now : DoorSeen) (is_told : B
   pub count : length endings ≡ number
   pub serves : Serves graph before now endings []
   pub started : IsTrue before.tells → now.started ≡ before.started
-  pub opened : before.faults ≤ now.faults
+  pub unfailed : now.faults ≡ before.faults
   pub lines : IsTrue is_told → held ≡ held_before ++ ending_lines 1 endings
   pub faultless : faults ≡ faults_before
 
 module _ (graph : List Triple) (before : DoorSeen) (is_told : Bool) (held_before : List ℕ) (faults_before : ℕ) where
   pub first : IsServedSo graph before before is_told held_before held_before faults_before faults_before 0
-  first = record { endings = []; count = refl; serves = λ _. none_yet graph before; started = λ _. refl; opened = omega arith; lines = λ _. sym (append-nil held_before); faultless = refl }
+  first = record { endings = []; count = refl; serves = λ _. none_yet graph before; started = λ _. refl; unfailed = refl; lines = λ _. sym (append-nil held_before); faultless = refl }
 
   module _ (mid after : DoorSeen) (held : List ℕ) (faults number : ℕ) (so : IsServedSo graph before mid is_told held_before held faults_before faults number) (same : mid.tells ≡ before.tells) where
     told : IsTrue before.tells → IsTrue mid.tells
@@ -95,14 +95,14 @@ module _ (graph : List Triple) (before : DoorSeen) (is_told : Bool) (held_before
     served_more : (ending : Ending) → GivesEnding graph mid after (Ok ending) → Serves graph before after (so.endings ++ ending ∷ []) []
     served_more ending h t = one_more graph before mid after so.endings ending (so.serves t) (h (told t))
 
-    pub next : (ending : Ending) (held_after : List ℕ) (faults_after : ℕ) → GivesEnding graph mid after (Ok ending) → (IsTrue mid.tells → after.started ≡ mid.started) → mid.faults ≤ after.faults
+    pub next : (ending : Ending) (held_after : List ℕ) (faults_after : ℕ) → GivesEnding graph mid after (Ok ending) → (IsTrue mid.tells → after.started ≡ mid.started) → after.faults ≡ mid.faults
         → (IsTrue is_told → held_after ≡ held ++ ending_line (number + 1) ending) → faults_after ≡ faults → IsServedSo graph before after is_told held_before held_after faults_before faults_after (number + 1)
     next ending held_after faults_after h s k w f = record {
       endings = so.endings ++ ending ∷ [];
       count = length-append so.endings (ending ∷ []) ∙ omega (arith, so.count);
       serves = served_more ending h;
       started = λ t. s (told t) ∙ so.started t;
-      opened = omega (arith, so.opened);
+      unfailed = k ∙ so.unfailed;
       lines = λ t. w t ∙ ap (λ v. v ++ ending_line (number + 1) ending) (so.lines t) ∙ append_assoc held_before (ending_lines 1 so.endings) (ending_line (number + 1) ending) ∙ ap (λ v. held_before ++ v) (sym (lines_more 1 (number + 1) so.endings ending (omega (arith, so.count))));
       faultless = f ∙ so.faultless;
     }

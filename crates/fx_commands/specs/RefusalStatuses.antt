@@ -1,4 +1,6 @@
 -- How a run with a refusal ends.
+use Rattle.fx_commands.specs.declared.refusals.FileRefusal.{FileRefusal}
+use Rattle.fx_commands.specs.declared.refusals.FileRefusal.TheVariants as file
 use Rattle.fx_commands.specs.declared.refusals.QueryRefusal.{QueryRefusal}
 use Rattle.fx_commands.specs.declared.refusals.QueryRefusal.TheVariants as query
 use Rattle.fx_commands.specs.declared.refusals.Refusal.{Refusal}
@@ -11,6 +13,11 @@ use Rattle.fx_commands.specs.declared.refusals.RegistryRefusal.TheVariants as re
 use Rattle.fx_sources.specs.declared.errors.RegistryError.TheVariants as error
 use Rattle.fx_commands.specs.declared.statuses.Status.{Status}
 use Rattle.fx_commands.specs.declared.statuses.Status.TheVariants as status
+
+abbrev pub file_status : FileRefusal → Status
+file_status file.Fault = status.ReadFault
+file_status file.TooLong = status.FileTooLong
+file_status file.Memory = status.NoMemory
 
 abbrev pub query_status : QueryRefusal → Status
 query_status query.Fault = status.ReadFault

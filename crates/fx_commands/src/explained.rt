@@ -3,9 +3,11 @@ ghost use Rattle.std.specs.Prelude.{◌≡◌, ◌≤◌, [], All, IfOk, IsTrue,
 ghost use Rattle.std.specs.Option.{option_copied};
 ghost use Rattle.fx_plan.specs.Explained.{HasMembers};
 ghost use Rattle.fx_wire.specs.Exchanges.{IsAfter, seen};
+ghost use Rattle.fx_engine.specs.Counts.{CountsFaults};
 ghost use Rattle.fx_engine.specs.Federation.{AsksNothing, OfMissing};
 ghost use Rattle.fx_engine.specs.Planning.{Plans};
 ghost use Rattle.fx_commands.specs.Asking.{AsksFitsInTurn, GivesAsked};
+ghost use Rattle.fx_commands.specs.Counts.{CountsOnly};
 ghost use Rattle.fx_commands.specs.Explain.{IsExplainReported, IsExplainWritten};
 ghost use Rattle.fx_commands.specs.ExplainSteps.{GivesPlanText, IsPlanReported, IsPlanWritten};
 ghost use Rattle.fx_commands.specs.Files.{file_read};
@@ -44,10 +46,12 @@ pub fn run_explain<F: Files, W: Wire, O: Sink, E: Sink>(
 ) -> Status
     ensures reported { (text : List ℕ) × IsExplainReported (seen W.tells_log W.log W.graph W.faults wire.old) (seen W.tells_log W.log W.graph W.faults wire.new) (file_read F.content F.faults files.old files.new registry.now) (file_read F.content F.faults files.old files.new query.now) result text × (IsTrue E.tells_held → Gains (E.held err.old) (E.held err.new) (E.write_faults err.old) (E.write_faults err.new) text) }
     ensures written { IsTrue O.tells_held → IsExplainWritten (seen W.tells_log W.log W.graph W.faults wire.old) (file_read F.content F.faults files.old files.new registry.now) (file_read F.content F.faults files.old files.new query.now) result (O.held out.old) (O.held out.new) }
+    ensures endpoint_faults { IsTrue W.counts_alone → CountsOnly Status.EndpointFault result (W.faults wire.old) (W.faults wire.new) }
     ensures wired { IsAfter (seen W.tells_log W.log W.graph W.faults wire.old) (seen W.tells_log W.log W.graph W.faults wire.new) }
     ensures write_fault { result ≡ Status.WriteFault → IsCutOff (sink_written O.tells_held O.held O.write_faults out.old out.new) (sink_written E.tells_held E.held E.write_faults err.old err.new) }
     ensures unfailed { ¬ (result ≡ Status.WriteFault) → O.write_faults out.new ≡ O.write_faults out.old }
     ensures unfailed_lines { result ≡ Status.Done → E.write_faults err.new ≡ E.write_faults err.old }
+    ensures read_faults { CountsOnly Status.ReadFault result (F.faults files.old) (F.faults files.new) }
     ensures kept { (name : List ℕ) → F.faults files.old name ≤ F.faults files.new name }
     ensures same { (name : List ℕ) → F.content files.new name ≡ F.content files.old name }
 {
@@ -78,6 +82,7 @@ fn explain_over<W: Wire, O: Sink, E: Sink>(
     ensures reported { (text : List ℕ) × IsPlanReported (seen W.tells_log W.log W.graph W.faults wire.old) (seen W.tells_log W.log W.graph W.faults wire.new) members.now query.now result text × (IsTrue E.tells_held → Gains (E.held err.old) (E.held err.new) (E.write_faults err.old) (E.write_faults err.new) text) }
     ensures written { IsTrue O.tells_held → IsPlanWritten (seen W.tells_log W.log W.graph W.faults wire.old) members.now query.now result (O.held out.old) (O.held out.new) }
     ensures begun { AsksFitsInTurn (seen W.tells_log W.log W.graph W.faults wire.old) (seen W.tells_log W.log W.graph W.faults wire.new) members.now query.now }
+    ensures endpoint_faults { IsTrue W.counts_alone → CountsOnly Status.EndpointFault result (W.faults wire.old) (W.faults wire.new) }
     ensures wired { IsAfter (seen W.tells_log W.log W.graph W.faults wire.old) (seen W.tells_log W.log W.graph W.faults wire.new) }
     ensures write_fault { result ≡ Status.WriteFault → IsCutOff (sink_written O.tells_held O.held O.write_faults out.old out.new) (sink_written E.tells_held E.held E.write_faults err.old err.new) }
     ensures unfailed { ¬ (result ≡ Status.WriteFault) → O.write_faults out.new ≡ O.write_faults out.old }
@@ -128,6 +133,7 @@ fn explain_members<W: Wire, O: Sink, E: Sink>(
     ensures reported { (text : List ℕ) × IsAskReported AsksNothing (OfMissing query.now (length members.now) []) (seen W.tells_log W.log W.graph W.faults wire.old) (seen W.tells_log W.log W.graph W.faults wire.new) members.now query.now result text × (IsTrue E.tells_held → Gains (E.held err.old) (E.held err.new) (E.write_faults err.old) (E.write_faults err.new) text) }
     ensures written { IsTrue O.tells_held → IsPlanWritten (seen W.tells_log W.log W.graph W.faults wire.old) members.now query.now result (O.held out.old) (O.held out.new) }
     ensures begun { AsksFitsInTurn (seen W.tells_log W.log W.graph W.faults wire.old) (seen W.tells_log W.log W.graph W.faults wire.new) members.now query.now }
+    ensures endpoint_faults { IsTrue W.counts_alone → CountsOnly Status.EndpointFault result (W.faults wire.old) (W.faults wire.new) }
     ensures wired { IsAfter (seen W.tells_log W.log W.graph W.faults wire.old) (seen W.tells_log W.log W.graph W.faults wire.new) }
     ensures write_fault { result ≡ Status.WriteFault → IsCutOff (sink_written O.tells_held O.held O.write_faults out.old out.new) (sink_written E.tells_held E.held E.write_faults err.old err.new) }
     ensures unfailed { ¬ (result ≡ Status.WriteFault) → O.write_faults out.new ≡ O.write_faults out.old }
@@ -155,6 +161,7 @@ fn plan_text<W: Wire>(
     ensures text { GivesPlanText (seen W.tells_log W.log W.graph W.faults wire.old) (seen W.tells_log W.log W.graph W.faults wire.new) members.now query.now result }
     ensures asked { GivesAsked AsksNothing (seen W.tells_log W.log W.graph W.faults wire.old) (seen W.tells_log W.log W.graph W.faults wire.new) members.now query.now result }
     ensures begun { AsksFitsInTurn (seen W.tells_log W.log W.graph W.faults wire.old) (seen W.tells_log W.log W.graph W.faults wire.new) members.now query.now }
+    ensures counted { IsTrue W.counts_alone → CountsFaults members.now (W.faults wire.old) (W.faults wire.new) result }
     ensures wired { IsAfter (seen W.tells_log W.log W.graph W.faults wire.old) (seen W.tells_log W.log W.graph W.faults wire.new) }
 {
     match plan(alloc, members, query, wire) {
@@ -177,6 +184,7 @@ fn plan<W: Wire>(
     ensures asked { GivesAsked AsksNothing (seen W.tells_log W.log W.graph W.faults wire.old) (seen W.tells_log W.log W.graph W.faults wire.new) members.now query.now result }
     ensures within { IfOk result (λ parts. All (HasMembers (length members.now)) parts.items) }
     ensures begun { AsksFitsInTurn (seen W.tells_log W.log W.graph W.faults wire.old) (seen W.tells_log W.log W.graph W.faults wire.new) members.now query.now }
+    ensures counted { IsTrue W.counts_alone → CountsFaults members.now (W.faults wire.old) (W.faults wire.new) result }
     ensures wired { IsAfter (seen W.tells_log W.log W.graph W.faults wire.old) (seen W.tells_log W.log W.graph W.faults wire.new) }
 {
     match AskCache::new(alloc) {

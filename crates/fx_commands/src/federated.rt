@@ -1,9 +1,11 @@
 //! The command `query`.
 ghost use Rattle.std.specs.Prelude.{◌≡◌, ◌≤◌, [], IsTrue, List, ℕ, length};
 ghost use Rattle.fx_algebra.specs.Answers.{IsPlain};
+ghost use Rattle.fx_engine.specs.Counts.{CountsFaults};
 ghost use Rattle.fx_engine.specs.Federation.{AsksSources, Federates, OfQuery};
 ghost use Rattle.fx_wire.specs.Exchanges.{IsAfter, seen};
 ghost use Rattle.fx_commands.specs.Asking.{AsksInTurn, GivesAsked};
+ghost use Rattle.fx_commands.specs.Counts.{CountsOnly};
 ghost use Rattle.fx_commands.specs.Files.{file_read};
 ghost use Rattle.fx_commands.specs.Lines.{Gains};
 ghost use Rattle.fx_commands.specs.Query.{IsQueryReported, IsQueryWritten};
@@ -39,10 +41,12 @@ pub fn run_query<F: Files, W: Wire, O: Sink, E: Sink>(
 ) -> Status
     ensures reported { (text : List ℕ) × IsQueryReported (seen W.tells_log W.log W.graph W.faults wire.old) (seen W.tells_log W.log W.graph W.faults wire.new) (file_read F.content F.faults files.old files.new registry.now) (file_read F.content F.faults files.old files.new query.now) result text × (IsTrue E.tells_held → Gains (E.held err.old) (E.held err.new) (E.write_faults err.old) (E.write_faults err.new) text) }
     ensures written { IsTrue O.tells_held → IsQueryWritten (seen W.tells_log W.log W.graph W.faults wire.old) (file_read F.content F.faults files.old files.new registry.now) (file_read F.content F.faults files.old files.new query.now) result (O.held out.old) (O.held out.new) }
+    ensures endpoint_faults { IsTrue W.counts_alone → CountsOnly Status.EndpointFault result (W.faults wire.old) (W.faults wire.new) }
     ensures wired { IsAfter (seen W.tells_log W.log W.graph W.faults wire.old) (seen W.tells_log W.log W.graph W.faults wire.new) }
     ensures write_fault { result ≡ Status.WriteFault → IsCutOff (sink_written O.tells_held O.held O.write_faults out.old out.new) (sink_written E.tells_held E.held E.write_faults err.old err.new) }
     ensures unfailed { ¬ (result ≡ Status.WriteFault) → O.write_faults out.new ≡ O.write_faults out.old }
     ensures unfailed_lines { result ≡ Status.Done → E.write_faults err.new ≡ E.write_faults err.old }
+    ensures read_faults { CountsOnly Status.ReadFault result (F.faults files.old) (F.faults files.new) }
     ensures kept { (name : List ℕ) → F.faults files.old name ≤ F.faults files.new name }
     ensures same { (name : List ℕ) → F.content files.new name ≡ F.content files.old name }
 {
@@ -80,6 +84,7 @@ fn ask_members<W: Wire, O: Sink, E: Sink>(
     ensures reported { (text : List ℕ) × IsAskReported (AsksSources members.now query.now []) (OfQuery query.now (length members.now) []) (seen W.tells_log W.log W.graph W.faults wire.old) (seen W.tells_log W.log W.graph W.faults wire.new) members.now query.now result text × (IsTrue E.tells_held → Gains (E.held err.old) (E.held err.new) (E.write_faults err.old) (E.write_faults err.new) text) }
     ensures written { IsTrue O.tells_held → IsAskWritten (seen W.tells_log W.log W.graph W.faults wire.old) members.now query.now result (O.held out.old) (O.held out.new) }
     ensures begun { AsksInTurn (seen W.tells_log W.log W.graph W.faults wire.old) (seen W.tells_log W.log W.graph W.faults wire.new) members.now query.now }
+    ensures endpoint_faults { IsTrue W.counts_alone → CountsOnly Status.EndpointFault result (W.faults wire.old) (W.faults wire.new) }
     ensures wired { IsAfter (seen W.tells_log W.log W.graph W.faults wire.old) (seen W.tells_log W.log W.graph W.faults wire.new) }
     ensures write_fault { result ≡ Status.WriteFault → IsCutOff (sink_written O.tells_held O.held O.write_faults out.old out.new) (sink_written E.tells_held E.held E.write_faults err.old err.new) }
     ensures unfailed { ¬ (result ≡ Status.WriteFault) → O.write_faults out.new ≡ O.write_faults out.old }
@@ -108,6 +113,7 @@ fn union_document<W: Wire>(
     ensures document { GivesUnionDocument (seen W.tells_log W.log W.graph W.faults wire.old) (seen W.tells_log W.log W.graph W.faults wire.new) members.now query.now result }
     ensures asked { GivesAsked (AsksSources members.now query.now []) (seen W.tells_log W.log W.graph W.faults wire.old) (seen W.tells_log W.log W.graph W.faults wire.new) members.now query.now result }
     ensures begun { AsksInTurn (seen W.tells_log W.log W.graph W.faults wire.old) (seen W.tells_log W.log W.graph W.faults wire.new) members.now query.now }
+    ensures counted { IsTrue W.counts_alone → CountsFaults members.now (W.faults wire.old) (W.faults wire.new) result }
     ensures wired { IsAfter (seen W.tells_log W.log W.graph W.faults wire.old) (seen W.tells_log W.log W.graph W.faults wire.new) }
 {
     match union_answer(alloc, members, query, wire) {
@@ -130,6 +136,7 @@ fn union_answer<W: Wire>(
     ensures answer { Federates (seen W.tells_log W.log W.graph W.faults wire.old) (seen W.tells_log W.log W.graph W.faults wire.new) members.now query.now [] result }
     ensures asked { GivesAsked (AsksSources members.now query.now []) (seen W.tells_log W.log W.graph W.faults wire.old) (seen W.tells_log W.log W.graph W.faults wire.new) members.now query.now result }
     ensures begun { AsksInTurn (seen W.tells_log W.log W.graph W.faults wire.old) (seen W.tells_log W.log W.graph W.faults wire.new) members.now query.now }
+    ensures counted { IsTrue W.counts_alone → CountsFaults members.now (W.faults wire.old) (W.faults wire.new) result }
     ensures wired { IsAfter (seen W.tells_log W.log W.graph W.faults wire.old) (seen W.tells_log W.log W.graph W.faults wire.new) }
 {
     match AskCache::new(alloc) {

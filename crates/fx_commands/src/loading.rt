@@ -1,8 +1,10 @@
 //! Files, and the graph and the query that they hold.
 ghost use Rattle.std.specs.Prelude.{◌≡◌, ◌≤◌, ℕ, List, Ok};
+ghost use Rattle.fx_commands.specs.Counts.{CountsLoad};
 ghost use Rattle.fx_commands.specs.Files.{file_read};
 ghost use Rattle.fx_commands.specs.LocalSteps.{GivesFile, GivesGraph, GivesQuery};
 ghost use Rattle.fx_commands.specs.QuerySteps.{GivesRegistry};
+ghost use Rattle.fx_commands.specs.RefusalStatuses.{file_status, graph_status, query_status, registry_status};
 
 use crate::limits::{GRAPH_LIMIT, QUERY_LIMIT, REGISTRY_LIMIT};
 use crate::refusals::{FileRefusal, GraphRefusal, QueryRefusal, RegistryRefusal};
@@ -18,6 +20,7 @@ use std::alloc::Global;
 // The graph of a file.
 fn load_graph<F: Files>(alloc: Global, files: &mut F, name: &str) -> Result<Graph, GraphRefusal>
     ensures outcome { GivesGraph (file_read F.content F.faults files.old files.new name.now) result }
+    ensures counted { CountsLoad graph_status name.now (F.faults files.old) (F.faults files.new) result }
     ensures kept { (other : List ℕ) → F.faults files.old other ≤ F.faults files.new other }
     ensures same { (other : List ℕ) → F.content files.new other ≡ F.content files.old other }
 {
@@ -35,6 +38,7 @@ fn load_graph<F: Files>(alloc: Global, files: &mut F, name: &str) -> Result<Grap
 /// The graph of a file, in a store.
 pub fn load_store<F: Files>(alloc: Global, files: &mut F, name: &str) -> Result<Store, GraphRefusal>
     ensures outcome { GivesGraph (file_read F.content F.faults files.old files.new name.now) result }
+    ensures counted { CountsLoad graph_status name.now (F.faults files.old) (F.faults files.new) result }
     ensures kept { (other : List ℕ) → F.faults files.old other ≤ F.faults files.new other }
     ensures same { (other : List ℕ) → F.content files.new other ≡ F.content files.old other }
 {
@@ -57,6 +61,7 @@ fn in_store(graph: Graph) -> Result<Store, GraphRefusal>
 /// The query of a file.
 pub fn load_query<F: Files>(alloc: Global, files: &mut F, name: &str) -> Result<Query, QueryRefusal>
     ensures outcome { GivesQuery (file_read F.content F.faults files.old files.new name.now) result }
+    ensures counted { CountsLoad query_status name.now (F.faults files.old) (F.faults files.new) result }
     ensures kept { (other : List ℕ) → F.faults files.old other ≤ F.faults files.new other }
     ensures same { (other : List ℕ) → F.content files.new other ≡ F.content files.old other }
 {
@@ -79,6 +84,7 @@ pub fn load_registry<F: Files>(
     name: &str,
 ) -> Result<Registry, RegistryRefusal>
     ensures outcome { GivesRegistry (file_read F.content F.faults files.old files.new name.now) result }
+    ensures counted { CountsLoad registry_status name.now (F.faults files.old) (F.faults files.new) result }
     ensures kept { (other : List ℕ) → F.faults files.old other ≤ F.faults files.new other }
     ensures same { (other : List ℕ) → F.content files.new other ≡ F.content files.old other }
 {
@@ -102,6 +108,7 @@ fn load<F: Files>(
 ) -> Result<Vec<u8>, FileRefusal>
     requires { limit ≤ 134217728 }
     ensures outcome { GivesFile (file_read F.content F.faults files.old files.new name.now) limit result }
+    ensures counted { CountsLoad file_status name.now (F.faults files.old) (F.faults files.new) result }
     ensures kept { (other : List ℕ) → F.faults files.old other ≤ F.faults files.new other }
     ensures same { (other : List ℕ) → F.content files.new other ≡ F.content files.old other }
 {

@@ -3,9 +3,11 @@ ghost use Rattle.std.specs.Prelude.{◌≡◌, ◌≤◌, ◌++◌, ℕ, List, I
 ghost use Rattle.fx_algebra.specs.Answers.{answer as answer_of, no_graphs};
 ghost use Rattle.fx_algebra.specs.Occurrences.{services as services_of};
 ghost use Rattle.fx_results.specs.Documents.{document as document_of};
+ghost use Rattle.fx_commands.specs.Counts.{CountsLoads};
 ghost use Rattle.fx_commands.specs.Files.{file_read};
 ghost use Rattle.fx_commands.specs.Lines.{silent_unknown};
 ghost use Rattle.fx_commands.specs.LocalSteps.{GivesAnswer, GivesDocument, GivesReport};
+ghost use Rattle.fx_commands.specs.RefusalStatuses.{status_of};
 ghost use Rattle.fx_commands.specs.Services as spec;
 ghost use Rattle.std.specs.Option.{option_copied};
 
@@ -38,6 +40,7 @@ pub fn local<F: Files>(
     query: &str,
 ) -> Result<Report, Refusal>
     ensures outcome { GivesAnswer (file_read F.content F.faults files.old files.new graph.now) (file_read F.content F.faults files.old files.new query.now) result }
+    ensures counted { CountsLoads status_of (F.faults files.old) (F.faults files.new) result }
     ensures kept { (other : List ℕ) → F.faults files.old other ≤ F.faults files.new other }
     ensures same { (other : List ℕ) → F.content files.new other ≡ F.content files.old other }
 {
@@ -54,6 +57,7 @@ fn answer_over<F: Files>(
     query: &str,
 ) -> Result<Report, Refusal>
     ensures outcome { GivesDocument store.now (file_read F.content F.faults files.old files.new query.now) result }
+    ensures counted { CountsLoads status_of (F.faults files.old) (F.faults files.new) result }
     ensures kept { (other : List ℕ) → F.faults files.old other ≤ F.faults files.new other }
     ensures same { (other : List ℕ) → F.content files.new other ≡ F.content files.old other }
 {

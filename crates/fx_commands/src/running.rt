@@ -2,6 +2,7 @@
 ghost use Rattle.std.specs.Prelude.{◌≡◌, ◌≤◌, ◌<◌, IsTrue, List, ℕ, length, map, string_bytes};
 ghost use Rattle.fx_wire.specs.Exchanges.{IsAfter, seen};
 ghost use Rattle.fx_commands.specs.Commands.{asked};
+ghost use Rattle.fx_commands.specs.Counts.{CountsDoor, CountsOnly};
 ghost use Rattle.fx_commands.specs.Files.{file_read};
 ghost use Rattle.fx_commands.specs.Lines.{Gains};
 ghost use Rattle.fx_commands.specs.Local.{IsAnswer, IsReported, IsWritten};
@@ -54,6 +55,12 @@ pub fn run<F: Files, W: Wire, D: Door, O: Sink, E: Sink>(
     ensures write_fault { result ≡ Status.WriteFault → FailsToWrite (file_read F.content F.faults files.old files.new) (asked (map (λ w. string_bytes w) words.now)) (sink_written O.tells_held O.held O.write_faults out.old out.new) (sink_written E.tells_held E.held E.write_faults err.old err.new) }
     ensures unfailed { ¬ (result ≡ Status.WriteFault) → O.write_faults out.new ≡ O.write_faults out.old }
     ensures unfailed_lines { result ≡ Status.Done → E.write_faults err.new ≡ E.write_faults err.old }
+
+    // No fault of files, of the door, and of the first wire, if it counts each address alone, is hidden: each count is as it was,
+    // or the status names the one fault, which is counted once.
+    ensures read_faults { CountsOnly Status.ReadFault result (F.faults files.old) (F.faults files.new) }
+    ensures endpoint_faults { IsTrue W.counts_alone → OnFirst wires.old wires.new (λ wire later. CountsOnly Status.EndpointFault result (W.faults wire) (W.faults later)) }
+    ensures door_faults { CountsDoor result (D.faults door.old) (D.faults door.new) }
     ensures kept { (name : List ℕ) → F.faults files.old name ≤ F.faults files.new name }
     ensures same { (name : List ℕ) → F.content files.new name ≡ F.content files.old name }
 {
@@ -96,6 +103,7 @@ fn run_local<F: Files, O: Sink, E: Sink>(
     ensures write_fault { result ≡ Status.WriteFault → IsCutShort (IsAnswer (file_read F.content F.faults files.old files.new graph.now) (file_read F.content F.faults files.old files.new query.now)) (sink_written O.tells_held O.held O.write_faults out.old out.new) (sink_written E.tells_held E.held E.write_faults err.old err.new) }
     ensures unfailed { ¬ (result ≡ Status.WriteFault) → O.write_faults out.new ≡ O.write_faults out.old }
     ensures unfailed_lines { result ≡ Status.Done → E.write_faults err.new ≡ E.write_faults err.old }
+    ensures read_faults { CountsOnly Status.ReadFault result (F.faults files.old) (F.faults files.new) }
     ensures kept { (name : List ℕ) → F.faults files.old name ≤ F.faults files.new name }
     ensures same { (name : List ℕ) → F.content files.new name ≡ F.content files.old name }
 {

@@ -1,8 +1,9 @@
 //! The command `member`.
-ghost use Rattle.std.specs.Prelude.{◌≡◌, ◌++◌, ◌<◌, ◌≤◌, ℕ, List, [], Some, Err, IfErr, IfOk, IsErr, IsTrue, OnOk};
+ghost use Rattle.std.specs.Prelude.{◌≡◌, ◌+◌, ◌++◌, ◌≤◌, ℕ, List, [], Some, Err, IfErr, IfOk, IsErr, IsTrue, OnOk};
 ghost use Rattle.fx_outside.specs.Doors.{output_of};
 ghost use Rattle.fx_outside.specs.Faults.{HasRisen};
 ghost use Rattle.fx_outside.specs.Streams.{AppendsFront};
+ghost use Rattle.fx_commands.specs.Counts.{CountsDoor, CountsOnly};
 ghost use Rattle.fx_commands.specs.Files.{file_read};
 ghost use Rattle.fx_commands.specs.Lines.{Gains};
 ghost use Rattle.fx_commands.specs.Serving.{door_seen, ending_line, ending_text, IsEnded, IsMemberReported, IsServingReported};
@@ -41,7 +42,9 @@ pub fn run_member<F: Files, D: Door, E: Sink>(
     ensures reported { (text : List ℕ) × IsMemberReported (file_read F.content F.faults files.old files.new graph.now) (door_seen D.tells D.started D.inputs D.outputs D.faults door.old) (door_seen D.tells D.started D.inputs D.outputs D.faults door.new) address.now count result text × (IsTrue E.tells_held → Gains (E.held err.old) (E.held err.new) (E.write_faults err.old) (E.write_faults err.new) text) }
     ensures write_fault { result ≡ Status.WriteFault → HasRisen (E.write_faults err.old) (E.write_faults err.new) }
     ensures unfailed_lines { result ≡ Status.Done → E.write_faults err.new ≡ E.write_faults err.old }
+    ensures door_faults { CountsDoor result (D.faults door.old) (D.faults door.new) }
     ensures opened { D.faults door.old ≤ D.faults door.new }
+    ensures read_faults { CountsOnly Status.ReadFault result (F.faults files.old) (F.faults files.new) }
     ensures kept { (name : List ℕ) → F.faults files.old name ≤ F.faults files.new name }
     ensures same { (name : List ℕ) → F.content files.new name ≡ F.content files.old name }
 {
@@ -66,6 +69,7 @@ fn serve_store<D: Door, E: Sink>(
     ensures reported { (text : List ℕ) × IsServingReported (door_seen D.tells D.started D.inputs D.outputs D.faults door.old) (door_seen D.tells D.started D.inputs D.outputs D.faults door.new) address.now count store.now result text × (IsTrue E.tells_held → Gains (E.held err.old) (E.held err.new) (E.write_faults err.old) (E.write_faults err.new) text) }
     ensures write_fault { result ≡ Status.WriteFault → HasRisen (E.write_faults err.old) (E.write_faults err.new) }
     ensures unfailed_lines { result ≡ Status.Done → E.write_faults err.new ≡ E.write_faults err.old }
+    ensures door_faults { CountsDoor result (D.faults door.old) (D.faults door.new) }
     ensures opened { D.faults door.old ≤ D.faults door.new }
 {
     match door.start(alloc, address) {
@@ -87,6 +91,7 @@ fn serve<D: Door, E: Sink>(
     ensures reported { (text : List ℕ) × IsServingReported (door_seen D.tells D.started D.inputs D.outputs D.faults door.old) (door_seen D.tells D.started D.inputs D.outputs D.faults door.new) address.now count store.now result text × (IsTrue E.tells_held → Gains (E.held err.old) (E.held err.new) (E.write_faults err.old) (E.write_faults err.new) text) }
     ensures write_fault { result ≡ Status.WriteFault → HasRisen (E.write_faults err.old) (E.write_faults err.new) }
     ensures unfailed_lines { result ≡ Status.Done → E.write_faults err.new ≡ E.write_faults err.old }
+    ensures door_faults { CountsDoor result (D.faults door.old) (D.faults door.new) }
     ensures opened { D.faults door.old ≤ D.faults door.new }
 {
     for number in 0..count {
@@ -106,7 +111,8 @@ fn serve_next<D: Door>(alloc: Global, store: &Store, door: &mut D) -> Result<End
     ensures ended { GivesEnding store.now (door_seen D.tells D.started D.inputs D.outputs D.faults door.old) (door_seen D.tells D.started D.inputs D.outputs D.faults door.new) result }
     ensures started { IsTrue D.tells → D.started door.new ≡ D.started door.old }
     ensures opened { D.faults door.old ≤ D.faults door.new }
-    ensures failed { result ≡ Err DoorError.Failed → D.faults door.old < D.faults door.new }
+    ensures counted { result ≡ Err DoorError.Failed → D.faults door.new ≡ D.faults door.old + 1 }
+    ensures faultless { ¬ (result ≡ Err DoorError.Failed) → D.faults door.new ≡ D.faults door.old }
 {
     let mut conn = door.accept(alloc)?;
     match serve_conn(alloc, store, &mut conn) {

@@ -9,6 +9,7 @@ pub mod SourceLemmas
 pub mod LearnLemmas
 pub mod SectionLemmas
 pub mod PartLemmas
+pub mod CountLemmas
 pub mod GainLemmas
 pub mod QuestionLemmas
 pub mod PlanLemmas

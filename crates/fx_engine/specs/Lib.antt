@@ -1,3 +1,4 @@
+pub mod Counts
 pub mod FaultTexts
 pub mod Federation
 pub mod Laws

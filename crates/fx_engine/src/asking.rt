@@ -1,10 +1,11 @@
 //! Asking one endpoint.
-ghost use Rattle.std.specs.Prelude.{◌≡◌, true};
+ghost use Rattle.std.specs.Prelude.{◌≡◌, true, IsTrue};
 ghost use Rattle.fx_terms.specs.declared.patterns.Pattern.{Pattern as PatternTree};
 ghost use Rattle.fx_outside.specs.Endpoints.{is_sendable};
 ghost use Rattle.fx_wire.specs.Exchanges.{IsAfter, seen};
 ghost use Rattle.fx_spelling.specs.Printable.{IsTriple};
 ghost use Rattle.fx_sources.specs.Sources.{ask_text as text_that_asks};
+ghost use Rattle.fx_engine.specs.Counts.{CountsAsk};
 ghost use Rattle.fx_engine.specs.Federation.{GivesFit, GivesRows, Posts};
 ghost use Rattle.fx_engine.specs.MemberQueries.{IsAsked};
 
@@ -33,6 +34,7 @@ pub fn ask<W: Wire>(
     requires asked { (p : PatternTree) × IsAsked p columns.now text.now }
     ensures rows { GivesRows (seen W.tells_log W.log W.graph W.faults wire.old) (seen W.tells_log W.log W.graph W.faults wire.new) at.now columns.now text.now result }
     ensures alone { Posts at.now text.now (seen W.tells_log W.log W.graph W.faults wire.old) (seen W.tells_log W.log W.graph W.faults wire.new) result }
+    ensures counted { IsTrue W.counts_alone → CountsAsk at.now.iri (W.faults wire.old) (W.faults wire.new) result }
     ensures after { IsAfter (seen W.tells_log W.log W.graph W.faults wire.old) (seen W.tells_log W.log W.graph W.faults wire.new) }
 {
     let length = text.len() as u64;
@@ -64,6 +66,7 @@ pub fn ask_fit<W: Wire>(
     requires triple { IsTriple key.now.pattern }
     ensures fit { GivesFit (seen W.tells_log W.log W.graph W.faults wire.old) (seen W.tells_log W.log W.graph W.faults wire.new) at.now key.now.pattern result }
     ensures alone { Posts at.now (text_that_asks key.now.pattern) (seen W.tells_log W.log W.graph W.faults wire.old) (seen W.tells_log W.log W.graph W.faults wire.new) result }
+    ensures counted { IsTrue W.counts_alone → CountsAsk at.now.iri (W.faults wire.old) (W.faults wire.new) result }
     ensures after { IsAfter (seen W.tells_log W.log W.graph W.faults wire.old) (seen W.tells_log W.log W.graph W.faults wire.new) }
 {
     let Ok(text) = ask_text(alloc, key) else {
@@ -74,10 +77,10 @@ pub fn ask_fit<W: Wire>(
     if length > LONGEST {
         return Err(AskError::TooLong { length });
     }
-    let Ok(request) = request_bytes(alloc, at, asked) else {
+    let Ok(posted) = request_bytes(alloc, at, asked) else {
         return Err(AskError::Memory);
     };
-    match wire.exchange(alloc, at, request.as_slice(), LONGEST) {
+    match wire.exchange(alloc, at, posted.as_slice(), LONGEST) {
         Err(WireError::Failed) => Err(AskError::Failed),
         Err(WireError::Memory) => Err(AskError::Memory),
         Ok(reply) => match read_truth(alloc, reply.as_slice()) {

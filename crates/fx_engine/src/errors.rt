@@ -9,7 +9,7 @@ use std::alloc::{AllocError, AllocFailed};
 /// Why a query has no answer over some endpoints. An endpoint is named by its number, from 0.
 #[derive(Clone, Copy, Debug, PartialEq, Eq)]
 pub enum FedError {
-    /// The exchange with an endpoint failed. The count of faults at its address rose in this call.
+    /// The exchange with an endpoint failed, which its wire counted as a fault at its address.
     Member { at: usize },
     /// The reply of an endpoint has this fault.
     BadReply { at: usize, why: ReplyFault },

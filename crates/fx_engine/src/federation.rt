@@ -1,5 +1,5 @@
 //! The answer of a query over several endpoints.
-ghost use Rattle.std.specs.Prelude.{◌≡◌, ◌<◌, ◌++◌, ◌∷◌, [], true, All, IfOk, length};
+ghost use Rattle.std.specs.Prelude.{◌≡◌, ◌<◌, ◌++◌, ◌∷◌, [], true, All, IfOk, IsTrue, length};
 ghost use Rattle.std.specs.List.{list_any};
 ghost use Rattle.fx_algebra.specs.Answers.{IsPlain, is_empty_list};
 ghost use Rattle.fx_terms.specs.declared.triples.Triple.{Triple as TripleParts};
@@ -8,6 +8,7 @@ ghost use Rattle.fx_sources.specs.Patterns.{patterns as patterns_of};
 ghost use Rattle.fx_sources.specs.Probes.{chosen, missing as missing_probes, told};
 ghost use Rattle.fx_sources.specs.Sources as source;
 ghost use Rattle.fx_wire.specs.Exchanges.{IsAfter, seen};
+ghost use Rattle.fx_engine.specs.Counts.{CountsFaults};
 ghost use Rattle.fx_engine.specs.Federation.{AnswersBy, AsksInOrder, AsksSources, Federates, Gained, GathersRows, HasBegun, Learns, Tells, row_questions};
 ghost use Rattle.std.specs.Prelude.{List};
 
@@ -31,6 +32,9 @@ use std::alloc::Global;
 /// the query has no rows, and none is asked for. The errors come as `FedError` says, and the first refusal ends the call: what was
 /// asked up to it is the first of these questions, each once, and nothing else.
 ///
+/// Where the wire counts each address alone, no fault is hidden: with `Member` one exchange failed, with the endpoint that it names, and
+/// was counted once; with any other answer no count changed.
+///
 /// The cache learns the answers after the last exchange. After a refusal it is as before; after want of memory each of its
 /// entries was there before, or is one of the answers.
 pub fn federate<W: Wire>(
@@ -45,6 +49,7 @@ pub fn federate<W: Wire>(
     ensures learns { Learns (AsksSources registry.now query.now cache.old) (seen W.tells_log W.log W.graph W.faults wire.old) (seen W.tells_log W.log W.graph W.faults wire.new) registry.now query.now cache.old cache.new result }
     ensures begun { Gained (HasBegun (W.graph wire.old) registry.now query.now cache.old) (seen W.tells_log W.log W.graph W.faults wire.old) (seen W.tells_log W.log W.graph W.faults wire.new) }
     ensures tells { (graphs : List (List TripleParts)) → Tells (W.graph wire.old) registry.now graphs → All (source.Tells graphs) cache.old → All (source.Tells graphs) cache.new }
+    ensures counted { IsTrue W.counts_alone → CountsFaults registry.now (W.faults wire.old) (W.faults wire.new) result }
     ensures after { IsAfter (seen W.tells_log W.log W.graph W.faults wire.old) (seen W.tells_log W.log W.graph W.faults wire.new) }
 {
     let Ok(probes) = missing(alloc, query, registry, cache) else {
@@ -85,6 +90,7 @@ fn answer_by<W: Wire>(
     requires lengths { length probes.now ≡ length truths.now }
     ensures answer { AnswersBy (seen W.tells_log W.log W.graph W.faults wire.old) (seen W.tells_log W.log W.graph W.faults wire.new) registry.now query.now cache.now probes.now truths.now result }
     ensures alone { AsksInOrder registry.now (row_questions (patterns_of query.now) (chosen query.now (length registry.now) (told probes.now truths.now ++ cache.now))) (seen W.tells_log W.log W.graph W.faults wire.old) (seen W.tells_log W.log W.graph W.faults wire.new) result }
+    ensures counted { IsTrue W.counts_alone → CountsFaults registry.now (W.faults wire.old) (W.faults wire.new) result }
     ensures after { IsAfter (seen W.tells_log W.log W.graph W.faults wire.old) (seen W.tells_log W.log W.graph W.faults wire.new) }
 {
     let Ok(sources) = choose(alloc, query, registry, cache, probes, truths) else {
@@ -122,6 +128,7 @@ fn join_all<W: Wire>(
     requires within { All (All (λ at. at < length endpoints.now)) sources.now }
     ensures rows { GathersRows (seen W.tells_log W.log W.graph W.faults wire.old) (seen W.tells_log W.log W.graph W.faults wire.new) endpoints.now patterns.now sources.now result }
     ensures alone { AsksInOrder endpoints.now (row_questions patterns.now sources.now) (seen W.tells_log W.log W.graph W.faults wire.old) (seen W.tells_log W.log W.graph W.faults wire.new) result }
+    ensures counted { IsTrue W.counts_alone → CountsFaults endpoints.now (W.faults wire.old) (W.faults wire.new) result }
     ensures after { IsAfter (seen W.tells_log W.log W.graph W.faults wire.old) (seen W.tells_log W.log W.graph W.faults wire.new) }
 {
     if lacks_one(sources) {

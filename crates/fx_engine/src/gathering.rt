@@ -1,10 +1,11 @@
 //! The rows of one pattern over its sources.
-ghost use Rattle.std.specs.Prelude.{◌≡◌, ◌<◌, ◌++◌, ◌∷◌, [], true, All, IfOk, OnOk, length, reverse};
+ghost use Rattle.std.specs.Prelude.{◌≡◌, ◌<◌, ◌++◌, ◌∷◌, [], true, All, IfOk, IsTrue, OnOk, length, reverse};
 ghost use Rattle.fx_terms.specs.Graphs.{set_of};
 ghost use Rattle.fx_terms.specs.declared.patterns.Pattern.{Pattern as PatternTree};
 ghost use Rattle.fx_outside.specs.Endpoints.{is_sendable};
 ghost use Rattle.fx_algebra.specs.Solutions.{solution_cmp};
 ghost use Rattle.fx_wire.specs.Exchanges.{IsAfter, seen};
+ghost use Rattle.fx_engine.specs.Counts.{CountsFaults};
 ghost use Rattle.fx_engine.specs.Federation.{AsksInOrder, CollectsRows, GathersRows, member_questions, source_questions};
 ghost use Rattle.fx_engine.specs.MemberQueries.{IsAsked};
 
@@ -31,6 +32,7 @@ pub fn gather<W: Wire>(
     requires within { All (λ at. at < length endpoints.now) members.now }
     ensures rows { GathersRows (seen W.tells_log W.log W.graph W.faults wire.old) (seen W.tells_log W.log W.graph W.faults wire.new) endpoints.now (pattern.now ∷ []) (members.now ∷ []) result }
     ensures alone { AsksInOrder endpoints.now (source_questions pattern.now members.now) (seen W.tells_log W.log W.graph W.faults wire.old) (seen W.tells_log W.log W.graph W.faults wire.new) result }
+    ensures counted { IsTrue W.counts_alone → CountsFaults endpoints.now (W.faults wire.old) (W.faults wire.new) result }
     ensures after { IsAfter (seen W.tells_log W.log W.graph W.faults wire.old) (seen W.tells_log W.log W.graph W.faults wire.new) }
 {
     if is_literal(&pattern.predicate) {
@@ -73,6 +75,7 @@ fn collect<W: Wire>(
     requires asked { (p : PatternTree) × IsAsked p columns.now text.now }
     ensures rows { CollectsRows (seen W.tells_log W.log W.graph W.faults wire.old) (seen W.tells_log W.log W.graph W.faults wire.new) endpoints.now members.now columns.now text.now result }
     ensures alone { (p : PatternTree) → IsAsked p columns.now text.now → AsksInOrder endpoints.now (member_questions p members.now) (seen W.tells_log W.log W.graph W.faults wire.old) (seen W.tells_log W.log W.graph W.faults wire.new) result }
+    ensures counted { IsTrue W.counts_alone → CountsFaults endpoints.now (W.faults wire.old) (W.faults wire.new) result }
     ensures after { IsAfter (seen W.tells_log W.log W.graph W.faults wire.old) (seen W.tells_log W.log W.graph W.faults wire.new) }
 {
     let mut all = Vec::new(alloc);

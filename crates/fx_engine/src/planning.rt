@@ -1,10 +1,11 @@
 //! The plan of a query over several endpoints.
-ghost use Rattle.std.specs.Prelude.{◌≡◌, ◌++◌, All, IfOk, List, length};
+ghost use Rattle.std.specs.Prelude.{◌≡◌, ◌++◌, All, IfOk, IsTrue, List, length};
 ghost use Rattle.fx_terms.specs.declared.triples.Triple.{Triple as TripleParts};
 ghost use Rattle.fx_plan.specs.Explained.{HasMembers};
 ghost use Rattle.fx_sources.specs.Probes.{chosen, missing as missing_probes, told};
 ghost use Rattle.fx_sources.specs.Sources as source;
 ghost use Rattle.fx_wire.specs.Exchanges.{IsAfter, seen};
+ghost use Rattle.fx_engine.specs.Counts.{CountsFaults};
 ghost use Rattle.fx_engine.specs.Federation.{AreBegun, AsksNothing, Gained, Learns, Tells, probe_questions};
 ghost use Rattle.fx_engine.specs.Planning.{IsByAnswers, Plans};
 ghost use Rattle.fx_engine.specs.Sections as spec;
@@ -23,7 +24,7 @@ use std::alloc::Global;
 /// outside SERVICE has the units that it would be asked for by, in their order, unless one of its patterns fits no endpoint's graph.
 ///
 /// Each endpoint is asked which triple patterns fit its graph, unless the cache holds the answer, and nothing else is asked.
-/// The cache learns the answers after the last exchange, and the errors come as in `federate`. Endpoints of SERVICE are not
+/// The cache learns the answers after the last exchange, and the errors come, and are counted, as in `federate`. Endpoints of SERVICE are not
 /// asked, whether the registry has them or not.
 pub fn plan_parts<W: Wire>(
     alloc: Global,
@@ -38,6 +39,7 @@ pub fn plan_parts<W: Wire>(
     ensures begun { Gained (AreBegun registry.now (probe_questions (missing_probes query.now (length registry.now) cache.old))) (seen W.tells_log W.log W.graph W.faults wire.old) (seen W.tells_log W.log W.graph W.faults wire.new) }
     ensures learns { Learns AsksNothing (seen W.tells_log W.log W.graph W.faults wire.old) (seen W.tells_log W.log W.graph W.faults wire.new) registry.now query.now cache.old cache.new result }
     ensures tells { (graphs : List (List TripleParts)) → Tells (W.graph wire.old) registry.now graphs → All (source.Tells graphs) cache.old → All (source.Tells graphs) cache.new }
+    ensures counted { IsTrue W.counts_alone → CountsFaults registry.now (W.faults wire.old) (W.faults wire.new) result }
     ensures after { IsAfter (seen W.tells_log W.log W.graph W.faults wire.old) (seen W.tells_log W.log W.graph W.faults wire.new) }
 {
     let Ok(probes) = missing(alloc, query, registry, cache) else {

@@ -1,7 +1,8 @@
 //! Asking the endpoints which patterns fit their graphs.
-ghost use Rattle.std.specs.Prelude.{◌≡◌, ◌<◌, [], ◌∷◌, true, All, length};
+ghost use Rattle.std.specs.Prelude.{◌≡◌, ◌<◌, [], ◌∷◌, true, All, IsTrue, length};
 ghost use Rattle.fx_outside.specs.Endpoints.{is_sendable};
 ghost use Rattle.fx_wire.specs.Exchanges.{IsAfter, seen};
+ghost use Rattle.fx_engine.specs.Counts.{CountsFaults};
 ghost use Rattle.fx_engine.specs.Federation.{AsksInOrder, GivesAnswer, GivesAnswers, probe_questions};
 
 use crate::asking::ask_fit;
@@ -23,6 +24,7 @@ pub fn ask_all<W: Wire>(
     requires within { All (λ p. p.at < length endpoints.now) probes.now }
     ensures answers { GivesAnswers (seen W.tells_log W.log W.graph W.faults wire.old) (seen W.tells_log W.log W.graph W.faults wire.new) endpoints.now probes.now result }
     ensures alone { AsksInOrder endpoints.now (probe_questions probes.now) (seen W.tells_log W.log W.graph W.faults wire.old) (seen W.tells_log W.log W.graph W.faults wire.new) result }
+    ensures counted { IsTrue W.counts_alone → CountsFaults endpoints.now (W.faults wire.old) (W.faults wire.new) result }
     ensures after { IsAfter (seen W.tells_log W.log W.graph W.faults wire.old) (seen W.tells_log W.log W.graph W.faults wire.new) }
 {
     let mut truths = Vec::new(alloc);
@@ -50,6 +52,7 @@ fn ask_one<W: Wire>(
     requires within { probe.now.at < length endpoints.now }
     ensures answer { GivesAnswer (seen W.tells_log W.log W.graph W.faults wire.old) (seen W.tells_log W.log W.graph W.faults wire.new) endpoints.now probe.now result }
     ensures alone { AsksInOrder endpoints.now (probe_questions (probe.now ∷ [])) (seen W.tells_log W.log W.graph W.faults wire.old) (seen W.tells_log W.log W.graph W.faults wire.new) result }
+    ensures counted { IsTrue W.counts_alone → CountsFaults endpoints.now (W.faults wire.old) (W.faults wire.new) result }
     ensures after { IsAfter (seen W.tells_log W.log W.graph W.faults wire.old) (seen W.tells_log W.log W.graph W.faults wire.new) }
 {
     if is_literal(&probe.key.pattern.predicate) {

@@ -1,5 +1,5 @@
 //! A wire in memory whose exchanges fail where they are to.
-ghost use Rattle.std.specs.Prelude.{◌≡◌, ◌+◌, ◌<◌, ◌≤◌, ◌++◌, ◌∷◌, [], ℕ, List, IfOk, IfSome, IsErrOf, IsOkAnd, MatchResult, OnErr, OnOk, cond, bytes_eq, length, vec_len};
+ghost use Rattle.std.specs.Prelude.{◌≡◌, ◌≢◌, ◌+◌, ◌≤◌, ◌++◌, ◌∷◌, [], ℕ, List, IfOk, IfSome, IsErrOf, IsOkAnd, MatchResult, OnErr, OnOk, length, vec_len};
 ghost use Rattle.std.specs.List.{list_any};
 ghost use Rattle.fx_member.specs.FaultWires as spec;
 ghost use Rattle.fx_member.specs.GraphWires.{IsFrontServed};
@@ -79,6 +79,8 @@ impl Wire for FaultWire {
 
     ghost faults = { λ wire address. faults_in wire address };
 
+    ghost counts_alone = { true };
+
     /// The first bytes of the reply that a member serves to a request: all of them where it has at most `limit` bytes, and
     /// else `limit + 1`.
     ///
@@ -100,12 +102,12 @@ impl Wire for FaultWire {
         ensures honest { IfOk result (λ reply. IfSome (graph_in self.old at.now.iri) (λ told. IsGraph told × (length reply.items ≤ limit → IsHonest told request.now reply.items))) }
         ensures same { (address : List ℕ) → graph_in self.new address ≡ graph_in self.old address }
         ensures kept { (address : List ℕ) → faults_in self.old address ≤ faults_in self.new address }
-        ensures failed { IsErrOf result WireError.Failed → faults_in self.old at.now.iri < faults_in self.new at.now.iri }
+        ensures counted { IsErrOf result WireError.Failed → faults_in self.new at.now.iri ≡ faults_in self.old at.now.iri + 1 }
+        ensures faultless { ¬ IsErrOf result WireError.Failed → faults_in self.new at.now.iri ≡ faults_in self.old at.now.iri }
+        ensures others { (address : List ℕ) → address ≢ at.now.iri → faults_in self.new address ≡ faults_in self.old address }
         ensures given { IfOk result (λ reply. IsFrontServed (graph_in self.old at.now.iri) request.now (limit + 1) reply.items) }
         ensures unfailing { OnOk result (fails_next self.old at.now.iri ≡ false) }
         ensures refused { IsErrOf result WireError.Failed → (fails_next self.old at.now.iri ≡ true) ⊎ (graph_in self.old at.now.iri ≡ None) }
-        ensures faultless { ¬ IsErrOf result WireError.Failed → (address : List ℕ) → faults_in self.new address ≡ faults_in self.old address }
-        ensures counted { IsErrOf result WireError.Failed → (address : List ℕ) → faults_in self.new address ≡ faults_in self.old address + cond (bytes_eq at.now.iri address) 1 0 }
         ensures after { ¬ IsErrOf result WireError.Memory → IsAfterExchange self.old self.new at.now.iri }
         ensures short { IsErrOf result WireError.Memory → IsAfterExchange self.old self.new at.now.iri ⊎ IsUncounted self.old self.new }
     {

@@ -1,5 +1,5 @@
 //! A wire in memory that answers by the SPARQL algebra over graphs.
-ghost use Rattle.std.specs.Prelude.{◌≡◌, ◌<◌, ◌≤◌, ◌+◌, ◌++◌, ◌∷◌, [], Some, IfOk, IfSome, OnOk, OnErr, IsErrOf, MatchResult, List, ℕ, cond, bytes_eq, length, option_copied, take, vec_len};
+ghost use Rattle.std.specs.Prelude.{◌≡◌, ◌≢◌, ◌<◌, ◌≤◌, ◌+◌, ◌++◌, ◌∷◌, [], Some, IfOk, IfSome, OnOk, OnErr, IsErrOf, MatchResult, List, ℕ, length, option_copied, take, vec_len};
 ghost use Rattle.fx_member.specs.GraphWires as spec;
 ghost use Rattle.fx_outside.specs.MemoryLinks.{left_in};
 ghost use Rattle.fx_terms.specs.Graphs.{IsGraph};
@@ -76,6 +76,8 @@ impl Wire for GraphWire {
 
     ghost faults = { λ wire address. faults_in wire address };
 
+    ghost counts_alone = { true };
+
     /// The first bytes of the reply that a member serves to a request: all of them where it has at most `limit` bytes, and
     /// else `limit + 1`.
     ///
@@ -96,11 +98,11 @@ impl Wire for GraphWire {
         ensures honest { IfOk result (λ reply. IfSome (graph_in self.old at.now.iri) (λ told. IsGraph told × (length reply.items ≤ limit → IsHonest told request.now reply.items))) }
         ensures same { (address : List ℕ) → graph_in self.new address ≡ graph_in self.old address }
         ensures kept { (address : List ℕ) → faults_in self.old address ≤ faults_in self.new address }
-        ensures failed { IsErrOf result WireError.Failed → faults_in self.old at.now.iri < faults_in self.new at.now.iri }
+        ensures counted { IsErrOf result WireError.Failed → faults_in self.new at.now.iri ≡ faults_in self.old at.now.iri + 1 }
+        ensures faultless { ¬ IsErrOf result WireError.Failed → faults_in self.new at.now.iri ≡ faults_in self.old at.now.iri }
+        ensures others { (address : List ℕ) → address ≢ at.now.iri → faults_in self.new address ≡ faults_in self.old address }
         ensures given { IfOk result (λ reply. IsFrontServed (graph_in self.old at.now.iri) request.now (limit + 1) reply.items) }
         ensures refused { IsErrOf result WireError.Failed → graph_in self.old at.now.iri ≡ None }
-        ensures faultless { ¬ IsErrOf result WireError.Failed → (address : List ℕ) → faults_in self.new address ≡ faults_in self.old address }
-        ensures counted { IsErrOf result WireError.Failed → (address : List ℕ) → faults_in self.new address ≡ faults_in self.old address + cond (bytes_eq at.now.iri address) 1 0 }
     {
         let place = self.faults.place(at.iri().text())?;
         let Some(store) = store_at(self.stores.as_slice(), at.iri()) else {

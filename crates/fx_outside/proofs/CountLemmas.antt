@@ -1,8 +1,9 @@
 -- Counts of names: what one more changes, and what a new entry changes.
-use Rattle.std.proofs.Common.{◌≡◌, ◌∙◌, ◌+◌, ℕ, zero, suc, List, [], ◌∷◌, ◌++◌, Bool, true, false, not, String, string_bytes, bytes_eq, cond, position, slice_get, set, Some, None, length, nat_lt, ◌≤◌, refl, sym, ap, subst, arith, tests}
+use Rattle.std.proofs.Common.{◌≡◌, ◌≢◌, ◌∙◌, ◌+◌, ℕ, zero, suc, List, [], ◌∷◌, ◌++◌, Bool, true, false, not, String, string_bytes, bytes_eq, cond, position, slice_get, set, Some, None, length, nat_lt, ◌≤◌, refl, sym, ap, subst, arith, tests}
 use Rattle.std.specs.List.{position_or_len}
 use Rattle.std.specs.declared.alloc.Global.{Global}
 use Rattle.std.proofs.lemmas.Slice.Eq.{bytes_eq-Decides}
+use Rattle.fx_outside.specs.Faults.{HaveStayed, IsOneMoreAt}
 use Rattle.fx_outside.specs.NameCounts.{count_in, has_name}
 
 one_more : (b : Bool) (n rest : ℕ) → cond b (n + 1) rest ≡ cond b n rest + cond b 1 0
@@ -105,3 +106,35 @@ place_within p (x ∷ xs) = within_by (p x) _ (length xs) (place_within p xs)
 
 pub none_found : (p : String Global × ℕ → Bool) (xs : List (String Global × ℕ)) → position p xs ≡ None → position_or_len p xs ≡ length xs
 none_found p xs e = none_by (nat_lt (position_or_len p xs) (length xs)) (position_or_len p xs) (length xs) refl (place_within p xs) e
+
+-- ---- what is said of all counts
+
+nothing_by : (b : Bool) (n : ℕ) → (b ≡ true → ⊥) → n + cond {A = ℕ} b 1 0 ≡ n
+nothing_by true n apart = absurd (apart refl)
+nothing_by false n apart = omega arith
+
+-- one more where the names are equal is one more at the name
+pub one_more_at : (name : List ℕ) (before after : List ℕ → ℕ) → ((other : List ℕ) → after other ≡ before other + cond {A = ℕ} (bytes_eq name other) 1 0) → IsOneMoreAt name before after
+one_more_at name before after counts = record {
+  here = counts name ∙ ap (λ (b : Bool). before name + cond {A = ℕ} b 1 0) ((bytes_eq-Decides name name).1 refl);
+  elsewhere = λ other apart. counts other ∙ nothing_by (bytes_eq name other) (before other) (λ is. apart (sym ((bytes_eq-Decides name other).0 is)));
+}
+
+-- where nothing is counted at a name, and nothing at the others, nothing is
+pub stayed_by : (name : List ℕ) (before after : List ℕ → ℕ) → after name ≡ before name → ((other : List ℕ) → other ≢ name → after other ≡ before other) → HaveStayed before after
+stayed_by name before after here elsewhere = λ other. decide other (bytes_eq other name) refl
+  where
+    decide : (other : List ℕ) (b : Bool) → bytes_eq other name ≡ b → after other ≡ before other
+    decide other true is = subst (λ (v : List ℕ). after v ≡ before v) (sym ((bytes_eq-Decides other name).0 is)) here
+    decide other false isnt = elsewhere other (λ same. let is : bytes_eq other name ≡ true = (bytes_eq-Decides other name).1 same in cc)
+
+-- ---- one call after another
+
+pub stayed_both : (a b c : List ℕ → ℕ) → HaveStayed a b → HaveStayed b c → HaveStayed a c
+stayed_both a b c h k = λ name. k name ∙ h name
+
+pub one_more_later : (name : List ℕ) (a b c : List ℕ → ℕ) → HaveStayed a b → IsOneMoreAt name b c → IsOneMoreAt name a c
+one_more_later name a b c h k = record {
+  here = k.here ∙ ap (λ (n : ℕ). n + 1) (h name);
+  elsewhere = λ other apart. k.elsewhere other apart ∙ h other;
+}

@@ -1,5 +1,5 @@
 -- What is left of a link in memory, what was written to it, and what its reads do.
-use Rattle.std.specs.Prelude.{◌≡◌, ℕ, ◌+◌, min, ◌==◌, List, [], length, drop, Option, Some, None, if◌then◌else◌}
+use Rattle.std.specs.Prelude.{◌≡◌, ℕ, ◌+◌, min, ◌==◌, List, length, drop, Option, Some, None, if◌then◌else◌}
 use Rattle.std.specs.List.{list_any}
 use Rattle.fx_outside.specs.declared.memory_links.MemoryLink.{MemoryLink}
 use Rattle.fx_outside.specs.MemoryStreams.{held_in, faults_of, IsFresh, IsAfterWrite}

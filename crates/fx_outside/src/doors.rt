@@ -1,5 +1,5 @@
 //! Where connections come in.
-ghost use Rattle.std.specs.Prelude.{◌≡◌, ◌<◌, ◌≤◌, ◌++◌, ◌∷◌, [], Some, Bool, List, ℕ, Option, IsTrue, IsErrOf, IfOk, OnOk, OnErr};
+ghost use Rattle.std.specs.Prelude.{◌≡◌, ◌≤◌, ◌+◌, ◌++◌, ◌∷◌, [], Some, Bool, List, ℕ, Option, IsTrue, IsErrOf, IfOk, OnOk, OnErr};
 ghost use Rattle.fx_outside.specs.Doors.{Output, output_of, IsTaken};
 
 use crate::streams::{Sink, Source};
@@ -72,38 +72,42 @@ pub trait Door {
 
     /// Opens the door at an address, as `host:port`.
     ///
-    /// `Failed` comes where it can't be opened there, and the count of faults rose in this call. `Memory` comes where memory runs
-    /// out, or where that count stands at the end of `u64`. After either all that the door tells is as before.
+    /// `Failed` comes where it can't be opened there. It counts exactly one more fault, and no other answer changes the count.
+    /// `Memory` comes where memory runs out, or where that count stands at the end of `u64`. After either all that the door tells is
+    /// as before.
     fn start(&mut self, alloc: Global, address: &str) -> Result<(), DoorError>
         ensures started { IsTrue tells → OnOk result (started self.new ≡ Some address.now) }
         ensures unstarted { IsTrue tells → OnErr result (started self.new ≡ started self.old) }
         ensures inputs { IsTrue tells → inputs self.new ≡ inputs self.old }
         ensures outputs { IsTrue tells → outputs self.new ≡ outputs self.old }
         ensures kept { faults self.old ≤ faults self.new }
-        ensures failed { IsErrOf result DoorError.Failed → faults self.old < faults self.new };
+        ensures counted { IsErrOf result DoorError.Failed → faults self.new ≡ faults self.old + 1 }
+        ensures faultless { ¬ IsErrOf result DoorError.Failed → faults self.new ≡ faults self.old };
 
     /// The next connection, which has no fault yet and, where the door tells, the first of the inputs left, and holds nothing.
     ///
-    /// `Failed` comes where none can be given, and the count of faults rose in this call. `Memory` comes where memory runs out,
-    /// or where that count stands at the end of `u64`. After either all that the door tells is as before.
+    /// `Failed` comes where none can be given. It counts exactly one more fault, and no other answer changes the count. `Memory`
+    /// comes where memory runs out, or where that count stands at the end of `u64`. After either all that the door tells is as before.
     fn accept(&mut self, alloc: Global) -> Result<Self::Conn, DoorError>
-        ensures faultless { IfOk result (λ conn. (Self.Conn.read_faults conn ≡ 0) × (Self.Conn.write_faults conn ≡ 0)) }
+        ensures faultless_connection { IfOk result (λ conn. (Self.Conn.read_faults conn ≡ 0) × (Self.Conn.write_faults conn ≡ 0)) }
         ensures taken { IsTrue tells → IfOk result (λ conn. IsTrue Self.Conn.tells_left × (IsTrue Self.Conn.tells_held × IsTaken (inputs self.old) (inputs self.new) (Self.Conn.left conn) (Self.Conn.held conn))) }
         ensures untaken { IsTrue tells → OnErr result (inputs self.new ≡ inputs self.old) }
         ensures started { IsTrue tells → started self.new ≡ started self.old }
         ensures outputs { IsTrue tells → outputs self.new ≡ outputs self.old }
         ensures kept { faults self.old ≤ faults self.new }
-        ensures failed { IsErrOf result DoorError.Failed → faults self.old < faults self.new };
+        ensures counted { IsErrOf result DoorError.Failed → faults self.new ≡ faults self.old + 1 }
+        ensures faultless { ¬ IsErrOf result DoorError.Failed → faults self.new ≡ faults self.old };
 
     /// Ends a connection. A door that tells keeps what it holds behind the other outputs, with its counts of faults.
     ///
-    /// `Failed` comes where it can't be ended, and the count of faults rose in this call. `Memory` comes where memory runs out,
-    /// or where that count stands at the end of `u64`. After either all that the door tells is as before.
+    /// `Failed` comes where it can't be ended. It counts exactly one more fault, and no other answer changes the count. `Memory`
+    /// comes where memory runs out, or where that count stands at the end of `u64`. After either all that the door tells is as before.
     fn finish(&mut self, alloc: Global, conn: Self::Conn) -> Result<(), DoorError>
         ensures ended { IsTrue tells → OnOk result (outputs self.new ≡ outputs self.old ++ output_of (Self.Conn.held conn) (Self.Conn.read_faults conn) (Self.Conn.write_faults conn) ∷ []) }
         ensures unended { IsTrue tells → OnErr result (outputs self.new ≡ outputs self.old) }
         ensures started { IsTrue tells → started self.new ≡ started self.old }
         ensures inputs { IsTrue tells → inputs self.new ≡ inputs self.old }
         ensures kept { faults self.old ≤ faults self.new }
-        ensures failed { IsErrOf result DoorError.Failed → faults self.old < faults self.new };
+        ensures counted { IsErrOf result DoorError.Failed → faults self.new ≡ faults self.old + 1 }
+        ensures faultless { ¬ IsErrOf result DoorError.Failed → faults self.new ≡ faults self.old };
 }

@@ -1,6 +1,7 @@
 //! The outside: what is written to and read from, in memory and over the system, with a count of each one's faults.
 //!
-//! A call that answers a fault has counted it; the count of a sink may stand at the end of `u64` then.
+//! A call that answers a fault has counted it, once, and no other answer is counted; the count of a source or a sink may stand at the
+//! end of `u64` then.
 #![tactic(auto)]
 
 pub mod doors;

@@ -1,5 +1,5 @@
 //! A door in memory.
-ghost use Rattle.std.specs.Prelude.{◌≡◌, ◌<◌, ◌≤◌, IfOk, IsOkAnd, vec_len};
+ghost use Rattle.std.specs.Prelude.{◌≡◌, ◌<◌, ◌≤◌, ◌+◌, IfOk, IsOkAnd, vec_len};
 ghost use Rattle.fx_outside.specs.Doors.{numbers_of as numbers_beside};
 
 use crate::doors::{Door, DoorError};
@@ -97,7 +97,8 @@ impl MemoryDoor {
         ensures taken { self.new.taken ≡ self.old.taken }
         ensures finished { self.new.finished ≡ self.old.finished }
         ensures kept { self.old.faults ≤ self.new.faults }
-        ensures failed { result ≡ DoorError.Failed → self.old.faults < self.new.faults }
+        ensures counted { result ≡ DoorError.Failed → self.new.faults ≡ self.old.faults + 1 }
+        ensures faultless { ¬ (result ≡ DoorError.Failed) → self.new.faults ≡ self.old.faults }
     {
         if self.faults >= u64::MAX {
             return DoorError::Memory;
@@ -108,7 +109,7 @@ impl MemoryDoor {
 }
 
 impl Door for MemoryDoor {
-    ghost use Rattle.std.specs.Prelude.{◌+◌, ◌++◌, ◌∷◌, [], ◌⊎◌, Some, true, false, IsErrOf, OnErr, OnOk};
+    ghost use Rattle.std.specs.Prelude.{◌++◌, ◌∷◌, [], ◌⊎◌, Some, true, false, IsErrOf, OnErr, OnOk};
     ghost use Rattle.fx_outside.specs.Doors.{IsTaken, output_of};
     ghost use Rattle.fx_outside.specs.MemoryDoors.{IsAfterCall, IsFreshConnection, address_in, faults_in, finished_in, inputs_in, is_failing, next_connection, outputs_in};
     ghost use Rattle.fx_outside.specs.MemoryLinks.{left_in, written_in, read_faults_of, write_faults_of};
@@ -135,10 +136,10 @@ impl Door for MemoryDoor {
         ensures inputs { inputs_in self.new ≡ inputs_in self.old }
         ensures outputs { outputs_in self.new ≡ outputs_in self.old }
         ensures kept { faults_in self.old ≤ faults_in self.new }
-        ensures failed { IsErrOf result DoorError.Failed → faults_in self.old < faults_in self.new }
+        ensures counted { IsErrOf result DoorError.Failed → faults_in self.new ≡ faults_in self.old + 1 }
+        ensures faultless { ¬ IsErrOf result DoorError.Failed → faults_in self.new ≡ faults_in self.old }
         ensures given { OnOk result (is_failing self.old ≡ false) }
         ensures refused { IsErrOf result DoorError.Failed → is_failing self.old ≡ true }
-        ensures faultless { OnOk result (faults_in self.new ≡ faults_in self.old) }
         ensures connection { next_connection self.new ≡ next_connection self.old }
         ensures finished { finished_in self.new ≡ finished_in self.old }
         ensures after { IsAfterCall self.old self.new }
@@ -161,10 +162,10 @@ impl Door for MemoryDoor {
         ensures started { address_in self.new ≡ address_in self.old }
         ensures outputs { outputs_in self.new ≡ outputs_in self.old }
         ensures kept { faults_in self.old ≤ faults_in self.new }
-        ensures failed { IsErrOf result DoorError.Failed → faults_in self.old < faults_in self.new }
+        ensures counted { IsErrOf result DoorError.Failed → faults_in self.new ≡ faults_in self.old + 1 }
+        ensures faultless { ¬ IsErrOf result DoorError.Failed → faults_in self.new ≡ faults_in self.old }
         ensures given { OnOk result (is_failing self.old ≡ false) }
         ensures refused { IsErrOf result DoorError.Failed → (is_failing self.old ≡ true) ⊎ (inputs_in self.old ≡ []) }
-        ensures faultless { OnOk result (faults_in self.new ≡ faults_in self.old) }
         ensures fresh { IfOk result (λ conn. IsFreshConnection self.old conn) }
         ensures connection { OnOk result (next_connection self.new ≡ next_connection self.old + 1) }
         ensures unnumbered { OnErr result (next_connection self.new ≡ next_connection self.old) }
@@ -193,10 +194,10 @@ impl Door for MemoryDoor {
         ensures started { address_in self.new ≡ address_in self.old }
         ensures inputs { inputs_in self.new ≡ inputs_in self.old }
         ensures kept { faults_in self.old ≤ faults_in self.new }
-        ensures failed { IsErrOf result DoorError.Failed → faults_in self.old < faults_in self.new }
+        ensures counted { IsErrOf result DoorError.Failed → faults_in self.new ≡ faults_in self.old + 1 }
+        ensures faultless { ¬ IsErrOf result DoorError.Failed → faults_in self.new ≡ faults_in self.old }
         ensures given { OnOk result (is_failing self.old ≡ false) }
         ensures refused { IsErrOf result DoorError.Failed → is_failing self.old ≡ true }
-        ensures faultless { OnOk result (faults_in self.new ≡ faults_in self.old) }
         ensures last { OnOk result (finished_in self.new ≡ finished_in self.old ++ conn ∷ []) }
         ensures unfinished { OnErr result (finished_in self.new ≡ finished_in self.old) }
         ensures connection { next_connection self.new ≡ next_connection self.old }

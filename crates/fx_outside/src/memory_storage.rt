@@ -1,6 +1,7 @@
 //! Files in memory.
-ghost use Rattle.std.specs.Prelude.{◌≡◌, ◌<◌, ◌≤◌, ◌+◌, List, ℕ, take, IfOk, IfSome, IsOkAnd, OnOk, IsErrOf, option_copied, vec_len};
+ghost use Rattle.std.specs.Prelude.{◌≡◌, ◌≤◌, ◌+◌, List, ℕ, take, IfOk, IfSome, IsOkAnd, IsErrOf, option_copied, vec_len};
 ghost use Rattle.std.specs.Option.{option_map};
+ghost use Rattle.fx_outside.specs.Faults.{HaveStayed, IsOneMoreAt};
 ghost use Rattle.fx_outside.specs.MemoryStorage.{content_in, content_of, fails_at, faults_in, given_at, next_given, IsAfterCall, IsFreshFiles};
 
 use crate::name_counts::NameCounts;
@@ -57,8 +58,8 @@ impl Files for MemoryFiles {
         ensures told { IfOk result (λ bytes. IfSome (content_in self.old name.now) (λ all. bytes.items ≡ take (limit + 1) all)) }
         ensures given { IfOk result (λ bytes. option_map (take (limit + 1)) (next_given self.old name.now) ≡ Some bytes.items) }
         ensures refused { IsErrOf result FileError.Failed → next_given self.old name.now ≡ None }
-        ensures failed { IsErrOf result FileError.Failed → faults_in self.old name.now < faults_in self.new name.now }
-        ensures faultless { OnOk result ((other : List ℕ) → faults_in self.new other ≡ faults_in self.old other) }
+        ensures counted { IsErrOf result FileError.Failed → IsOneMoreAt name.now (faults_in self.old) (faults_in self.new) }
+        ensures faultless { ¬ IsErrOf result FileError.Failed → HaveStayed (faults_in self.old) (faults_in self.new) }
         ensures kept { (other : List ℕ) → faults_in self.old other ≤ faults_in self.new other }
         ensures same { (other : List ℕ) → content_in self.new other ≡ content_in self.old other }
         ensures after { ¬ IsErrOf result FileError.Memory → IsAfterCall self.old self.new name.now }

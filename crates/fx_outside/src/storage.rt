@@ -1,5 +1,6 @@
 //! Files by name.
-ghost use Rattle.std.specs.Prelude.{◌≡◌, ◌<◌, ◌≤◌, ◌+◌, ℕ, List, Option, take, IfOk, IfSome, IsErrOf, vec_len};
+ghost use Rattle.std.specs.Prelude.{◌≡◌, ◌≤◌, ◌+◌, ℕ, List, Option, take, IfOk, IfSome, IsErrOf, vec_len};
+ghost use Rattle.fx_outside.specs.Faults.{HaveStayed, IsOneMoreAt};
 
 use std::alloc::{AllocError, AllocFailed, Global};
 
@@ -45,13 +46,15 @@ pub trait Files {
     /// The first bytes of the file of this name: all of them where it has at most `limit` bytes, and else `limit + 1`,
     /// which shows that it has more.
     ///
-    /// `Failed` comes where the file can't be opened or read, and the count of faults of its name rose in this call.
-    /// `Memory` comes where memory runs out, or where that count stands at the end of `u64`, so that it can't rise.
+    /// `Failed` comes where the file can't be opened or read. It counts exactly one more fault of its name, and no other call
+    /// changes a count. `Memory` comes where memory runs out, or where that count stands at the end of `u64`, so that it can't
+    /// rise.
     fn take(&mut self, alloc: Global, name: &str, limit: u64) -> Result<Vec<u8>, FileError>
         requires { limit ≤ 134217728 }
         ensures size { IfOk result (λ bytes. vec_len bytes ≤ limit + 1) }
         ensures told { IfOk result (λ bytes. IfSome (content self.old name.now) (λ all. bytes.items ≡ take (limit + 1) all)) }
-        ensures failed { IsErrOf result FileError.Failed → faults self.old name.now < faults self.new name.now }
+        ensures counted { IsErrOf result FileError.Failed → IsOneMoreAt name.now (faults self.old) (faults self.new) }
+        ensures faultless { ¬ IsErrOf result FileError.Failed → HaveStayed (faults self.old) (faults self.new) }
         ensures kept { (other : List ℕ) → faults self.old other ≤ faults self.new other }
         ensures same { (other : List ℕ) → content self.new other ≡ content self.old other };
 }

@@ -1,5 +1,5 @@
 //! A door over TCP.
-ghost use Rattle.std.specs.Prelude.{◌≡◌, ◌<◌, ◌≤◌, IfOk, IsErrOf, IsOk, OnOk};
+ghost use Rattle.std.specs.Prelude.{◌≡◌, ◌≤◌, ◌+◌, IfOk, IsErrOf, IsOk};
 
 use crate::doors::{Door, DoorError};
 use crate::system_links::StdLink;
@@ -39,7 +39,8 @@ impl<N: Net> Listener<N> {
     // What an error of the network comes to. A fault is counted; want of memory is told apart from it.
     fn fault(&mut self, error: &io::Error) -> DoorError
         ensures kept { self.old.faults ≤ self.new.faults }
-        ensures failed { result ≡ DoorError.Failed → self.old.faults < self.new.faults }
+        ensures counted { result ≡ DoorError.Failed → self.new.faults ≡ self.old.faults + 1 }
+        ensures faultless { ¬ (result ≡ DoorError.Failed) → self.new.faults ≡ self.old.faults }
     {
         if error.kind() == ErrorKind::OutOfMemory || self.faults >= u64::MAX {
             return DoorError::Memory;
@@ -65,11 +66,11 @@ impl<N: Net> Door for Listener<N> {
 
     ghost faults = { λ door. door.faults };
 
-    /// `Failed` comes where the network fails, and is counted; `Ok` is not.
+    /// `Failed` comes where the network fails, and is counted; no other answer is.
     fn start(&mut self, _alloc: Global, address: &str) -> Result<(), DoorError>
         ensures kept { self.old.faults ≤ self.new.faults }
-        ensures failed { IsErrOf result DoorError.Failed → self.old.faults < self.new.faults }
-        ensures faultless { OnOk result (self.new.faults ≡ self.old.faults) }
+        ensures counted { IsErrOf result DoorError.Failed → self.new.faults ≡ self.old.faults + 1 }
+        ensures faultless { ¬ IsErrOf result DoorError.Failed → self.new.faults ≡ self.old.faults }
     {
         match TcpListener::bind(&self.network, address) {
             Ok(listener) => {
@@ -80,12 +81,12 @@ impl<N: Net> Door for Listener<N> {
         }
     }
 
-    /// `Failed` comes where the network fails, and is counted; `Ok` is not.
+    /// `Failed` comes where the network fails, and is counted; no other answer is.
     fn accept(&mut self, _alloc: Global) -> Result<StdLink<N::Stream>, DoorError>
         ensures faultless_connection { IfOk result (λ conn. (read_faults_of conn ≡ 0) × (write_faults_of conn ≡ 0)) }
         ensures kept { self.old.faults ≤ self.new.faults }
-        ensures failed { IsErrOf result DoorError.Failed → self.old.faults < self.new.faults }
-        ensures faultless { OnOk result (self.new.faults ≡ self.old.faults) }
+        ensures counted { IsErrOf result DoorError.Failed → self.new.faults ≡ self.old.faults + 1 }
+        ensures faultless { ¬ IsErrOf result DoorError.Failed → self.new.faults ≡ self.old.faults }
     {
         match accept_some(&self.listener) {
             Ok(stream) => Ok(StdLink::new(stream)),

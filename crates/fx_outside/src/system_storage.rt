@@ -1,5 +1,6 @@
 //! The files of the system.
-ghost use Rattle.std.specs.Prelude.{◌<◌, ◌≤◌, ◌+◌, ◌≡◌, List, ℕ, IfOk, IsErrOf, bytes_eq, cond, length, vec_len};
+ghost use Rattle.std.specs.Prelude.{◌≤◌, ◌+◌, ◌≡◌, List, ℕ, IfOk, IsErrOf, length, vec_len};
+ghost use Rattle.fx_outside.specs.Faults.{HaveStayed, IsOneMoreAt};
 ghost use Rattle.fx_outside.specs.SystemStorage.{faults_of_folder};
 
 use crate::name_counts::NameCounts;
@@ -44,10 +45,9 @@ impl<R: rt::Files> Files for Folder<R> {
     fn take(&mut self, alloc: Global, name: &str, limit: u64) -> Result<Vec<u8>, FileError>
         requires { limit ≤ 134217728 }
         ensures size { IfOk result (λ bytes. vec_len bytes ≤ limit + 1) }
-        ensures failed { IsErrOf result FileError.Failed → faults_of_folder self.old name.now < faults_of_folder self.new name.now }
+        ensures counted { IsErrOf result FileError.Failed → IsOneMoreAt name.now (faults_of_folder self.old) (faults_of_folder self.new) }
+        ensures faultless { ¬ IsErrOf result FileError.Failed → HaveStayed (faults_of_folder self.old) (faults_of_folder self.new) }
         ensures kept { (other : List ℕ) → faults_of_folder self.old other ≤ faults_of_folder self.new other }
-        ensures faultless { ¬ IsErrOf result FileError.Failed → (other : List ℕ) → faults_of_folder self.new other ≡ faults_of_folder self.old other }
-        ensures counted { IsErrOf result FileError.Failed → (other : List ℕ) → faults_of_folder self.new other ≡ faults_of_folder self.old other + cond (bytes_eq name.now other) 1 0 }
     {
         let place = self.faults.place(name)?;
         match read_front(&self.runtime, alloc, name, limit as usize + 1) {

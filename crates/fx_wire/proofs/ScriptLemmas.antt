@@ -1,11 +1,10 @@
 -- The replies of a script: what is left where one is taken.
-use Rattle.std.proofs.Common.{◌≡◌, ◌∙◌, ◌≢◌, ℕ, zero, suc, ◌+◌, ◌<◌, ◌≤◌, List, [], ◌∷◌, length, map, filter, take, drop, min, Bool, true, false, not, cond, Vec, Some, None, Option, position, slice_get, remove, nat_lt, arith, tests, ap, refl, sym}
+use Rattle.std.proofs.Common.{◌≡◌, ◌∙◌, ◌≢◌, ℕ, zero, suc, ◌+◌, ◌<◌, ◌≤◌, List, [], ◌∷◌, length, map, filter, take, drop, min, Bool, true, false, not, cond, Vec, Some, None, position, slice_get, remove, nat_lt, arith, tests, ap, refl, sym}
 use Rattle.std.proofs.lemmas.List.{take_min}
 use Rattle.std.specs.List.{position_or_len}
 use Rattle.std.specs.Option.{option_map}
-use Rattle.std.specs.Ordering.{is_eq}
 use Rattle.std.specs.declared.alloc.Global.{Global}
-use Rattle.fx_terms.specs.Texts.{text_cmp, one_text}
+use Rattle.fx_terms.specs.Texts.{one_text}
 use Rattle.fx_wire.specs.Scripts.{is_for, replies_for}
 
 -- ---- the elements of a list that pass a test

@@ -58,6 +58,8 @@ impl Wire for ScriptWire {
 
     ghost faults = { λ wire address. faults_in wire address };
 
+    ghost counts_alone = { true };
+
     /// The first bytes of the next reply of the endpoint's address: all of them where it has at most `limit` bytes, and else
     /// `limit + 1`.
     ///
@@ -76,7 +78,9 @@ impl Wire for ScriptWire {
             (λ reply. log_in self.new ≡ log_in self.old ++ exchanged at.now request.now reply.items ∷ [])
             (λ _. log_in self.new ≡ log_in self.old) }
         ensures kept { (address : List ℕ) → faults_in self.old address ≤ faults_in self.new address }
-        ensures failed { IsErrOf result WireError.Failed → faults_in self.old at.now.iri < faults_in self.new at.now.iri }
+        ensures counted { IsErrOf result WireError.Failed → faults_in self.new at.now.iri ≡ faults_in self.old at.now.iri + 1 }
+        ensures faultless { ¬ IsErrOf result WireError.Failed → faults_in self.new at.now.iri ≡ faults_in self.old at.now.iri }
+        ensures others { (address : List ℕ) → address ≢ at.now.iri → faults_in self.new address ≡ faults_in self.old address }
         ensures given { IfOk result (λ reply. next_front self.old at.now.iri limit ≡ Some reply.items) }
         ensures refused { IsErrOf result WireError.Failed → next_front self.old at.now.iri limit ≡ None }
         ensures taken { OnOk result (IsAfterReply self.old self.new at.now.iri) }

@@ -1,5 +1,5 @@
 //! The wire over TCP.
-ghost use Rattle.std.specs.Prelude.{◌≡◌, ◌+◌, ◌<◌, ◌≤◌, List, ℕ, IfOk, IsErrOf, bytes_eq, cond, vec_len};
+ghost use Rattle.std.specs.Prelude.{◌≡◌, ◌≢◌, ◌+◌, ◌≤◌, List, ℕ, IfOk, IsErrOf, vec_len};
 ghost use Rattle.fx_wire.specs.TcpWires.{faults_of_wire};
 
 use crate::wires::{Wire, WireError};
@@ -30,7 +30,7 @@ impl<R> TcpWire<R> {
 }
 
 impl<R: Net> Wire for TcpWire<R> {
-    ghost use Rattle.std.specs.Prelude.{false, [], None};
+    ghost use Rattle.std.specs.Prelude.{false, true, [], None};
     ghost use Rattle.fx_wire.specs.TcpWires.{faults_of_wire};
 
     ghost tells_log = { false };
@@ -40,6 +40,8 @@ impl<R: Net> Wire for TcpWire<R> {
     ghost graph = { λ _ _. None };
 
     ghost faults = { λ wire address. faults_of_wire wire address };
+
+    ghost counts_alone = { true };
 
     /// The first bytes of what comes back up to the close.
     ///
@@ -54,9 +56,9 @@ impl<R: Net> Wire for TcpWire<R> {
         requires { limit ≤ 134217728 }
         ensures size { IfOk result (λ reply. vec_len reply ≤ limit + 1) }
         ensures kept { (address : List ℕ) → faults_of_wire self.old address ≤ faults_of_wire self.new address }
-        ensures failed { IsErrOf result WireError.Failed → faults_of_wire self.old at.now.iri < faults_of_wire self.new at.now.iri }
-        ensures faultless { ¬ IsErrOf result WireError.Failed → (address : List ℕ) → faults_of_wire self.new address ≡ faults_of_wire self.old address }
-        ensures counted { IsErrOf result WireError.Failed → (address : List ℕ) → faults_of_wire self.new address ≡ faults_of_wire self.old address + cond (bytes_eq at.now.iri address) 1 0 }
+        ensures counted { IsErrOf result WireError.Failed → faults_of_wire self.new at.now.iri ≡ faults_of_wire self.old at.now.iri + 1 }
+        ensures faultless { ¬ IsErrOf result WireError.Failed → faults_of_wire self.new at.now.iri ≡ faults_of_wire self.old at.now.iri }
+        ensures others { (address : List ℕ) → address ≢ at.now.iri → faults_of_wire self.new address ≡ faults_of_wire self.old address }
     {
         let place = self.faults.place(at.iri().text())?;
         match fetch(&self.network, alloc, at, request, limit as usize + 1) {

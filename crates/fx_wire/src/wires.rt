@@ -1,5 +1,5 @@
 //! What a wire promises.
-ghost use Rattle.std.specs.Prelude.{◌≡◌, ◌+◌, ◌<◌, ◌≤◌, ◌++◌, [], ◌∷◌, Bool, List, ℕ, Option, IsTrue, IsErrOf, IfOk, IfSome, OnOk, MatchResult, length, vec_len};
+ghost use Rattle.std.specs.Prelude.{◌≡◌, ◌≢◌, ◌+◌, ◌≤◌, ◌++◌, [], ◌∷◌, Bool, List, ℕ, Option, IsTrue, IsErrOf, IfOk, IfSome, OnOk, MatchResult, length, vec_len};
 ghost use Rattle.fx_terms.specs.Graphs.{IsGraph};
 ghost use Rattle.fx_terms.specs.declared.triples.Triple.{Triple};
 ghost use Rattle.fx_wire.specs.declared.wires.WireError.TheVariants.{Memory};
@@ -12,9 +12,9 @@ use std::alloc::{AllocError, AllocFailed, Global};
 /// Why an exchange has no reply.
 #[derive(Clone, Copy, Debug, PartialEq, Eq)]
 pub enum WireError {
-    /// The endpoint wasn't reached, or the connection broke. The count of faults at its address rose.
+    /// The endpoint wasn't reached, or the connection broke, and this was counted as a fault at its address.
     Failed,
-    /// Memory ran out.
+    /// Memory ran out, or the count of faults at the address stands at the end of `u64`.
     Memory,
 }
 
@@ -56,11 +56,15 @@ pub trait Wire {
     /// How often exchanges at an address have failed.
     ghost faults: { Self → List ℕ → ℕ };
 
+    /// Whether wires of this type count each address alone, so that an exchange counts nothing at another address than its own.
+    ghost counts_alone: { Bool };
+
     /// Sends a request to an endpoint, and gives the first bytes of its reply: all of them where it has at most `limit`
     /// bytes, and else `limit + 1`.
     ///
-    /// `Failed` comes only where the count of faults at the endpoint's address rose in this call. `Memory` comes where memory
-    /// ran out. No exchange changes a graph.
+    /// `Failed` counts exactly one more fault at the endpoint's address, and no other answer changes the count there. A wire that
+    /// counts each address alone changes no count at another one. `Memory` comes where memory ran out, or where that count stands
+    /// at the end of `u64`. No exchange changes a graph.
     fn exchange(
         &mut self,
         alloc: Global,
@@ -76,5 +80,7 @@ pub trait Wire {
         ensures honest { IfOk result (λ reply. IfSome (graph self.old at.now.iri) (λ told. IsGraph told × (length reply.items ≤ limit → IsHonest told request.now reply.items))) }
         ensures same { (address : List ℕ) → graph self.new address ≡ graph self.old address }
         ensures kept { (address : List ℕ) → faults self.old address ≤ faults self.new address }
-        ensures failed { IsErrOf result WireError.Failed → faults self.old at.now.iri < faults self.new at.now.iri };
+        ensures counted { IsErrOf result WireError.Failed → faults self.new at.now.iri ≡ faults self.old at.now.iri + 1 }
+        ensures faultless { ¬ IsErrOf result WireError.Failed → faults self.new at.now.iri ≡ faults self.old at.now.iri }
+        ensures others { IsTrue counts_alone → (address : List ℕ) → address ≢ at.now.iri → faults self.new address ≡ faults self.old address };
 }

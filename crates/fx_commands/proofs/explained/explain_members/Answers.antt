@@ -2,6 +2,9 @@ use Rattle.std.proofs.Common.{sym, subst, [], length}
 use Rattle.fx_wire.specs.Exchanges.{seen}
 use Rattle.fx_engine.specs.Federation.{AsksNothing, OfMissing}
 use Rattle.fx_commands.specs.declared.statuses.Status.{Status}
+use Rattle.fx_commands.specs.declared.statuses.Status.TheVariants as status
+use Rattle.fx_commands.specs.Counts.{CountsOnly}
+use Rattle.fx_commands.proofs.CountLemmas.{fed_counts}
 use Rattle.fx_commands.specs.FedRefusals.{fed_line}
 use Rattle.fx_commands.specs.QuerySteps.{IsAskReported}
 use Rattle.fx_commands.proofs.QueryLemmas.{fed_reported}
@@ -18,3 +21,10 @@ returns-clause-reported g c =
       subst (λ (s : Status). IsAskReported AsksNothing asks before after c.args.members.now c.args.query.now s text) (sym c.fed_status.ensures) (fed_reported AsksNothing asks before after c.args.members.now c.args.query.now c.in-Err.error c.in-Err.ensures.text),
       rw c.endpoints.ensures.value at c.write_fed_error.ensures,
     )
+
+pub returns-clause-endpoint_faults : goal.returns-clause-endpoint_faults
+returns-clause-endpoint_faults g c =
+    λ alone.
+    let before = g.W.Wire.faults c.args.wire.now in
+    let after = g.W.Wire.faults c.plan_text.new.wire in
+    subst (λ (s : Status). CountsOnly status.EndpointFault s before after) (sym c.fed_status.ensures) (fed_counts c.args.members.now before after c.in-Err.error (c.in-Err.ensures.counted alone))

@@ -1,7 +1,12 @@
-use Rattle.std.proofs.Common.{◌∙◌, sym, subst, Ok, Err}
+use Rattle.std.proofs.Common.{◌∙◌, sym, subst, Ok, Err, inl}
 use Rattle.fx_wire.specs.Exchanges.{seen}
 use Rattle.fx_commands.specs.declared.statuses.Status.{Status}
+use Rattle.fx_outside.proofs.CountLemmas.{stayed_both}
+use Rattle.fx_commands.specs.Counts.{CountsOnly}
 use Rattle.fx_commands.specs.Files.{file_read}
+use Rattle.fx_commands.specs.RefusalStatuses.{query_status, registry_status}
+use Rattle.fx_commands.specs.declared.statuses.Status.TheVariants as status
+use Rattle.fx_commands.proofs.CountLemmas.{only_later, only_read}
 use Rattle.fx_commands.specs.Lines.{not_built}
 use Rattle.fx_commands.specs.LocalSteps.{query_line}
 use Rattle.fx_commands.specs.Query.{IsQueryReported}
@@ -64,3 +69,23 @@ returns-clause-reported g c =
           c.ask_members.ensures.begun,
       c.ask_members.ensures.reported.2,
     )
+
+pub returns-in-Err-clause-read_faults : goal.returns-in-Err-clause-read_faults
+returns-in-Err-clause-read_faults g c =
+    let before = g.F.Files.faults c.args.files.now in
+    let after = g.F.Files.faults c.load_registry.new.files in
+    subst (λ (s : Status). CountsOnly status.ReadFault s before after) (sym c.status.ensures) (only_read c.args.registry.now (registry_status c.in-Err.refusal) before after c.in-Err.ensures.counted)
+
+pub returns-in-Err-load_query-clause-read_faults : goal.returns-in-Err-load_query-clause-read_faults
+returns-in-Err-load_query-clause-read_faults g c =
+    let before = g.F.Files.faults c.args.files.now in
+    let mid = g.F.Files.faults c.load_registry.new.files in
+    let after = g.F.Files.faults c.load_query.new.files in
+    subst (λ (s : Status). CountsOnly status.ReadFault s before after) (sym c.status-in-Err-load_query.ensures)
+    (only_later status.ReadFault (query_status c.in-Err-load_query.refusal) before mid after c.in-Ok.ensures.counted (only_read c.args.query.now (query_status c.in-Err-load_query.refusal) mid after c.in-Err-load_query.ensures.counted))
+
+pub returns-then-not-is_plain-clause-read_faults : goal.returns-then-not-is_plain-clause-read_faults
+returns-then-not-is_plain-clause-read_faults g c = inl (stayed_both (g.F.Files.faults c.args.files.now) (g.F.Files.faults c.load_registry.new.files) (g.F.Files.faults c.load_query.new.files) c.in-Ok.ensures.counted c.in-Ok-load_query.ensures.counted)
+
+pub returns-clause-read_faults : goal.returns-clause-read_faults
+returns-clause-read_faults g c = inl (stayed_both (g.F.Files.faults c.args.files.now) (g.F.Files.faults c.load_registry.new.files) (g.F.Files.faults c.load_query.new.files) c.in-Ok.ensures.counted c.in-Ok-load_query.ensures.counted)

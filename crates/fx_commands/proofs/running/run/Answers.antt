@@ -32,3 +32,9 @@ pub returns-in-Ok-Explain-clause-written : goal.returns-in-Ok-Explain-clause-wri
 returns-in-Ok-Explain-clause-written g c = on_first _ c.args.wires.now c.index-wires-0-in-Ok-Explain.result c.run_explain.new.wire (
     λ told. plan_written (file_read g.F.Files.content g.F.Files.faults c.args.files.now c.run_explain.new.files) _ _ c.in-Ok-Explain.registry.now c.in-Ok-Explain.query.now _ _ _ (rw c.in-Ok-Explain.field-0-is at c.in-Ok-Explain.ensures) (c.run_explain.ensures.written told)
     )
+
+pub returns-in-Ok-Query-clause-endpoint_faults : goal.returns-in-Ok-Query-clause-endpoint_faults
+returns-in-Ok-Query-clause-endpoint_faults g c = λ alone. on_first _ c.args.wires.now c.index-wires-0.result c.run_query.new.wire (c.run_query.ensures.endpoint_faults alone)
+
+pub returns-in-Ok-Explain-clause-endpoint_faults : goal.returns-in-Ok-Explain-clause-endpoint_faults
+returns-in-Ok-Explain-clause-endpoint_faults g c = λ alone. on_first _ c.args.wires.now c.index-wires-0-in-Ok-Explain.result c.run_explain.new.wire (c.run_explain.ensures.endpoint_faults alone)

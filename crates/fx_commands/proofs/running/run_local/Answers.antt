@@ -1,4 +1,6 @@
-use Rattle.std.proofs.Common.{sym, subst}
+use Rattle.std.proofs.Common.{sym, subst, inl}
+use Rattle.fx_commands.specs.Counts.{CountsOnly}
+use Rattle.fx_commands.specs.declared.statuses.Status.TheVariants as status
 use Rattle.fx_commands.specs.declared.statuses.Status.{Status}
 use Rattle.fx_commands.specs.Files.{file_read}
 use Rattle.fx_commands.specs.Local.{IsReported}
@@ -34,3 +36,10 @@ pub returns-in-Ok-clause-write_fault : goal.returns-in-Ok-clause-write_fault
 returns-in-Ok-clause-write_fault g c =
     let read = file_read g.F.Files.content g.F.Files.faults c.args.files.now c.local.new.files in
     λ is. cut_short (read c.args.graph.now) (read c.args.query.now) c.in-Ok.report _ _ c.in-Ok.ensures.outcome (c.write_report.ensures.write_fault is)
+
+pub returns-in-Err-clause-read_faults : goal.returns-in-Err-clause-read_faults
+returns-in-Err-clause-read_faults g c =
+    subst (λ (s : Status). CountsOnly status.ReadFault s (g.F.Files.faults c.args.files.now) (g.F.Files.faults c.local.new.files)) (sym c.status.ensures) c.in-Err.ensures.counted
+
+pub returns-in-Ok-clause-read_faults : goal.returns-in-Ok-clause-read_faults
+returns-in-Ok-clause-read_faults g c = inl c.in-Ok.ensures.counted

@@ -1,8 +1,12 @@
-use Rattle.std.proofs.Common.{sym, subst}
+use Rattle.std.proofs.Common.{sym, subst, inl}
+use Rattle.fx_commands.specs.Counts.{CountsOnly}
 use Rattle.fx_commands.specs.Files.{file_read}
 use Rattle.fx_commands.specs.LocalSteps.{graph_line}
 use Rattle.fx_commands.specs.Serving.{door_seen, IsMemberReported}
 use Rattle.fx_commands.specs.declared.statuses.Status.{Status}
+use Rattle.fx_commands.specs.RefusalStatuses.{graph_status}
+use Rattle.fx_commands.specs.declared.statuses.Status.TheVariants as status
+use Rattle.fx_commands.proofs.CountLemmas.{only_read}
 use Rattle.fx_commands.proofs.ServingLemmas.{no_graph_reported}
 use Rattle.fx_commands.proofs.serving.run_member.Goals as goal
 
@@ -15,3 +19,12 @@ returns-in-Err-clause-reported g c =
       subst (λ (s : Status). IsMemberReported read seen seen c.args.address.now c.args.count s text) (sym c.status.ensures) (no_graph_reported read seen c.args.address.now c.args.count c.in-Err.refusal c.in-Err.ensures.outcome),
       c.write_graph_refusal.ensures,
     )
+
+pub returns-in-Err-clause-read_faults : goal.returns-in-Err-clause-read_faults
+returns-in-Err-clause-read_faults g c =
+    let before = g.F.Files.faults c.args.files.now in
+    let after = g.F.Files.faults c.load_store.new.files in
+    subst (λ (s : Status). CountsOnly status.ReadFault s before after) (sym c.status.ensures) (only_read c.args.graph.now (graph_status c.in-Err.refusal) before after c.in-Err.ensures.counted)
+
+pub returns-in-Ok-clause-read_faults : goal.returns-in-Ok-clause-read_faults
+returns-in-Ok-clause-read_faults g c = inl c.in-Ok.ensures.counted

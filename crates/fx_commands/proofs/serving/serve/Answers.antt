@@ -1,7 +1,10 @@
-use Rattle.std.proofs.Common.{◌∙◌, ap, sym, subst, refl, ◌+◌, ◌++◌, Err, arith}
+use Rattle.std.proofs.Common.{◌≡◌, ◌∙◌, ap, sym, subst, refl, ◌+◌, ◌++◌, Err, inl, arith}
+use Rattle.fx_outside.specs.declared.doors.DoorError.TheVariants as door
+use Rattle.fx_commands.specs.Counts.{CountsDoor}
 use Rattle.fx_commands.specs.Serving.{door_seen, ending_line, ending_lines, IsServingReported}
 use Rattle.fx_commands.specs.ServingSteps.{end_line}
 use Rattle.fx_commands.specs.declared.statuses.Status.{Status}
+use Rattle.fx_commands.proofs.CountLemmas.{end_counts}
 use Rattle.fx_commands.proofs.GainLemmas.{gains_then, pieces_whole}
 use Rattle.fx_commands.proofs.ServingLemmas.{first, next, unwritten, cut, ended}
 use Rattle.fx_commands.proofs.serving.serve.Goals as goal
@@ -12,7 +15,7 @@ loop-number-init g c = first c.args.store.now (door_seen g.D.Door.tells g.D.Door
 pub loop-number-preserved : goal.loop-number-preserved
 loop-number-preserved g c =
     next c.args.store.now (door_seen g.D.Door.tells g.D.Door.started g.D.Door.inputs g.D.Door.outputs g.D.Door.faults c.args.door.now) g.E.Ends.tells_held (g.E.Ends.held c.args.err.now) (g.E.Ends.write_faults c.args.err.now) (door_seen g.D.Door.tells g.D.Door.started g.D.Door.inputs g.D.Door.outputs g.D.Door.faults c.loop-number.door) (door_seen g.D.Door.tells g.D.Door.started g.D.Door.inputs g.D.Door.outputs g.D.Door.faults c.serve_next.new.door) (g.E.Ends.held c.loop-number.err) (g.E.Ends.write_faults c.loop-number.err) c.loop-number.number c.loop-number.invariant refl
-    c.in-Ok.ending (g.E.Ends.held c.write_ending.new.err) (g.E.Ends.write_faults c.write_ending.new.err) c.in-Ok.ensures.ended c.in-Ok.ensures.started c.in-Ok.ensures.opened (λ told. c.in-Ok-write_ending.ensures.whole told) c.in-Ok-write_ending.ensures.faultless
+    c.in-Ok.ending (g.E.Ends.held c.write_ending.new.err) (g.E.Ends.write_faults c.write_ending.new.err) c.in-Ok.ensures.ended c.in-Ok.ensures.started (c.in-Ok.ensures.faultless (λ failed. cc)) (λ told. c.in-Ok-write_ending.ensures.whole told) c.in-Ok-write_ending.ensures.faultless
 
 pub returns-in-Err-write_ending-clause-reported : goal.returns-in-Err-write_ending-clause-reported
 returns-in-Err-write_ending-clause-reported g c =
@@ -32,7 +35,7 @@ returns-in-Err-clause-reported g c =
     let text = ending_lines 1 so.endings ++ end_line e in (
       text,
       subst (λ (s : Status). IsServingReported before after c.args.address.now c.args.count c.args.store.now s text) (sym c.end.ensures.status)
-          (ended before after c.args.address.now c.args.count c.args.store.now e text (λ is. omega (arith, so.opened, c.in-Err.ensures.failed (ap Err is)))
+          (ended before after c.args.address.now c.args.count c.args.store.now e text (λ is. omega (arith, so.unfailed, c.in-Err.ensures.counted (ap Err is)))
           (cut c.args.store.now before g.E.Ends.tells_held (g.E.Ends.held c.args.err.now) (g.E.Ends.write_faults c.args.err.now) (door_seen g.D.Door.tells g.D.Door.started g.D.Door.inputs g.D.Door.outputs g.D.Door.faults c.loop-number.door) after (g.E.Ends.held c.loop-number.err) (g.E.Ends.write_faults c.loop-number.err) c.loop-number.number so refl c.args.address.now c.args.count c.requires c.loop-number-test.true e c.in-Err.ensures.ended c.in-Err.ensures.started (end_line e))),
       λ told. gains_then _ _ _ _ _ _ (ending_lines 1 so.endings) (end_line e) (so.lines told) (omega (arith, so.faultless)) (c.end.ensures.line told),
     )
@@ -41,3 +44,15 @@ pub returns-clause-reported : goal.returns-clause-reported
 returns-clause-reported g c =
     let so = c.loop-number.invariant in
     (ending_lines 1 so.endings, (so.endings, so.serves, so.count ∙ omega (arith, c.loop-number-test.false, c.loop-number.auto.number-end), λ tells. so.started tells ∙ c.requires tells, refl), λ told. record { front = pieces_whole _ _ _ (so.lines told); whole = λ not. so.lines told })
+
+pub returns-in-Err-write_ending-clause-door_faults : goal.returns-in-Err-write_ending-clause-door_faults
+returns-in-Err-write_ending-clause-door_faults g c = inl (c.in-Ok.ensures.faultless (λ failed. cc) ∙ c.loop-number.invariant.unfailed)
+
+pub returns-in-Err-clause-door_faults : goal.returns-in-Err-clause-door_faults
+returns-in-Err-clause-door_faults g c =
+    let faults = g.D.Door.faults in
+    subst (λ (s : Status). CountsDoor s (faults c.args.door.now) (faults c.serve_next.new.door)) (sym c.end.ensures.status)
+    (end_counts (faults c.args.door.now) (faults c.loop-number.door) (faults c.serve_next.new.door) c.in-Err.error c.loop-number.invariant.unfailed (λ is. c.in-Err.ensures.counted (ap Err is)) (λ not. c.in-Err.ensures.faultless (λ is. let same : c.in-Err.error ≡ door.Failed = cc in not same)))
+
+pub returns-clause-door_faults : goal.returns-clause-door_faults
+returns-clause-door_faults g c = inl c.loop-number.invariant.unfailed

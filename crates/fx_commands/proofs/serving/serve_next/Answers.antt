@@ -1,4 +1,5 @@
-use Rattle.std.proofs.Common.{◌∙◌, ap, sym, [], ◌∷◌, ◌++◌}
+use Rattle.std.proofs.Common.{◌≡◌, ◌∙◌, ap, sym, [], ◌∷◌, ◌++◌, Err, arith}
+use Rattle.fx_outside.specs.declared.doors.DoorError.TheVariants as door
 use Rattle.fx_outside.specs.Doors.{output_of}
 use Rattle.fx_commands.specs.Serving.{door_seen}
 use Rattle.fx_commands.proofs.ServingLemmas.{lost_one, served_one}
@@ -16,6 +17,18 @@ pub returns-in-Ok-finish-clause-ended : goal.returns-in-Ok-finish-clause-ended
 returns-in-Ok-finish-clause-ended g c = λ tells.
     let taken = c.in_ok-conn.ensures.taken tells in
     served_one c.args.store.now (door_seen g.D.Door.tells g.D.Door.started g.D.Door.inputs g.D.Door.outputs g.D.Door.faults c.args.door.now) (door_seen g.D.Door.tells g.D.Door.started g.D.Door.inputs g.D.Door.outputs g.D.Door.faults c.finish.new.self) _ (output_of (g.D.Conn.Ends.held c.serve_conn.new.conn) (g.D.Conn.Ends.read_faults c.serve_conn.new.conn) (g.D.Conn.Ends.write_faults c.serve_conn.new.conn)) c.in-Ok.ending
-    (c.in-Ok.ensures.ended taken.0 taken.1.0 taken.1.1.empty c.in_ok-conn.ensures.faultless.0 c.in_ok-conn.ensures.faultless.1)
+    (c.in-Ok.ensures.ended taken.0 taken.1.0 taken.1.1.empty c.in_ok-conn.ensures.faultless_connection.0 c.in_ok-conn.ensures.faultless_connection.1)
     (taken.1.1.first ∙ ap (λ is. g.D.Conn.Ends.left c.in_ok-conn.conn ∷ is) (sym (c.in-Ok-finish.ensures.inputs tells)))
     (c.in-Ok-finish.ensures.ended tells ∙ ap (λ os. os ++ output_of (g.D.Conn.Ends.held c.serve_conn.new.conn) (g.D.Conn.Ends.read_faults c.serve_conn.new.conn) (g.D.Conn.Ends.write_faults c.serve_conn.new.conn) ∷ []) (c.in_ok-conn.ensures.outputs tells))
+
+pub returns-in-Err-finish-clause-counted : goal.returns-in-Err-finish-clause-counted
+returns-in-Err-finish-clause-counted g c = λ is.
+    let same : c.in-Err-finish.error ≡ door.Failed = cc in
+    omega (arith, c.in_ok-conn.ensures.faultless (λ failed. cc), c.in-Err-finish.ensures.counted (ap Err same))
+
+pub returns-in-Err-finish-clause-faultless : goal.returns-in-Err-finish-clause-faultless
+returns-in-Err-finish-clause-faultless g c = λ not.
+    c.in-Err-finish.ensures.faultless (λ is. let same : c.in-Err-finish.error ≡ door.Failed = cc in not (ap Err same)) ∙ c.in_ok-conn.ensures.faultless (λ failed. cc)
+
+pub returns-in-Ok-finish-clause-faultless : goal.returns-in-Ok-finish-clause-faultless
+returns-in-Ok-finish-clause-faultless g c = λ not. c.in-Ok-finish.ensures.faultless (λ failed. cc) ∙ c.in_ok-conn.ensures.faultless (λ failed. cc)

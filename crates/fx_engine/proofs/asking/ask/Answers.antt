@@ -1,5 +1,6 @@
-use Rattle.std.proofs.Common.{◌∙◌, ◌≤◌, sym, subst, refl, List, [], ℕ, length, Err, arith}
+use Rattle.std.proofs.Common.{◌≡◌, ◌∙◌, ◌+◌, ◌≤◌, ap, sym, subst, refl, List, [], ℕ, length, Err, arith}
 use Rattle.fx_http.specs.Requests.{IsRequest}
+use Rattle.fx_outside.proofs.CountLemmas.{stayed_by}
 use Rattle.fx_wire.specs.Exchanges.{exchanged, seen}
 use Rattle.fx_engine.specs.Tables.{ReadsTable}
 use Rattle.fx_engine.specs.ReplyChecks.{table_of, HasFault, GivesTable}
@@ -82,3 +83,38 @@ returns-clause-alone g c =
     (gained_one (IsPostedOnce c.args.at.now c.args.text.now) (see c.args.wire.now) (see c.exchange.new.self) (exchanged c.args.at.now c.as_slice.result.now c.in-Ok-exchange.reply.items)
     (exchanged c.args.at.now c.as_slice.result.now c.in-Ok-exchange.reply.items, refl, refl, c.as_slice.ensures.value ∙ c.in-Ok.ensures.exact)
     c.in-Ok-exchange.ensures.logged)
+
+pub returns-then-length-gt-LONGEST-clause-counted : goal.returns-then-length-gt-LONGEST-clause-counted
+returns-then-length-gt-LONGEST-clause-counted g c = λ alone name. refl
+
+pub returns-in_default-clause-counted : goal.returns-in_default-clause-counted
+returns-in_default-clause-counted g c = λ alone name. refl
+
+pub returns-in-Err-Failed-clause-counted : goal.returns-in-Err-Failed-clause-counted
+returns-in-Err-Failed-clause-counted g c = λ alone. record { here = c.in-Err-Failed.ensures.counted (ap Err c.in-Err-Failed.field-0-is); elsewhere = c.in-Err-Failed.ensures.others alone }
+
+pub returns-in-Err-Memory-clause-counted : goal.returns-in-Err-Memory-clause-counted
+returns-in-Err-Memory-clause-counted g c =
+    λ alone.
+    stayed_by c.args.at.now.iri (g.W.Wire.faults c.args.wire.now) (g.W.Wire.faults c.exchange.new.self) (c.in-Err-Memory.ensures.faultless (λ failed. let memory = c.in-Err-Memory.field-0-is in cc)) (c.in-Err-Memory.ensures.others alone)
+
+pub returns-in-Ok-read_table-clause-counted : goal.returns-in-Ok-read_table-clause-counted
+returns-in-Ok-read_table-clause-counted g c =
+    λ alone.
+    stayed_by c.args.at.now.iri (g.W.Wire.faults c.args.wire.now) (g.W.Wire.faults c.exchange.new.self) (c.in-Ok-exchange.ensures.faultless (λ failed. cc)) (c.in-Ok-exchange.ensures.others alone)
+
+pub returns-in-Err-Bad-clause-counted : goal.returns-in-Err-Bad-clause-counted
+returns-in-Err-Bad-clause-counted g c =
+    λ alone.
+    stayed_by c.args.at.now.iri (g.W.Wire.faults c.args.wire.now) (g.W.Wire.faults c.exchange.new.self) (c.in-Ok-exchange.ensures.faultless (λ failed. cc)) (c.in-Ok-exchange.ensures.others alone)
+
+pub returns-clause-counted : goal.returns-clause-counted
+returns-clause-counted g c =
+    λ alone.
+    stayed_by c.args.at.now.iri (g.W.Wire.faults c.args.wire.now) (g.W.Wire.faults c.exchange.new.self) (c.in-Ok-exchange.ensures.faultless (λ failed. cc)) (c.in-Ok-exchange.ensures.others alone)
+
+pub returns-in-Err-Failed-clause-rows : goal.returns-in-Err-Failed-clause-rows
+returns-in-Err-Failed-clause-rows g c =
+    λ p asked.
+    let more : g.W.Wire.faults c.exchange.new.self c.args.at.now.iri ≡ g.W.Wire.faults c.args.wire.now c.args.at.now.iri + 1 = c.in-Err-Failed.ensures.counted (ap Err c.in-Err-Failed.field-0-is) in
+    omega (arith, more)

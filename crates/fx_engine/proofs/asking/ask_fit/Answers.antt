@@ -1,5 +1,6 @@
-use Rattle.std.proofs.Common.{◌≡◌, ◌∙◌, ◌≤◌, ap, sym, subst, refl, List, [], ℕ, length, Err, arith}
+use Rattle.std.proofs.Common.{◌≡◌, ◌∙◌, ◌+◌, ◌≤◌, ap, sym, subst, refl, List, [], ℕ, length, Err, arith}
 use Rattle.fx_http.specs.Requests.{IsRequest, request_of}
+use Rattle.fx_outside.proofs.CountLemmas.{stayed_by}
 use Rattle.fx_wire.specs.Exchanges.{exchanged, seen}
 use Rattle.fx_sources.specs.Sources.{ask_text}
 use Rattle.fx_engine.specs.ReplyChecks.{a_truth, HasFault, GivesTruth}
@@ -101,3 +102,40 @@ returns-clause-alone g c =
     (gained_one (IsPostedOnce c.args.at.now (ask_text c.args.key.now.pattern)) (see c.args.wire.now) (see c.exchange.new.self) (exchanged c.args.at.now c.as_slice.result.now c.in-Ok-exchange.reply.items)
     (exchanged c.args.at.now c.as_slice.result.now c.in-Ok-exchange.reply.items, refl, refl, c.as_slice.ensures.value ∙ c.in-Ok-request_bytes.ensures.exact ∙ ap (request_of c.args.at.now) (c.as_str-asked.ensures.value ∙ c.in-Ok.ensures))
     c.in-Ok-exchange.ensures.logged)
+
+pub returns-in_default-clause-counted : goal.returns-in_default-clause-counted
+returns-in_default-clause-counted g c = λ alone name. refl
+
+pub returns-then-length-gt-LONGEST-clause-counted : goal.returns-then-length-gt-LONGEST-clause-counted
+returns-then-length-gt-LONGEST-clause-counted g c = λ alone name. refl
+
+pub returns-in_default-request_bytes-clause-counted : goal.returns-in_default-request_bytes-clause-counted
+returns-in_default-request_bytes-clause-counted g c = λ alone name. refl
+
+pub returns-in-Err-Failed-clause-counted : goal.returns-in-Err-Failed-clause-counted
+returns-in-Err-Failed-clause-counted g c = λ alone. record { here = c.in-Err-Failed.ensures.counted (ap Err c.in-Err-Failed.field-0-is); elsewhere = c.in-Err-Failed.ensures.others alone }
+
+pub returns-in-Err-Memory-clause-counted : goal.returns-in-Err-Memory-clause-counted
+returns-in-Err-Memory-clause-counted g c =
+    λ alone.
+    stayed_by c.args.at.now.iri (g.W.Wire.faults c.args.wire.now) (g.W.Wire.faults c.exchange.new.self) (c.in-Err-Memory.ensures.faultless (λ failed. let memory = c.in-Err-Memory.field-0-is in cc)) (c.in-Err-Memory.ensures.others alone)
+
+pub returns-in-Ok-read_truth-clause-counted : goal.returns-in-Ok-read_truth-clause-counted
+returns-in-Ok-read_truth-clause-counted g c =
+    λ alone.
+    stayed_by c.args.at.now.iri (g.W.Wire.faults c.args.wire.now) (g.W.Wire.faults c.exchange.new.self) (c.in-Ok-exchange.ensures.faultless (λ failed. cc)) (c.in-Ok-exchange.ensures.others alone)
+
+pub returns-in-Err-Bad-clause-counted : goal.returns-in-Err-Bad-clause-counted
+returns-in-Err-Bad-clause-counted g c =
+    λ alone.
+    stayed_by c.args.at.now.iri (g.W.Wire.faults c.args.wire.now) (g.W.Wire.faults c.exchange.new.self) (c.in-Ok-exchange.ensures.faultless (λ failed. cc)) (c.in-Ok-exchange.ensures.others alone)
+
+pub returns-clause-counted : goal.returns-clause-counted
+returns-clause-counted g c =
+    λ alone.
+    stayed_by c.args.at.now.iri (g.W.Wire.faults c.args.wire.now) (g.W.Wire.faults c.exchange.new.self) (c.in-Ok-exchange.ensures.faultless (λ failed. cc)) (c.in-Ok-exchange.ensures.others alone)
+
+pub returns-in-Err-Failed-clause-fit : goal.returns-in-Err-Failed-clause-fit
+returns-in-Err-Failed-clause-fit g c =
+    let more : g.W.Wire.faults c.exchange.new.self c.args.at.now.iri ≡ g.W.Wire.faults c.args.wire.now c.args.at.now.iri + 1 = c.in-Err-Failed.ensures.counted (ap Err c.in-Err-Failed.field-0-is) in
+    omega (arith, more)

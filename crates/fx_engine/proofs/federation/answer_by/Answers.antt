@@ -15,6 +15,7 @@ use Rattle.fx_sources.specs.declared.probes.Probe.{Probe}
 use Rattle.fx_sources.proofs.SourceLemmas.{chooses}
 use Rattle.fx_wire.specs.Exchanges.{seen}
 use Rattle.fx_engine.specs.Federation.{AreBegun, AreSent, row_questions, Gained, IsRefused, OfPatterns, OfSources, Tells}
+use Rattle.fx_engine.specs.Counts.{CountsRefusal}
 use Rattle.fx_engine.proofs.GainLemmas.{begun_all, begun_none, gained_as, gained_none}
 use Rattle.fx_engine.proofs.GatherLemmas.{after_itself, refused_later}
 use Rattle.fx_engine.proofs.QuestionLemmas.{of_patterns}
@@ -105,3 +106,9 @@ returns-clause-alone g c =
     (subst (λ (ms : List (List ℕ)). Gained (AreSent c.args.registry.now (row_questions (patterns q) ms)) s u) (c.as_slice-2.ensures ∙ c.in-Ok.ensures.chosen)
     (subst (λ (ps : List Pattern). Gained (AreSent c.args.registry.now (row_questions ps c.as_slice-2.result.now)) s u) (c.as_slice.ensures.value ∙ c.in-Ok-patterns.ensures)
     (subst (λ (es : List EndpointParts). Gained (AreSent es (row_questions c.as_slice.result.now c.as_slice-2.result.now)) s u) c.endpoints.ensures.value c.in-Ok-join_all.ensures.alone)))
+
+pub returns-in-Err-clause-counted : goal.returns-in-Err-clause-counted
+returns-in-Err-clause-counted g c =
+    λ alone.
+    let faults = g.W.Wire.faults in
+    subst (λ (es : List EndpointParts). CountsRefusal es (faults c.args.wire.now) (faults c.join_all.new.wire) c.in-Err.error) c.endpoints.ensures.value (c.in-Err.ensures.counted alone)

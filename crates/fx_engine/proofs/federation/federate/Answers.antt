@@ -11,6 +11,9 @@ use Rattle.fx_sources.specs.declared.probes.Probe.{Probe}
 use Rattle.fx_engine.specs.declared.errors.FedError.TheVariants.{Memory}
 use Rattle.fx_engine.proofs.QuestionLemmas.{of_missing}
 use Rattle.fx_engine.specs.Federation.{IsRefused, OfPatterns, OfProbes, OfQuery, AreBegun, AreSent, AsksSources, HasBegun, probe_questions, row_questions, Gained, Tells, TellsFits}
+use Rattle.fx_outside.proofs.CountLemmas.{stayed_both}
+use Rattle.fx_engine.specs.Counts.{CountsRefusal}
+use Rattle.fx_engine.proofs.CountLemmas.{counted_later}
 use Rattle.fx_engine.proofs.GainLemmas.{begun_none, gained_as, gained_none}
 use Rattle.fx_engine.proofs.GatherLemmas.{after_itself, after_both, refused_later, tells_same}
 use Rattle.fx_engine.proofs.LearnLemmas.{answers_tell, as_many_truths, gone_on, gone_through, missing_begun, kept_all, kept_so, learned_so, not_learned, tells_again}
@@ -203,3 +206,23 @@ returns-clause-begun g c =
     subst (λ (v : List Bool). Gained (AreSent es (row_questions (patterns q) (chosen q (length es) (told_by (missing q (length es) old) v ++ old)))) t u) c.as_slice-in-Ok-ask_all-2.ensures.value
     (subst (λ (v : List Probe). Gained (AreSent es (row_questions (patterns q) (chosen q (length es) (told_by v c.as_slice-in-Ok-ask_all-2.result.now ++ old)))) t u) probes c.in-Ok-answer_by.ensures.alone) in
     gone_through s t u es q old c.in-Ok.probes.items truths refl told c.in-Ok.ensures.probes alone
+
+pub returns-in-Err-clause-counted : goal.returns-in-Err-clause-counted
+returns-in-Err-clause-counted g c =
+    λ alone.
+    let faults = g.W.Wire.faults in
+    subst (λ (es : List EndpointParts). CountsRefusal es (faults c.args.wire.now) (faults c.ask_all.new.wire) c.in-Err.error) c.endpoints.ensures.value (c.in-Err.ensures.counted alone)
+
+pub returns-in-Err-answer_by-clause-counted : goal.returns-in-Err-answer_by-clause-counted
+returns-in-Err-answer_by-clause-counted g c =
+    λ alone.
+    let faults = g.W.Wire.faults in
+    counted_later c.args.registry.now (faults c.args.wire.now) (faults c.ask_all.new.wire) (faults c.answer_by.new.wire) c.in-Err-answer_by.error (c.in-Ok-ask_all.ensures.counted alone) (c.in-Err-answer_by.ensures.counted alone)
+
+pub returns-in-Ok-learn-clause-counted : goal.returns-in-Ok-learn-clause-counted
+returns-in-Ok-learn-clause-counted g c =
+    λ alone. stayed_both (g.W.Wire.faults c.args.wire.now) (g.W.Wire.faults c.ask_all.new.wire) (g.W.Wire.faults c.answer_by.new.wire) (c.in-Ok-ask_all.ensures.counted alone) (c.in-Ok-answer_by.ensures.counted alone)
+
+pub returns-clause-counted : goal.returns-clause-counted
+returns-clause-counted g c =
+    λ alone. stayed_both (g.W.Wire.faults c.args.wire.now) (g.W.Wire.faults c.ask_all.new.wire) (g.W.Wire.faults c.answer_by.new.wire) (c.in-Ok-ask_all.ensures.counted alone) (c.in-Ok-answer_by.ensures.counted alone)

@@ -9,6 +9,8 @@ use Rattle.fx_algebra.specs.Graphs.{union}
 use Rattle.fx_algebra.specs.Operators.{join}
 use Rattle.fx_algebra.specs.Solutions.{Bindings, SameRows}
 use Rattle.fx_wire.specs.Exchanges.{seen}
+use Rattle.fx_outside.proofs.CountLemmas.{stayed_both}
+use Rattle.fx_engine.proofs.CountLemmas.{counted_later}
 use Rattle.fx_engine.proofs.GatherLemmas.{after_both, refused_later, tells_same}
 use Rattle.fx_engine.specs.Federation.{Question, AreBegun, AreSent, OfSources, row_questions, source_questions}
 use Rattle.fx_engine.proofs.QuestionLemmas.{of_sources, stands_beside}
@@ -51,6 +53,7 @@ loop-at-preserved g c =
     let more : take (at + 1) ps ≡ take at ps ++ p ∷ [] = take_more ps at p c.loop-at-test.true ∙ ap (λ (x : Pattern). take at ps ++ x ∷ []) (sym c.index-patterns-at.is) in
     record {
       after = after_both (see c.args.wire.now) (see c.loop-at.wire) (see c.gather.new.wire) refl c.loop-at.invariant.after c.in-Ok-gather.ensures.after;
+      counted = λ alone. stayed_both (g.W.Wire.faults c.args.wire.now) (g.W.Wire.faults c.loop-at.wire) (g.W.Wire.faults c.gather.new.wire) (c.loop-at.invariant.counted alone) (c.in-Ok-gather.ensures.counted alone);
       alone =
           let ss = c.args.sources.now in
           let es = c.args.endpoints.now in
@@ -123,3 +126,13 @@ returns-in-Err-join_with-clause-alone g c =
     begun_patterns es ps ss (at + 1) (sym c.lacks_one.ensures ∙ c.if-lacks_one.false) (xs ++ ys)
     (begun_all es (questions_of (take (at + 1) (zip ps ss))) (xs ++ ys) (sent_pattern es ps ss at (at + 1) p ms stands (chosen ∙ ap Some (sym c.as_slice.ensures)) (omega arith) xs ys h m)))
     (see c.args.wire.now) (see c.loop-at.wire) (see c.gather.new.wire) refl c.loop-at.invariant.alone c.in-Ok-gather.ensures.alone
+
+pub returns-in-Err-clause-counted : goal.returns-in-Err-clause-counted
+returns-in-Err-clause-counted g c =
+    λ alone.
+    let faults = g.W.Wire.faults in
+    counted_later c.args.endpoints.now (faults c.args.wire.now) (faults c.loop-at.wire) (faults c.gather.new.wire) c.in-Err.error (c.loop-at.invariant.counted alone) (c.in-Err.ensures.counted alone)
+
+pub returns-in-Err-join_with-clause-counted : goal.returns-in-Err-join_with-clause-counted
+returns-in-Err-join_with-clause-counted g c =
+    λ alone. stayed_both (g.W.Wire.faults c.args.wire.now) (g.W.Wire.faults c.loop-at.wire) (g.W.Wire.faults c.gather.new.wire) (c.loop-at.invariant.counted alone) (c.in-Ok-gather.ensures.counted alone)

@@ -8,6 +8,9 @@ use Rattle.fx_algebra.specs.Units.{graph_of}
 use Rattle.std.proofs.lemmas.List.Elements.{Contains-get_or}
 use Rattle.fx_terms.proofs.SetLemmas.{contains_from}
 use Rattle.fx_engine.specs.Federation.{rows_of, OfSources, IsRefused, AreBegun, AreRowsOf, AreSent, Gained, IsPostedAtMost, IsPostedOnce, member_questions}
+use Rattle.fx_outside.proofs.CountLemmas.{stayed_both}
+use Rattle.fx_engine.specs.Counts.{CountsRefusal}
+use Rattle.fx_engine.proofs.CountLemmas.{counted_at, counted_later}
 use Rattle.fx_engine.proofs.GainLemmas.{begun_all, begun_members, begun_next, gained_both, sent_next}
 use Rattle.fx_engine.proofs.GatherLemmas.{after_both, refused_later, refused_at, more_rows}
 use Rattle.fx_engine.proofs.SourceLemmas.{graph_at, map_both}
@@ -41,6 +44,7 @@ loop-member-preserved g c =
     let more : take (k + 1) ms ≡ take k ms ++ at ∷ [] = take_more ms k 0 c.loop-member-test.true in
     record {
       after = after_both (see c.args.wire.now) (see c.loop-member.wire) (see c.ask.new.wire) refl c.loop-member.invariant.after c.in-Ok.ensures.after;
+      counted = λ alone. stayed_both (g.W.Wire.faults c.args.wire.now) (g.W.Wire.faults c.loop-member.wire) (g.W.Wire.faults c.ask.new.wire) (c.loop-member.invariant.counted alone) (c.in-Ok.ensures.counted alone);
       alone =
           λ p a.
           gained_both (AreSent es (member_questions p (take k ms))) (IsPostedOnce e c.args.text.now) (AreSent es (member_questions p (take (k + 1) ms)))
@@ -98,3 +102,19 @@ returns-in-Err-take_rows-clause-alone g c =
     (λ xs ys h m.
     begun_members es p ms (k + 1) (xs ++ ys) (begun_all es (member_questions p (take (k + 1) ms)) (xs ++ ys) (sent_next es (take k ms) (take (k + 1) ms) at e p c.args.columns.now c.args.text.now stands a more xs ys h m)))
     (see c.args.wire.now) (see c.loop-member.wire) (see c.ask.new.wire) refl (c.loop-member.invariant.alone p a) c.in-Ok.ensures.alone
+
+pub returns-in-Err-clause-counted : goal.returns-in-Err-clause-counted
+returns-in-Err-clause-counted g c =
+    λ alone.
+    let faults = g.W.Wire.faults in
+    let es = c.args.endpoints.now in
+    let at = get_or c.args.members.now c.loop-member.member-index 0 in
+    let e = c.index-endpoints-at.result in
+    let stands : slice_get es at ≡ Some e = search (rules, slice_get_read) in
+    subst (CountsRefusal es (faults c.args.wire.now) (faults c.ask.new.wire)) (sym c.of.ensures)
+    (counted_later es (faults c.args.wire.now) (faults c.loop-member.wire) (faults c.ask.new.wire) _ (c.loop-member.invariant.counted alone)
+    (counted_at es at e (faults c.loop-member.wire) (faults c.ask.new.wire) c.in-Err.error stands (c.in-Err.ensures.counted alone)))
+
+pub returns-in-Err-take_rows-clause-counted : goal.returns-in-Err-take_rows-clause-counted
+returns-in-Err-take_rows-clause-counted g c =
+    λ alone. stayed_both (g.W.Wire.faults c.args.wire.now) (g.W.Wire.faults c.loop-member.wire) (g.W.Wire.faults c.ask.new.wire) (c.loop-member.invariant.counted alone) (c.in-Ok.ensures.counted alone)

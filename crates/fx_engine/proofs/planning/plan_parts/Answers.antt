@@ -13,6 +13,7 @@ use Rattle.fx_engine.specs.declared.errors.FedError.TheVariants.{Memory}
 use Rattle.fx_engine.specs.Sections.{parts_by, sections}
 use Rattle.fx_engine.specs.Federation.{AreBegun, AreSent, AsksNothing, Gained, probe_questions, IsRefused, OfMissing, OfProbes, Tells, TellsFits}
 use Rattle.fx_engine.proofs.QuestionLemmas.{of_missing}
+use Rattle.fx_engine.specs.Counts.{CountsRefusal}
 use Rattle.fx_engine.proofs.GainLemmas.{begun_none, gained_none}
 use Rattle.fx_engine.proofs.GatherLemmas.{after_itself, refused_later}
 use Rattle.fx_engine.proofs.LearnLemmas.{answers_tell, as_many_truths, kept_all, kept_so, missing_begun, missing_sent, not_learned, tells_again}
@@ -175,3 +176,9 @@ returns-clause-begun g c =
     let ps = c.as_slice.result.now in
     missing_sent s t es c.args.query.now c.args.cache.now ps (c.as_slice.ensures.value ∙ c.in-Ok.ensures.probes)
     (subst (λ (v : List EndpointParts). Gained (AreSent v (probe_questions ps)) s t) c.endpoints.ensures.value c.in-Ok-ask_all.ensures.alone)
+
+pub returns-in-Err-clause-counted : goal.returns-in-Err-clause-counted
+returns-in-Err-clause-counted g c =
+    λ alone.
+    let faults = g.W.Wire.faults in
+    subst (λ (es : List EndpointParts). CountsRefusal es (faults c.args.wire.now) (faults c.ask_all.new.wire) c.in-Err.error) c.endpoints.ensures.value (c.in-Err.ensures.counted alone)

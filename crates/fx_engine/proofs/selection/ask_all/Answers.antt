@@ -6,6 +6,8 @@ use Rattle.std.specs.Prelude.{Contains}
 use Rattle.std.proofs.lemmas.List.Elements.{Contains-get_or}
 use Rattle.fx_engine.specs.Federation.{AreBegun, AreSent, Gained, OfProbes, TellsFits, probe_questions}
 use Rattle.fx_engine.proofs.QuestionLemmas.{of_probes}
+use Rattle.fx_outside.proofs.CountLemmas.{stayed_both}
+use Rattle.fx_engine.proofs.CountLemmas.{counted_later}
 use Rattle.fx_engine.proofs.GainLemmas.{begun_all, begun_probes, gained_both, probes_begun, probes_sent}
 use Rattle.fx_engine.proofs.GatherLemmas.{after_both, refused_later}
 use Rattle.fx_engine.proofs.LearnLemmas.{fits_more}
@@ -30,6 +32,7 @@ loop-probe-preserved g c =
     let pushed : c.push.new.self.items ≡ c.loop-probe.truths.items ++ c.in-Ok.truth ∷ [] = search rules in
     record {
       after = after_both (see c.args.wire.now) (see c.loop-probe.wire) (see c.ask_one.new.wire) refl c.loop-probe.invariant.after c.in-Ok.ensures.after;
+      counted = λ alone. stayed_both (g.W.Wire.faults c.args.wire.now) (g.W.Wire.faults c.loop-probe.wire) (g.W.Wire.faults c.ask_one.new.wire) (c.loop-probe.invariant.counted alone) (c.in-Ok.ensures.counted alone);
       sent =
           gained_both (AreSent es (probe_questions (take k ps))) (AreSent es (probe_questions (p ∷ []))) (AreSent es (probe_questions (take (k + 1) ps))) (probes_sent es (take k ps) (take (k + 1) ps) p more) (see c.args.wire.now) (see c.loop-probe.wire) (see c.ask_one.new.wire) refl
           c.loop-probe.invariant.sent c.in-Ok.ensures.alone;
@@ -69,3 +72,13 @@ returns-clause-alone g c =
     let ps = c.args.probes.now in
     let whole : take c.loop-probe.probe-index ps ≡ ps = take_all c.loop-probe.probe-index ps (omega arith) in
     subst (λ (v : List Probe). Gained (AreSent es (probe_questions v)) (see c.args.wire.now) (see c.loop-probe.wire)) whole c.loop-probe.invariant.sent
+
+pub returns-in-Err-clause-counted : goal.returns-in-Err-clause-counted
+returns-in-Err-clause-counted g c =
+    λ alone.
+    let faults = g.W.Wire.faults in
+    counted_later c.args.endpoints.now (faults c.args.wire.now) (faults c.loop-probe.wire) (faults c.ask_one.new.wire) c.in-Err.error (c.loop-probe.invariant.counted alone) (c.in-Err.ensures.counted alone)
+
+pub returns-then-is_err-clause-counted : goal.returns-then-is_err-clause-counted
+returns-then-is_err-clause-counted g c =
+    λ alone. stayed_both (g.W.Wire.faults c.args.wire.now) (g.W.Wire.faults c.loop-probe.wire) (g.W.Wire.faults c.ask_one.new.wire) (c.loop-probe.invariant.counted alone) (c.in-Ok.ensures.counted alone)

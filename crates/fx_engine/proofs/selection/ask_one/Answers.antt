@@ -4,6 +4,8 @@ use Rattle.std.proofs.lemmas.Option.{slice_get_read}
 use Rattle.fx_wire.specs.Exchanges.{seen}
 use Rattle.fx_sources.specs.Sources.{ask_text}
 use Rattle.fx_engine.specs.Federation.{fit_of, AreBegun, AreSent, IsPostedAtMost, IsPostedOnce, IsRefused, OfProbes, probe_questions}
+use Rattle.fx_engine.specs.Counts.{CountsRefusal}
+use Rattle.fx_engine.proofs.CountLemmas.{counted_at}
 use Rattle.fx_engine.proofs.GainLemmas.{gained_as, gained_none, probe_begun, probe_literal, probe_sent}
 use Rattle.fx_engine.proofs.GatherLemmas.{refused_at}
 use Rattle.fx_engine.proofs.QuestionLemmas.{this_probe}
@@ -43,3 +45,14 @@ returns-in-Err-clause-alone g c =
     let e = c.index-endpoints-at.result in
     let stands : slice_get es p.at ≡ Some e = search (rules, slice_get_read) in
     gained_as (IsPostedAtMost e (ask_text p.key.pattern)) (AreBegun es (probe_questions (p ∷ []))) (probe_begun es p e (sym c.is_literal.ensures ∙ c.if-is_literal.false) stands c.known_pattern.ensures) (see c.args.wire.now) (see c.ask_fit.new.wire) c.in-Err.ensures.alone
+
+pub returns-in-Err-clause-counted : goal.returns-in-Err-clause-counted
+returns-in-Err-clause-counted g c =
+    λ alone.
+    let faults = g.W.Wire.faults in
+    let es = c.args.endpoints.now in
+    let p = c.args.probe.now in
+    let e = c.index-endpoints-at.result in
+    let stands : slice_get es p.at ≡ Some e = search (rules, slice_get_read) in
+    subst (CountsRefusal es (faults c.args.wire.now) (faults c.ask_fit.new.wire)) (sym c.of.ensures)
+    (counted_at es p.at e (faults c.args.wire.now) (faults c.ask_fit.new.wire) c.in-Err.error stands (c.in-Err.ensures.counted alone))

@@ -1,16 +1,28 @@
-use Rattle.std.proofs.Common.{◌≡◌, ◌∙◌, ◌+◌, List, ℕ, take, None, Some, position, slice_get, option_map, ap, sym, refl, arith, subst}
+use Rattle.std.proofs.Common.{◌≡◌, ◌∙◌, ◌+◌, List, ℕ, take, None, Some, position, option_map, ap, sym, refl, arith, subst}
 use Rattle.std.proofs.lemmas.Option.{slice_get_read}
-use Rattle.fx_outside.specs.NameCounts.{IsPlaceOf}
+use Rattle.fx_outside.specs.Faults.{IsOneMoreAt}
+use Rattle.fx_outside.specs.NameCounts.{IsPlaceOf, count_of}
+use Rattle.fx_outside.proofs.CountLemmas.{one_more_at}
 use Rattle.fx_wire.specs.Scripts.{is_for}
 use Rattle.fx_wire.proofs.ScriptLemmas.{take_least, none_left, next_left, rest_left, others_left}
 use Rattle.fx_wire.proofs.script_wires.ScriptWireWire.exchange.Goals as goal
 
-pub returns-in_default-clause-failed : goal.returns-in_default-clause-failed
-returns-in_default-clause-failed c =
+pub returns-in_default-clause-counted : goal.returns-in_default-clause-counted
+returns-in_default-clause-counted c =
     λ _.
     let P : List ℕ → Type 0 = IsPlaceOf c.place.new.self c.in_ok-place.place in
     let address : c.text.result.now ≡ c.args.at.now.iri = c.text.ensures.value ∙ c.iri.ensures in
-    omega (arith, c.in_ok-place.ensures.same c.args.at.now.iri, c.raise.ensures.risen c.args.at.now.iri (subst P address c.in_ok-place.ensures.found))
+    let more : IsOneMoreAt c.args.at.now.iri (count_of c.args.self.now.faults) (count_of c.raise.new.self) =
+    one_more_at _ _ _ (λ other. omega (arith, c.in_ok-place.ensures.same other, c.raise.ensures.raised c.args.at.now.iri (subst P address c.in_ok-place.ensures.found) other)) in
+    more.here
+
+pub returns-in_default-clause-others : goal.returns-in_default-clause-others
+returns-in_default-clause-others c =
+    let P : List ℕ → Type 0 = IsPlaceOf c.place.new.self c.in_ok-place.place in
+    let address : c.text.result.now ≡ c.args.at.now.iri = c.text.ensures.value ∙ c.iri.ensures in
+    let more : IsOneMoreAt c.args.at.now.iri (count_of c.args.self.now.faults) (count_of c.raise.new.self) =
+    one_more_at _ _ _ (λ other. omega (arith, c.in_ok-place.ensures.same other, c.raise.ensures.raised c.args.at.now.iri (subst P address c.in_ok-place.ensures.found) other)) in
+    more.elsewhere
 
 pub returns-in_default-clause-kept : goal.returns-in_default-clause-kept
 returns-in_default-clause-kept c = λ other. omega (arith, c.in_ok-place.ensures.same other, c.raise.ensures.kept other)
