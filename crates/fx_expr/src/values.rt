@@ -17,7 +17,7 @@ use std::cmp::Ordering;
 
 // ---- values that may be the error
 
-pub(crate) fn truth_of(value: &Option<Term>) -> Option<bool>
+fn truth_of(value: &Option<Term>) -> Option<bool>
     ensures { result ≡ spec.truth_of value.now }
 {
     match value {
@@ -391,8 +391,7 @@ pub fn value(alloc: Global, expr: &Expr, solution: &Solution) -> Result<Option<T
         Expr::Negative(part) => negated(alloc, part.get(), solution),
         Expr::Compare { op, left, right } => {
             let left = value(alloc, left.get(), solution)?;
-            let right = value(alloc, right.get(), solution)?;
-            truth_term(alloc, both_compared(*op, &left, &right))
+            compared_with(alloc, *op, left, right.get(), solution)
         }
         Expr::Among {
             negated,
@@ -400,12 +399,11 @@ pub fn value(alloc: Global, expr: &Expr, solution: &Solution) -> Result<Option<T
             list,
         } => {
             let item = value(alloc, item.get(), solution)?;
-            let truth = among(alloc, &item, list.as_slice(), solution)?;
-            truth_term(alloc, negated_by(*negated, truth))
+            found_among(alloc, *negated, item, list.as_slice(), solution)
         }
         Expr::Sum { first, rest } => {
-            let first = value(alloc, first.get(), solution)?;
-            integer_term(alloc, sum(alloc, &first, rest.as_slice(), solution)?)
+            let first = integer_of(alloc, first.get(), solution)?;
+            integer_term(alloc, sum(alloc, first, rest.as_slice(), solution)?)
         }
         Expr::Product(parts) => { integer_term(alloc, product(alloc, parts.as_slice(), solution)?) }
         Expr::Call { function, args } => call(alloc, *function, args.as_slice(), solution),
@@ -428,13 +426,33 @@ fn copied(term: &Term) -> Result<Option<Term>, Memory>
     Ok(Some(term.copy()?))
 }
 
+// The truth of an expression's value.
+#[cycle(value)]
+pub(crate) fn truth_in(
+    alloc: Global,
+    expr: &Expr,
+    solution: &Solution,
+) -> Result<Option<bool>, Memory>
+    ensures { IfOk result (λ truth. truth ≡ spec.truth_of (spec.value expr.now solution.now)) }
+{
+    Ok(truth_of(&value(alloc, expr, solution)?))
+}
+
+// The integer that an expression's value is.
+#[cycle(value)]
+fn integer_of(alloc: Global, expr: &Expr, solution: &Solution) -> Result<Option<i64>, Memory>
+    ensures { IfOk result (λ number. number ≡ spec.integer_in (spec.value expr.now solution.now)) }
+{
+    Ok(integer_in(&value(alloc, expr, solution)?))
+}
+
 // The value of `!` on a part.
 #[cycle(value)]
 fn opposite(alloc: Global, part: &Expr, solution: &Solution) -> Result<Option<Term>, Memory>
     ensures { IfOk result (λ v. v ≡ spec.value (Expr.Not part.now) solution.now) }
 {
-    match truth_of(&value(alloc, part, solution)?) {
-        Some(truth) => Ok(Some(boolean(alloc, !truth)?)),
+    match truth_in(alloc, part, solution)? {
+        Some(truth) => truth_term(alloc, Some(!truth)),
         None => Ok(None),
     }
 }
@@ -444,7 +462,7 @@ fn opposite(alloc: Global, part: &Expr, solution: &Solution) -> Result<Option<Te
 fn positive(alloc: Global, part: &Expr, solution: &Solution) -> Result<Option<Term>, Memory>
     ensures { IfOk result (λ v. v ≡ spec.value (Expr.Positive part.now) solution.now) }
 {
-    integer_term(alloc, integer_in(&value(alloc, part, solution)?))
+    integer_term(alloc, integer_of(alloc, part, solution)?)
 }
 
 // The value of `-` on a part.
@@ -452,10 +470,40 @@ fn positive(alloc: Global, part: &Expr, solution: &Solution) -> Result<Option<Te
 fn negated(alloc: Global, part: &Expr, solution: &Solution) -> Result<Option<Term>, Memory>
     ensures { IfOk result (λ v. v ≡ spec.value (Expr.Negative part.now) solution.now) }
 {
-    match integer_in(&value(alloc, part, solution)?) {
+    match integer_of(alloc, part, solution)? {
         Some(number) => integer_term(alloc, negative(number)),
         None => Ok(None),
     }
+}
+
+// The value of the comparison of a value with a part.
+#[cycle(value)]
+fn compared_with(
+    alloc: Global,
+    op: Compare,
+    left: Option<Term>,
+    right: &Expr,
+    solution: &Solution,
+) -> Result<Option<Term>, Memory>
+    ensures { IfOk result (λ v. v ≡ option_map spec.boolean (spec.on_both (spec.compared op) left (spec.value right.now solution.now))) }
+{
+    let right = value(alloc, right, solution)?;
+    truth_term(alloc, both_compared(op, &left, &right))
+}
+
+// The value of `IN`, or of `NOT IN`, on a value.
+#[cycle(value)]
+fn found_among(
+    alloc: Global,
+    negated: bool,
+    item: Option<Term>,
+    list: &[Expr],
+    solution: &Solution,
+) -> Result<Option<Term>, Memory>
+    ensures { IfOk result (λ v. v ≡ option_map spec.boolean (option_map (spec.negated_by negated) (spec.among item (map (λ e. spec.value e solution.now) list.now)))) }
+{
+    let truth = among(alloc, &item, list, solution)?;
+    truth_term(alloc, negated_by(negated, truth))
 }
 
 fn negated_by(negated: bool, truth: Option<bool>) -> Option<bool>
@@ -473,7 +521,7 @@ fn any_of(alloc: Global, parts: &[Expr], solution: &Solution) -> Result<Option<b
 {
     let mut unsure = false;
     for part in parts {
-        match truth_of(&value(alloc, part, solution)?) {
+        match truth_in(alloc, part, solution)? {
             Some(true) => return Ok(Some(true)),
             Some(false) => {}
             None => unsure = true,
@@ -488,7 +536,7 @@ fn all_of(alloc: Global, parts: &[Expr], solution: &Solution) -> Result<Option<b
 {
     let mut uncertain = false;
     for part in parts {
-        match truth_of(&value(alloc, part, solution)?) {
+        match truth_in(alloc, part, solution)? {
             Some(false) => return Ok(Some(false)),
             Some(true) => {}
             None => uncertain = true,
@@ -508,7 +556,8 @@ fn among(
 {
     let mut undecided = false;
     for part in list {
-        match both_equal(item, &value(alloc, part, solution)?) {
+        let equal = both_equal(item, &value(alloc, part, solution)?);
+        match equal {
             Some(true) => return Ok(Some(true)),
             Some(false) => {}
             None => undecided = true,
@@ -520,19 +569,19 @@ fn among(
 #[cycle(value)]
 fn sum(
     alloc: Global,
-    first: &Option<Term>,
+    first: Option<i64>,
     rest: &[(Sign, Expr)],
     solution: &Solution,
 ) -> Result<Option<i64>, Memory>
-    ensures { IfOk result (λ v. v ≡ spec.sum first.now (map (λ p. (p.0, spec.value p.1 solution.now)) rest.now)) }
+    ensures { IfOk result (λ v. v ≡ option_and_then (λ m. spec.sum_from m (map (λ p. (p.0, spec.value p.1 solution.now)) rest.now)) first) }
 {
-    let Some(first) = integer_in(first) else {
+    let Some(first) = first else {
         return Ok(None);
     };
     let mut total = first;
     for (sign, part) in rest {
-        let value = value(alloc, part, solution)?;
-        match with_part(*sign, total, &value) {
+        let next = with_part(*sign, total, &value(alloc, part, solution)?);
+        match next {
             Some(next) => total = next,
             None => return Ok(None),
         }
@@ -546,8 +595,8 @@ fn product(alloc: Global, parts: &[Expr], solution: &Solution) -> Result<Option<
 {
     let mut total = 1;
     for part in parts {
-        let value = value(alloc, part, solution)?;
-        match with_factor(total, &value) {
+        let next = with_factor(total, &value(alloc, part, solution)?);
+        match next {
             Some(next) => total = next,
             None => return Ok(None),
         }
@@ -590,8 +639,8 @@ fn bound(alloc: Global, args: &[Expr], solution: &Solution) -> Result<Option<Ter
 {
     match args {
         [arg] => {
-            let found = value(alloc, arg, solution)?;
-            Ok(Some(boolean(alloc, found.is_some())?))
+            let is_bound = value(alloc, arg, solution)?.is_some();
+            truth_term(alloc, Some(is_bound))
         }
         _ => Ok(None),
     }
@@ -614,7 +663,7 @@ fn chosen(alloc: Global, args: &[Expr], solution: &Solution) -> Result<Option<Te
     ensures { IfOk result (λ v. v ≡ spec.chosen (map (λ e. spec.value e solution.now) args.now)) }
 {
     match args {
-        [test, yes, no] => match truth_of(&value(alloc, test, solution)?) {
+        [test, yes, no] => match truth_in(alloc, test, solution)? {
             Some(true) => value(alloc, yes, solution),
             Some(false) => value(alloc, no, solution),
             None => Ok(None),
@@ -653,9 +702,23 @@ fn two(
     match args {
         [first, second] => {
             let first = value(alloc, first, solution)?;
-            let second = value(alloc, second, solution)?;
-            truth_term(alloc, both_tested(function, &first, &second))
+            tested_with(alloc, function, first, second, solution)
         }
         _ => Ok(None),
     }
+}
+
+// The value of a function of a value and a part.
+#[cycle(value)]
+fn tested_with(
+    alloc: Global,
+    function: Function,
+    left: Option<Term>,
+    right: &Expr,
+    solution: &Solution,
+) -> Result<Option<Term>, Memory>
+    ensures { IfOk result (λ v. v ≡ option_map spec.boolean (spec.on_both (spec.of_two function) left (spec.value right.now solution.now))) }
+{
+    let right = value(alloc, right, solution)?;
+    truth_term(alloc, both_tested(function, &left, &right))
 }

@@ -1,8 +1,9 @@
 //! What literals are worth.
-ghost use Rattle.std.specs.Prelude.{◌≡◌, option_map};
+ghost use Rattle.std.specs.Prelude.{◌≡◌, ◌||◌, bytes_eq, codes, option_map};
 ghost use Rattle.std.specs.List.{list_all};
 ghost use Rattle.std.specs.Str.Parse.{without_leading_sign};
 ghost use Rattle.fx_terms.specs.Iris.{is_digit};
+ghost use Rattle.fx_terms.specs.Literals.{lang_string, xsd_string};
 ghost use Rattle.fx_algebra.specs.Worths as spec;
 
 use fx_algebra::{Kind, Worth};
@@ -95,12 +96,11 @@ pub(crate) fn kind_of(datatype: &Iri) -> Kind
     if is_integer_type(datatype) {
         return Kind::Integer;
     }
-    let text = datatype.text();
-    if text == XSD_BOOLEAN {
+    if is_boolean_type(datatype) {
         Kind::Boolean
-    } else if text == XSD_STRING {
+    } else if is_string_type(datatype) {
         Kind::Text
-    } else if text == LANG_STRING {
+    } else if is_tagged_type(datatype) {
         Kind::Tagged
     } else {
         Kind::Other
@@ -113,6 +113,24 @@ fn is_integer_type(datatype: &Iri) -> bool
     ensures { result ≡ spec.is_integer_type datatype.now }
 {
     datatype.text() == XSD_INTEGER
+}
+
+fn is_boolean_type(datatype: &Iri) -> bool
+    ensures { result ≡ bytes_eq datatype.now spec.xsd_boolean }
+{
+    datatype.text() == XSD_BOOLEAN
+}
+
+fn is_string_type(datatype: &Iri) -> bool
+    ensures { result ≡ bytes_eq datatype.now xsd_string }
+{
+    datatype.text() == XSD_STRING
+}
+
+fn is_tagged_type(datatype: &Iri) -> bool
+    ensures { result ≡ bytes_eq datatype.now lang_string }
+{
+    datatype.text() == LANG_STRING
 }
 
 // The integer that a form writes, where it is in range.
@@ -157,11 +175,23 @@ fn has_digits(digits: &[u8]) -> bool
 fn read_boolean(form: &str) -> Option<bool>
     ensures { result ≡ spec.read_boolean form.now }
 {
-    if form == "true" || form == "1" {
+    if writes_true(form) {
         Some(true)
-    } else if form == "false" || form == "0" {
+    } else if writes_false(form) {
         Some(false)
     } else {
         None
     }
+}
+
+fn writes_true(form: &str) -> bool
+    ensures { result ≡ (bytes_eq form.now (codes "true") || bytes_eq form.now (codes "1")) }
+{
+    form == "true" || form == "1"
+}
+
+fn writes_false(form: &str) -> bool
+    ensures { result ≡ (bytes_eq form.now (codes "false") || bytes_eq form.now (codes "0")) }
+{
+    form == "false" || form == "0"
 }

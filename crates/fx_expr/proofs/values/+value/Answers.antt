@@ -1,5 +1,6 @@
-use Rattle.std.proofs.Common.{◌≡◌, ◌∙◌, sym, ap, subst, List, map, Option, option_map, refl}
-use Rattle.std.specs.Prelude.{IfOk}
+use Rattle.std.proofs.Common.{◌≡◌, ◌∙◌, sym, ap, subst, List, map, Option, option_map}
+use Rattle.std.specs.Prelude.{IfOk, option_and_then}
+use Rattle.fx_algebra.specs.declared.expressions.Expr.{Expr}
 use Rattle.fx_terms.specs.declared.terms.Term.{Term}
 use Rattle.fx_algebra.specs.Values as spec
 use Rattle.fx_expr.proofs.Equations.{value_or, value_and, value_among, value_sum, value_product}
@@ -17,17 +18,17 @@ value-returns-in_ok-all_of-in-And t c =
     let same = ap (option_map spec.boolean) (c.in_ok-all_of-in-And.ensures ∙ ap (λ ps. spec.all_of (map spec.truth_of (map (λ e. spec.value e s) ps))) c.as_slice-in-And.ensures) ∙ sym (value_and c.in-And.parts s) in
     rw c.in-And.is (subst (λ (x : Option Term). IfOk c.truth_term-in-And.result (λ v. v ≡ x)) same c.truth_term-in-And.ensures)
 
-pub value-returns-in_ok-truth-in-Among : goal.value-returns-in_ok-truth-in-Among
-value-returns-in_ok-truth-in-Among t c =
+pub value-returns-in_ok-item-in-Among : goal.value-returns-in_ok-item-in-Among
+value-returns-in_ok-item-in-Among t c =
     let s = c.args.solution.now in
-    let found = c.in_ok-truth-in-Among.ensures ∙ ap (λ v. spec.among v (map (λ e. spec.value e s) c.as_slice-in-Among.result.now)) (c.in_ok-item-in-Among.ensures ∙ ap (λ e. spec.value e s) c.get-in-Among.ensures) ∙ ap (λ ps. spec.among (spec.value c.in-Among.item s) (map (λ e. spec.value e s) ps)) c.as_slice-in-Among.ensures in
-    let same = ap (option_map spec.boolean) (c.negated_by.ensures ∙ ap (option_map (spec.negated_by c.in-Among.negated)) found) ∙ sym (value_among c.in-Among.negated c.in-Among.item c.in-Among.list s) in
-    rw c.in-Among.is (subst (λ (x : Option Term). IfOk c.truth_term-in-Among.result (λ v. v ≡ x)) same c.truth_term-in-Among.ensures)
+    let told = λ (v : Option Term) (ps : List Expr). option_map spec.boolean (option_map (spec.negated_by c.in-Among.negated) (spec.among v (map (λ e. spec.value e s) ps))) in
+    let same = ap (λ v. told v c.as_slice-in-Among.result.now) (c.in_ok-item-in-Among.ensures ∙ ap (λ e. spec.value e s) c.get-in-Among.ensures) ∙ ap (told (spec.value c.in-Among.item s)) c.as_slice-in-Among.ensures ∙ sym (value_among c.in-Among.negated c.in-Among.item c.in-Among.list s) in
+    rw c.in-Among.is (subst (λ (x : Option Term). IfOk c.found_among.result (λ v. v ≡ x)) same c.found_among.ensures)
 
 pub value-returns-in_ok-sum-in-Sum : goal.value-returns-in_ok-sum-in-Sum
 value-returns-in_ok-sum-in-Sum t c =
     let s = c.args.solution.now in
-    let found = c.in_ok-sum-in-Sum.ensures ∙ ap (λ v. spec.sum v (map (λ p. (p.0, spec.value p.1 s)) c.as_slice-in-Sum.result.now)) (c.in_ok-first-in-Sum.ensures ∙ ap (λ e. spec.value e s) c.get-in-Sum.ensures) ∙ ap (λ ps. spec.sum (spec.value c.in-Sum.first s) (map (λ p. (p.0, spec.value p.1 s)) ps)) c.as_slice-in-Sum.ensures in
+    let found = c.in_ok-sum-in-Sum.ensures ∙ ap (option_and_then (λ m. spec.sum_from m (map (λ p. (p.0, spec.value p.1 s)) c.as_slice-in-Sum.result.now))) (c.in_ok-first-in-Sum.ensures ∙ ap (λ e. spec.integer_in (spec.value e s)) c.get-in-Sum.ensures) ∙ ap (λ ps. spec.sum (spec.value c.in-Sum.first s) (map (λ p. (p.0, spec.value p.1 s)) ps)) c.as_slice-in-Sum.ensures in
     let same = ap (option_map spec.integer) found ∙ sym (value_sum c.in-Sum.first c.in-Sum.rest s) in
     rw c.in-Sum.is (subst (λ (x : Option Term). IfOk c.integer_term.result (λ v. v ≡ x)) same c.integer_term.ensures)
 
