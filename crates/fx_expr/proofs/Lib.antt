@@ -1,3 +1,4 @@
 pub mod Equations
+pub mod LoopLemmas
 pub mod NumberLemmas
 pub mod WordLemmas

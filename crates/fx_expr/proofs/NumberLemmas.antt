@@ -1,5 +1,5 @@
 -- What `parse` and the checked operators of `i64` say, in the words of the definitions.
-use Rattle.std.proofs.Common.{◌≡◌, ◌∙◌, refl, ap, sym, subst, ℕ, ◌<◌, ◌≤◌, ◌^◌, ◌&&◌, not, nat_lt, nat_eq, Bool, true, false, List, [], ◌∷◌, length, arith}
+use Rattle.std.proofs.Common.{◌≡◌, ◌∙◌, refl, ap, ℕ, ◌<◌, ◌^◌, not, nat_eq, Bool, true, false, List, [], ◌∷◌, length, arith}
 use Rattle.std.specs.Prelude.{ℤ, pos, negsuc, Option, Some, None, Result, Ok, Err, FitsSigned, option_and_then, if◌then◌else◌}
 use Rattle.std.specs.Int.{w64}
 use Rattle.std.specs.Option.{SomeIff}
@@ -9,7 +9,7 @@ use Rattle.std.specs.Str.Parse.{AllDigits, IsNumeral, ParsesSigned, without_lead
 use Rattle.std.specs.Char.{digit_value}
 use Rattle.std.proofs.lemmas.Bool.{ltb-true, lt-ltb, ne_eqb, and_parts, and_from}
 use Rattle.fx_terms.specs.Iris.{is_digit}
-use Rattle.fx_algebra.specs.Worths.{is_in_range, if_in_range, are_digits, is_integer_form, written_integer, read_integer}
+use Rattle.fx_algebra.specs.Worths.{is_in_range, if_in_range, are_digits, is_integer_form, read_integer}
 
 -- ---- the range
 
