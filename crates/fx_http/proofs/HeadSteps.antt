@@ -1,5 +1,5 @@
 -- A head of a request ends in an empty line behind a line, so no head is missed by looking only there.
-use Rattle.std.proofs.Common.{◌≡◌, ◌∙◌, ℕ, ◌-◌, ◌<◌, ◌≤◌, Bool, true, false, List, [], ◌∷◌, ◌++◌, length, drop, refl, sym, ap, subst, arith, tests, append_assoc, inl, inr, ◌||◌, ◌&&◌, Option, Some, option_to_list}
+use Rattle.std.proofs.Common.{◌≡◌, ◌∙◌, ℕ, ◌-◌, ◌<◌, ◌≤◌, Bool, true, false, List, [], ◌∷◌, ◌++◌, length, drop, refl, sym, ap, subst, arith, tests, append_assoc, inl, inr, ◌||◌, ◌&&◌, Option, None, Some, option_to_list}
 use Rattle.std.specs.Prelude.{◌⊎◌, flat_map, nat_eq, Result, Ok, Err, OnErr}
 use Rattle.std.specs.List.{list_any, ends_with}
 use Rattle.std.specs.Cmp.Lexicographic.{pointwise}
@@ -188,6 +188,9 @@ pub came_more : (input bytes left after : List ℕ) (o : Option ℕ) (b : ℕ) �
 came_more input bytes left after o b e is more =
     let one : left ≡ b ∷ after = more ∙ ap (λ (p : Option ℕ). option_to_list p ++ after) is in
     e ∙ ap (λ (t : List ℕ). bytes ++ t) one ∙ sym (append_assoc bytes (b ∷ []) after)
+
+pub came_none : (input bytes left after : List ℕ) (o : Option ℕ) → input ≡ bytes ++ left → o ≡ None → left ≡ option_to_list o ++ after → input ≡ bytes ++ after
+came_none input bytes left after o e is more = e ∙ ap (λ (t : List ℕ). bytes ++ t) (more ∙ ap (λ (p : Option ℕ). option_to_list p ++ after) is)
 
 -- ---- no head
 

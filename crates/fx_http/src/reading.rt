@@ -1,5 +1,5 @@
 //! Reading from sources.
-ghost use Rattle.std.specs.Prelude.{◌≡◌, ◌≢◌, ◌≤◌, ◌++◌, ◌⊎◌, [], length, drop, take, IsTrue, IsErr, IfOk, IfErr, OnErr, option_to_list};
+ghost use Rattle.std.specs.Prelude.{◌≡◌, ◌≢◌, ◌<◌, ◌≤◌, ◌++◌, ◌⊎◌, [], length, drop, take, IsTrue, IsErr, IfOk, IfErr, OnErr, option_to_list};
 ghost use Rattle.fx_outside.specs.Faults.{HasRisen};
 ghost use Rattle.fx_http.specs.Answers.{IsRestWithin};
 
@@ -43,7 +43,7 @@ pub fn read_up_to<S: Source>(
     let mut bytes = Vec::new(alloc);
     let mut buffer = [0; PIECE];
     while bytes.len() < most {
-        let room = (most - bytes.len()).min(PIECE);
+        let room = room_for(most - bytes.len());
         let piece = &mut buffer[..room];
         let count = source.read(piece)?;
         if count == 0 {
@@ -52,4 +52,13 @@ pub fn read_up_to<S: Source>(
         bytes.extend_from_slice(&piece[..count])?;
     }
     Ok(bytes)
+}
+
+// How many of the bytes that are missing one read may bring.
+fn room_for(missing: usize) -> usize
+    ensures some { 0 < missing → 0 < result }
+    ensures needed { result ≤ missing }
+    ensures few { result ≤ 4096 }
+{
+    missing.min(PIECE)
 }
