@@ -69,6 +69,14 @@ unless : (b : Bool) → not b ≡ true → b ≡ false
 unless true h = cc
 unless false h = refl
 
+pub stands_so : (b : Bool) → false ≡ not b → b ≡ true
+stands_so true h = refl
+stands_so false h = cc
+
+pub absent_so : (b : Bool) → true ≡ not b → b ≡ false
+absent_so true h = cc
+absent_so false h = refl
+
 pub is_among-append : (xs ys : List (List ℕ)) (name : List ℕ) → is_among (xs ++ ys) name ≡ (is_among xs name || is_among ys name)
 is_among-append [] ys name = refl
 is_among-append (x ∷ xs) ys name = ap (λ b. is_eq (text_cmp x name) || b) (is_among-append xs ys name) ∙ sym (or_assoc (is_eq (text_cmp x name)) (is_among xs name) (is_among ys name))

@@ -1,15 +1,16 @@
 //! The columns of a table that is read.
-ghost use Rattle.std.specs.Prelude.{◌≡◌, Some, None, if◌then◌else◌};
+ghost use Rattle.std.specs.Prelude.{◌≡◌, ◌++◌, ◌∷◌, [], not, IfOk, IsTrue, Some, None, if◌then◌else◌};
 ghost use Rattle.std.specs.Option.{option_copied, ok_or};
 ghost use Rattle.serde_json.specs.View.{view, items_view};
 ghost use Rattle.fx_algebra.specs.Scopes.{is_among};
 ghost use Rattle.fx_results.specs.Answers.{AnswersResults, AnswersAs};
+ghost use Rattle.fx_results.specs.Columns.{IsIndex};
 ghost use Rattle.fx_results.specs.Reading as spec;
 ghost use Rattle.fx_results.specs.declared.faults.ResultsError.TheVariants as error;
 ghost use Rattle.fx_results.specs.declared.faults.ShapeFault.TheVariants as fault;
 
 use crate::faults::{ResultsError, ShapeFault};
-use fx_terms::{Name, NameError};
+use fx_terms::{Memory, Name, NameError};
 use indexmap::IndexMap;
 use serde_json::Value;
 use std::alloc::Global;
@@ -42,12 +43,10 @@ impl Columns {
         let mut index = IndexMap::new(alloc);
         for item in items {
             let name = name_of(alloc, item)?;
-            let text = String::from_str(alloc, name.text())?;
-            let stood = index.insert(text, name.copy()?)?.is_some();
-            if stood {
+            let is_new = add(alloc, &mut names, &mut index, name)?;
+            if !is_new {
                 return Err(no_columns());
             }
-            names.push(name)?;
         }
         Ok(Columns { names, index })
     }
@@ -66,6 +65,27 @@ impl Columns {
         let Columns { names, index: _ } = self;
         names
     }
+}
+
+// Puts a name into the index, and behind the others where it is new.
+fn add(
+    alloc: Global,
+    names: &mut Vec<Name>,
+    index: &mut IndexMap<String, Name>,
+    name: Name,
+) -> Result<bool, Memory>
+    requires { IsIndex index.old.entries names.old.items }
+    ensures new { IfOk result (λ is_new. is_new ≡ not (is_among names.old.items name)) }
+    ensures put { IfOk result (λ is_new. IsTrue is_new → names.new.items ≡ names.old.items ++ name ∷ []) }
+    ensures found { IfOk result (λ is_new. IsTrue is_new → IsIndex index.new.entries names.new.items) }
+{
+    let text = String::from_str(alloc, name.text())?;
+    let stood = index.insert(text, name.copy()?)?.is_some();
+    if stood {
+        return Ok(false);
+    }
+    names.push(name)?;
+    Ok(true)
 }
 
 fn no_columns() -> ResultsError

@@ -1,9 +1,10 @@
 //! The terms of a row that is read.
-ghost use Rattle.std.specs.Prelude.{◌≡◌, Some, None, option_map};
+ghost use Rattle.std.specs.Prelude.{◌≡◌, Some, None, bytes_eq, codes, option_map};
 ghost use Rattle.std.specs.Option.{ok_or};
 ghost use Rattle.serde_json.specs.Find.{as_str};
 ghost use Rattle.serde_json.specs.View.{view};
 ghost use Rattle.fx_terms.specs.Literals.{lang_string};
+ghost use Rattle.fx_terms.specs.declared.terms.Term.TheVariants as term;
 ghost use Rattle.fx_results.specs.Answers.{AnswersResults};
 ghost use Rattle.fx_results.specs.Reading as spec;
 ghost use Rattle.fx_results.specs.declared.faults.ResultsError.TheVariants as error;
@@ -31,15 +32,51 @@ pub(crate) fn term_of(alloc: Global, value: &Value) -> Result<Term, ResultsError
 fn known_term(alloc: Global, kind: &str, value: &Value) -> Result<Term, ResultsError>
     ensures { AnswersResults result (ok_or (spec.known_term kind.now (view value.now)) error.BadTerm) }
 {
-    if kind == "uri" {
-        Ok(Term::Iri(iri_in(alloc, value)?))
-    } else if kind == "literal" {
-        Ok(Term::Literal(literal_in(alloc, value)?))
-    } else if kind == "typed-literal" {
-        Ok(Term::Literal(typed_in(alloc, value)?))
+    if is_uri(kind) {
+        iri_term(alloc, value)
+    } else if is_literal(kind) {
+        literal_term(alloc, value)
+    } else if is_typed_literal(kind) {
+        typed_term(alloc, value)
     } else {
         Err(ResultsError::BadTerm)
     }
+}
+
+fn is_uri(kind: &str) -> bool
+    ensures { result ≡ bytes_eq kind.now (codes "uri") }
+{
+    kind == "uri"
+}
+
+fn is_literal(kind: &str) -> bool
+    ensures { result ≡ bytes_eq kind.now (codes "literal") }
+{
+    kind == "literal"
+}
+
+fn is_typed_literal(kind: &str) -> bool
+    ensures { result ≡ bytes_eq kind.now (codes "typed-literal") }
+{
+    kind == "typed-literal"
+}
+
+fn iri_term(alloc: Global, value: &Value) -> Result<Term, ResultsError>
+    ensures { AnswersResults result (ok_or (option_map term.Iri (spec.iri_in (view value.now))) error.BadTerm) }
+{
+    Ok(Term::Iri(iri_in(alloc, value)?))
+}
+
+fn literal_term(alloc: Global, value: &Value) -> Result<Term, ResultsError>
+    ensures { AnswersResults result (ok_or (option_map term.Literal (spec.literal_in (view value.now))) error.BadTerm) }
+{
+    Ok(Term::Literal(literal_in(alloc, value)?))
+}
+
+fn typed_term(alloc: Global, value: &Value) -> Result<Term, ResultsError>
+    ensures { AnswersResults result (ok_or (option_map term.Literal (spec.typed_in (view value.now))) error.BadTerm) }
+{
+    Ok(Term::Literal(typed_in(alloc, value)?))
 }
 
 fn iri_in(alloc: Global, value: &Value) -> Result<Iri, ResultsError>
