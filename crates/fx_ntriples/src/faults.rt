@@ -22,7 +22,7 @@ pub enum NtError {
 }
 
 /// What is wrong at a place of a line.
-#[derive(Clone, Copy, Debug, PartialEq, Eq)]
+#[derive(Clone, Copy)]
 pub enum Fault {
     Bad,
     Blank,
@@ -30,7 +30,7 @@ pub enum Fault {
 }
 
 /// Why a line's reading stops.
-#[derive(Clone, Copy, Debug, PartialEq, Eq)]
+#[derive(Clone, Copy)]
 pub enum Stop {
     /// A fault, so many bytes behind the beginning of the line.
     At(Fault, usize),

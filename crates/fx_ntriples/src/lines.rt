@@ -1,5 +1,5 @@
 //! A line: nothing, or a triple.
-ghost use Rattle.std.specs.Prelude.{◌≡◌, ◌+◌, ◌<◌, ◌≤◌, length, take, drop, true, false};
+ghost use Rattle.std.specs.Prelude.{◌≡◌, ◌+◌, ◌<◌, ◌≤◌, Some, length, take, drop, true, false};
 ghost use Rattle.std.specs.Str.{IsCharBoundary, IsUtf8};
 ghost use Rattle.fx_ntriples.specs.Reading as spec;
 ghost use Rattle.fx_ntriples.specs.Answers.{Reads};
@@ -26,6 +26,15 @@ pub fn line(
         return Ok((None, bytes.len()));
     }
     let (triple, at) = triple(alloc, line, at, last)?;
+    ended(line, at, triple)
+}
+
+// A triple, where only blanks and maybe a comment stand behind it.
+fn ended(line: &str, at: usize, triple: Triple) -> Result<(Option<Triple>, usize), Stop>
+    requires { at ≤ length line.now }
+    ensures { Reads line.now result (spec.ended (Some triple) (spec.unblanked (drop at line.now))) }
+{
+    let bytes = line.as_bytes();
     let at = blanks_end(bytes, at);
     if at == bytes.len() || bytes[at] == b'#' {
         return Ok((Some(triple), bytes.len()));
@@ -61,15 +70,24 @@ fn triple(
     let (predicate, at) = iri(alloc, line, at, last.map(|t| &t.predicate))?;
     let at = blanks_end(bytes, at);
     let (object, at) = object(alloc, line, at)?;
-    let at = blanks_end(bytes, at);
-    if at == bytes.len() || bytes[at] != b'.' {
-        return Err(Stop::At(Fault::Bad, at));
-    }
     let triple = Triple {
         subject,
         predicate,
         object,
     };
+    dotted(line, at, triple)
+}
+
+// A triple, where a dot stands behind it.
+fn dotted(line: &str, at: usize, triple: Triple) -> Result<(Triple, usize), Stop>
+    requires { at ≤ length line.now }
+    ensures { Reads line.now result (spec.dotted triple (spec.unblanked (drop at line.now))) }
+{
+    let bytes = line.as_bytes();
+    let at = blanks_end(bytes, at);
+    if at == bytes.len() || bytes[at] != b'.' {
+        return Err(Stop::At(Fault::Bad, at));
+    }
     Ok((triple, at + 1))
 }
 

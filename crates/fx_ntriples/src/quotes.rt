@@ -12,7 +12,7 @@ use crate::faults::{Fault, Stop};
 use std::alloc::Global;
 
 /// Between which signs a text stands.
-#[derive(Clone, Copy, Debug, PartialEq, Eq)]
+#[derive(Clone, Copy)]
 pub enum Quote {
     /// `<` and `>`.
     Iri,
@@ -21,7 +21,7 @@ pub enum Quote {
 }
 
 /// A text as it stands in a line, or as its escapes spell it.
-#[derive(Debug, Drop)]
+#[derive(Drop)]
 pub enum Spelled<'a> {
     Slice(&'a str),
     Decoded(String),

@@ -104,7 +104,7 @@ fn graph(alloc: Global, text: &str) -> Result<Graph, NtError>
 }
 
 /// Why the reading of lines stops.
-#[derive(Clone, Copy, Debug, PartialEq, Eq)]
+#[derive(Clone, Copy)]
 pub enum Halt {
     /// A fault, so many bytes behind the place where its line begins.
     At {
