@@ -345,11 +345,9 @@ fn added(
 ) -> Result<Solution, Memory>
     ensures { IfOk result (λ more. more ≡ spec.added row.now (parts_of pattern.now triple.now)) }
 {
-    let subject = Term::Iri(triple.subject.copy()?);
-    let predicate = Term::Iri(triple.predicate.copy()?);
     let more = Solution::empty(alloc);
-    let more = with_part(alloc, more, row, &pattern.subject, &subject)?;
-    let more = with_part(alloc, more, row, &pattern.predicate, &predicate)?;
+    let more = with_iri(alloc, more, row, &pattern.subject, &triple.subject)?;
+    let more = with_iri(alloc, more, row, &pattern.predicate, &triple.predicate)?;
     with_part(alloc, more, row, &pattern.object, &triple.object)
 }
 
@@ -367,6 +365,20 @@ fn with_part(
         PatternTerm::Constant(_) => Ok(more),
         PatternTerm::Variable(name) => with_free(alloc, more, row, name, term),
     }
+}
+
+// The same with a part's IRI.
+fn with_iri(
+    alloc: Global,
+    more: Solution,
+    row: &Solution,
+    part: &PatternTerm,
+    iri: &Iri,
+) -> Result<Solution, Memory>
+    ensures { IfOk result (λ with. with ≡ spec.with_part row.now more part.now (IriTerm iri.now)) }
+{
+    let term = Term::Iri(iri.copy()?);
+    with_part(alloc, more, row, part, &term)
 }
 
 fn with_free(
