@@ -74,10 +74,10 @@ with_triple graph other p s t h m k =
     record { rises = h.rises; binds = h.binds; turns = All-from_recursion P (p ∷ []) ((t, contains_from other t m, k), tt) }
 
 -- what one of the graphs holds the union holds, and the other way round
-in_union : (graphs : List (List Triple)) (t : Triple) → AmongOne t graphs → Among t (union graphs)
+pub in_union : (graphs : List (List Triple)) (t : Triple) → AmongOne t graphs → Among t (union graphs)
 in_union graphs t m = among_set triple_cmp triples_total exact_triples t (flat_map (λ graph. graph) graphs) (among_flat_map (λ graph. graph) m.0 t graphs m.1 m.2)
 
-from_union : (graphs : List (List Triple)) (t : Triple) → Among t (union graphs) → AmongOne t graphs
+pub from_union : (graphs : List (List Triple)) (t : Triple) → Among t (union graphs) → AmongOne t graphs
 from_union graphs t m = among_from_flat_map (λ graph. graph) t graphs (among_from_set triple_cmp triples_total exact_triples t (flat_map (λ graph. graph) graphs) m)
 
 rows_over_union : (graphs : List (List Triple)) (p : Pattern) (s : Bindings) → Among s (bgp (union graphs) (p ∷ [])) → (graph : List Triple) × Among graph graphs × Among s (bgp graph (p ∷ []))

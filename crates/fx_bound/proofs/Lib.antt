@@ -1,0 +1,2 @@
+pub mod BranchLemmas
+pub mod UnionLemmas
