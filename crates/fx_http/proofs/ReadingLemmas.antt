@@ -41,3 +41,7 @@ pub came_piece : (input front piece left after now : List ℕ) (n : ℕ) → inp
 came_piece input front piece left after now n e p f k =
     e ∙ ap (λ (t : List ℕ). front ++ t) (sym (take-append-drop n left)) ∙ sym (append_assoc front (take n left) (drop n left))
     ∙ sym (ap (λ (t : List ℕ). now ++ t) f ∙ ap (λ (t : List ℕ). t ++ drop n left) (k ∙ ap (λ (t : List ℕ). front ++ t) p))
+
+-- of more bytes
+pub rest_within_more : (few most : ℕ) (input after : List ℕ) → few ≤ most → IsRestWithin few input after → IsRestWithin most input after
+rest_within_more few most input after short x = let n = x.1 in (x.0, omega arith, x.2)

@@ -1,6 +1,7 @@
-use Rattle.std.proofs.Common.{◌≡◌, ◌∙◌, ℕ, List, ◌++◌, sym, ap, subst}
+use Rattle.std.proofs.Common.{◌≡◌, ◌∙◌, ℕ, List, ◌++◌, sym, ap, subst, arith}
 use Rattle.fx_http.specs.RequestHeads.{IsWholeHead, AsksBehind, IsBodyBehind}
 use Rattle.fx_http.specs.Requests.{Asks, IsRequest}
+use Rattle.fx_http.proofs.ReadingLemmas.{rest_then, rest_within_more}
 use Rattle.fx_http.proofs.ReadRequestLaws.{only_answer, gives_as, asks_whole, taken_whole, takes_behind, ok_both}
 use Rattle.fx_http.proofs.read_requests.read_request.Goals as goal
 
@@ -37,3 +38,9 @@ returns-clause-within g c t =
     (subst IsWholeHead (sym same) c.in_ok-front.ensures.head)
     (c.in_ok-front.ensures.taken t ∙ ap (λ (bs : List ℕ). bs ++ rest) (sym same))
     (c.read_behind.ensures.within t)
+
+pub returns-clause-rest : goal.returns-clause-rest
+returns-clause-rest g c t = rest_then 65536 67108864 67174400 _ _ _ (omega arith) (c.in_ok-front.ensures.rest t) (c.read_behind.ensures.rest t)
+
+pub returns-in_err-front-clause-rest : goal.returns-in_err-front-clause-rest
+returns-in_err-front-clause-rest g c t = rest_within_more 65536 67174400 _ _ (omega arith) (c.in_err-front.ensures.rest t)
