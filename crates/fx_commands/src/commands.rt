@@ -7,7 +7,7 @@ ghost use Rattle.fx_commands.specs.Commands as spec;
 use std::alloc::{AllocFailed, Global};
 
 /// A command.
-#[derive(Clone, Copy, Debug)]
+#[derive(Clone, Copy)]
 pub enum Command<'a> {
     /// Answers the query of a file over the graph of a file.
     Local {
@@ -33,7 +33,7 @@ pub enum Command<'a> {
 }
 
 /// Why words are no command.
-#[derive(Clone, Copy, Debug, PartialEq, Eq)]
+#[derive(Clone, Copy)]
 pub enum CommandError {
     /// They are not of a form that the usage line names and that is built.
     Usage,

@@ -65,7 +65,7 @@ pub fn run_explain<F: Files, W: Wire, O: Sink, E: Sink>(
                 write_query_refusal(err, refusal, query);
                 refusal.status()
             }
-            Ok(asked) => explain_over(alloc, &members, &asked, wire, out, err),
+            Ok(asked) => explain_over(alloc, &members, asked.get(), wire, out, err),
         },
     }
 }

@@ -61,11 +61,12 @@ pub fn run_query<F: Files, W: Wire, O: Sink, E: Sink>(
                 refusal.status()
             }
             Ok(asked) => {
-                if !is_plain(&asked) {
+                let asked = asked.get();
+                if !is_plain(asked) {
                     write_not_built(err);
                     return Status::QueryRefused;
                 }
-                ask_members(alloc, &members, &asked, wire, out, err)
+                ask_members(alloc, &members, asked, wire, out, err)
             }
         },
     }

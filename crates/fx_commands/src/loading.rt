@@ -1,5 +1,5 @@
 //! Files, and the graph and the query that they hold.
-ghost use Rattle.std.specs.Prelude.{◌≡◌, ◌≤◌, ℕ, List, Ok};
+ghost use Rattle.std.specs.Prelude.{◌≡◌, ◌≤◌, ℕ, List, MatchResult, Ok};
 ghost use Rattle.fx_commands.specs.Counts.{CountsLoad};
 ghost use Rattle.fx_commands.specs.Files.{file_read};
 ghost use Rattle.fx_commands.specs.LocalSteps.{GivesFile, GivesGraph, GivesQuery};
@@ -14,7 +14,7 @@ use fx_outside::{FileError, Files};
 use fx_sources::Registry;
 use fx_store::Store;
 use fx_syntax::{SyntaxError, parse};
-use fx_terms::Graph;
+use fx_terms::{Boxed, Graph};
 use std::alloc::Global;
 
 // The graph of a file.
@@ -59,7 +59,11 @@ fn in_store(graph: Graph) -> Result<Store, GraphRefusal>
 }
 
 /// The query of a file.
-pub fn load_query<F: Files>(alloc: Global, files: &mut F, name: &str) -> Result<Query, QueryRefusal>
+pub fn load_query<F: Files>(
+    alloc: Global,
+    files: &mut F,
+    name: &str,
+) -> Result<Boxed<Query>, QueryRefusal>
     ensures outcome { GivesQuery (file_read F.content F.faults files.old files.new name.now) result }
     ensures counted { CountsLoad query_status name.now (F.faults files.old) (F.faults files.new) result }
     ensures kept { (other : List ℕ) → F.faults files.old other ≤ F.faults files.new other }
@@ -70,10 +74,19 @@ pub fn load_query<F: Files>(alloc: Global, files: &mut F, name: &str) -> Result<
         Err(FileRefusal::TooLong) => Err(QueryRefusal::TooLong),
         Err(FileRefusal::Memory) => Err(QueryRefusal::Memory),
         Ok(bytes) => match parse(alloc, bytes.as_slice()) {
-            Ok(query) => Ok(query),
+            Ok(query) => boxed(alloc, query),
             Err(SyntaxError::Refused { kind, place }) => Err(QueryRefusal::Refused { kind, place }),
             Err(SyntaxError::Memory) => Err(QueryRefusal::Memory),
         },
+    }
+}
+
+fn boxed(alloc: Global, query: Query) -> Result<Boxed<Query>, QueryRefusal>
+    ensures { MatchResult result (λ b. b ≡ query) (λ e. e ≡ QueryRefusal.Memory) }
+{
+    match Boxed::new(alloc, query) {
+        Ok(query) => Ok(query),
+        Err(_) => Err(QueryRefusal::Memory),
     }
 }
 

@@ -22,7 +22,7 @@ use fx_terms::{Iri, Memory};
 use std::alloc::Global;
 
 /// What a command writes where nothing is refused.
-#[derive(Debug, Drop)]
+#[derive(Drop)]
 pub struct Report {
     /// The results document, for standard output.
     pub document: Vec<u8>,
@@ -63,7 +63,7 @@ fn answer_over<F: Files>(
 {
     match load_query(alloc, files, query) {
         Err(refusal) => Err(Refusal::Query(refusal)),
-        Ok(query) => report_over(alloc, store, &query),
+        Ok(query) => report_over(alloc, store, query.get()),
     }
 }
 

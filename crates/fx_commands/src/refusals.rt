@@ -10,7 +10,7 @@ use fx_syntax::SyntaxKind;
 use fx_terms::{Iri, Memory};
 
 /// Why a file gives nothing.
-#[derive(Clone, Copy, Debug, PartialEq, Eq)]
+#[derive(Clone, Copy)]
 pub enum FileRefusal {
     /// Its reading failed.
     Fault,
@@ -21,7 +21,7 @@ pub enum FileRefusal {
 }
 
 /// Why the file of a graph gives no graph.
-#[derive(Clone, Copy, Debug, PartialEq, Eq)]
+#[derive(Clone, Copy)]
 pub enum GraphRefusal {
     /// Its reading failed.
     Fault,
@@ -51,7 +51,7 @@ impl GraphRefusal {
 }
 
 /// Why the file of a query gives no query.
-#[derive(Clone, Copy, Debug, PartialEq, Eq)]
+#[derive(Clone, Copy)]
 pub enum QueryRefusal {
     /// Its reading failed.
     Fault,
@@ -80,7 +80,7 @@ impl QueryRefusal {
 }
 
 /// Why `local` has no answer.
-#[derive(Debug, Drop)]
+#[derive(Drop)]
 pub enum Refusal {
     /// For the file of the graph.
     Graph(GraphRefusal),
@@ -120,7 +120,7 @@ impl From<Memory> for Refusal {
 }
 
 /// Why the file of a registry gives no registry.
-#[derive(Clone, Copy, Debug, PartialEq, Eq)]
+#[derive(Clone, Copy)]
 pub enum RegistryRefusal {
     /// Its reading failed.
     Fault,

@@ -19,7 +19,7 @@ use itoa::Buffer;
 use std::alloc::Global;
 
 /// How a connection ended.
-#[derive(Clone, Copy, Debug, PartialEq, Eq)]
+#[derive(Clone, Copy)]
 pub enum Ending {
     /// With a whole reply of this status.
     Replied(u16),

@@ -8,7 +8,8 @@ use Rattle.fx_commands.specs.Files.{file_read}
 use Rattle.fx_commands.specs.RefusalStatuses.{query_status, registry_status}
 use Rattle.fx_commands.specs.declared.statuses.Status.TheVariants as status
 use Rattle.fx_commands.proofs.CountLemmas.{only_later, only_read}
-use Rattle.fx_commands.specs.LocalSteps.{query_line}
+use Rattle.fx_algebra.specs.declared.queries.Query.{Query}
+use Rattle.fx_commands.specs.LocalSteps.{GivesQuery, query_line}
 use Rattle.fx_commands.specs.QuerySteps.{registry_line}
 use Rattle.fx_commands.proofs.ExplainLemmas.{registry_explained, query_explained, plan_explained}
 use Rattle.fx_commands.proofs.QueryLemmas.{query_since}
@@ -49,9 +50,9 @@ returns-clause-reported g c =
     let query = read c.args.query.now in
     let told = c.explain_over.ensures.reported in (
       told.0,
-      plan_explained (of c.args.wire.now) (of c.explain_over.new.wire) registry query _ c.in-Ok-load_query.asked c.explain_over.result told.0
+      plan_explained (of c.args.wire.now) (of c.explain_over.new.wire) registry query _ c.get.result.now c.explain_over.result told.0
           c.in-Ok.ensures.outcome
-          (query_since c.args.query.now _ _ (g.F.Files.faults c.args.files.now c.args.query.now) (g.F.Files.faults c.load_registry.new.files c.args.query.now) (g.F.Files.faults c.load_query.new.files c.args.query.now) (Ok c.in-Ok-load_query.asked) (c.load_registry.ensures.same c.args.query.now) (c.load_registry.ensures.kept c.args.query.now) c.in-Ok-load_query.ensures.outcome)
+          (subst (λ (q : Query). GivesQuery query (Ok q)) (sym c.get.ensures) (query_since c.args.query.now _ _ (g.F.Files.faults c.args.files.now c.args.query.now) (g.F.Files.faults c.load_registry.new.files c.args.query.now) (g.F.Files.faults c.load_query.new.files c.args.query.now) (Ok c.in-Ok-load_query.asked) (c.load_registry.ensures.same c.args.query.now) (c.load_registry.ensures.kept c.args.query.now) c.in-Ok-load_query.ensures.outcome))
           told.1
           c.explain_over.ensures.begun,
       told.2,

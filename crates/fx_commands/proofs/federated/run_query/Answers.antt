@@ -8,7 +8,8 @@ use Rattle.fx_commands.specs.RefusalStatuses.{query_status, registry_status}
 use Rattle.fx_commands.specs.declared.statuses.Status.TheVariants as status
 use Rattle.fx_commands.proofs.CountLemmas.{only_later, only_read}
 use Rattle.fx_commands.specs.Lines.{not_built}
-use Rattle.fx_commands.specs.LocalSteps.{query_line}
+use Rattle.fx_algebra.specs.declared.queries.Query.{Query}
+use Rattle.fx_commands.specs.LocalSteps.{GivesQuery, query_line}
 use Rattle.fx_commands.specs.Query.{IsQueryReported}
 use Rattle.fx_commands.specs.QuerySteps.{registry_line}
 use Rattle.fx_commands.proofs.QueryLemmas.{registry_reported, query_reported, query_since, other_reported, ask_reported}
@@ -48,8 +49,8 @@ returns-then-not-is_plain-clause-reported g c =
     let registry = read c.args.registry.now in
     let query = read c.args.query.now in (
       not_built,
-      other_reported wire registry query _ c.in-Ok-load_query.asked c.in-Ok.ensures.outcome
-          (query_since c.args.query.now _ _ (g.F.Files.faults c.args.files.now c.args.query.now) (g.F.Files.faults c.load_registry.new.files c.args.query.now) (g.F.Files.faults c.load_query.new.files c.args.query.now) (Ok c.in-Ok-load_query.asked) (c.load_registry.ensures.same c.args.query.now) (c.load_registry.ensures.kept c.args.query.now) c.in-Ok-load_query.ensures.outcome)
+      other_reported wire registry query _ c.get-asked.result.now c.in-Ok.ensures.outcome
+          (subst (λ (q : Query). GivesQuery query (Ok q)) (sym c.get-asked.ensures) (query_since c.args.query.now _ _ (g.F.Files.faults c.args.files.now c.args.query.now) (g.F.Files.faults c.load_registry.new.files c.args.query.now) (g.F.Files.faults c.load_query.new.files c.args.query.now) (Ok c.in-Ok-load_query.asked) (c.load_registry.ensures.same c.args.query.now) (c.load_registry.ensures.kept c.args.query.now) c.in-Ok-load_query.ensures.outcome))
           (sym c.is_plain.ensures ∙ c.if-not-is_plain.true),
       c.write_not_built.ensures,
     )
@@ -61,9 +62,9 @@ returns-clause-reported g c =
     let registry = read c.args.registry.now in
     let query = read c.args.query.now in (
       c.ask_members.ensures.reported.0,
-      ask_reported (of c.args.wire.now) (of c.ask_members.new.wire) registry query _ c.in-Ok-load_query.asked c.ask_members.result c.ask_members.ensures.reported.0
+      ask_reported (of c.args.wire.now) (of c.ask_members.new.wire) registry query _ c.get-asked.result.now c.ask_members.result c.ask_members.ensures.reported.0
           c.in-Ok.ensures.outcome
-          (query_since c.args.query.now _ _ (g.F.Files.faults c.args.files.now c.args.query.now) (g.F.Files.faults c.load_registry.new.files c.args.query.now) (g.F.Files.faults c.load_query.new.files c.args.query.now) (Ok c.in-Ok-load_query.asked) (c.load_registry.ensures.same c.args.query.now) (c.load_registry.ensures.kept c.args.query.now) c.in-Ok-load_query.ensures.outcome)
+          (subst (λ (q : Query). GivesQuery query (Ok q)) (sym c.get-asked.ensures) (query_since c.args.query.now _ _ (g.F.Files.faults c.args.files.now c.args.query.now) (g.F.Files.faults c.load_registry.new.files c.args.query.now) (g.F.Files.faults c.load_query.new.files c.args.query.now) (Ok c.in-Ok-load_query.asked) (c.load_registry.ensures.same c.args.query.now) (c.load_registry.ensures.kept c.args.query.now) c.in-Ok-load_query.ensures.outcome))
           (sym c.is_plain.ensures ∙ c.if-not-is_plain.false)
           c.ask_members.ensures.reported.1
           c.ask_members.ensures.begun,
