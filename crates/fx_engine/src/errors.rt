@@ -124,7 +124,7 @@ fn shape_words(what: ShapeFault) -> &'static str
 }
 
 /// Why one endpoint gives no rows.
-#[derive(Clone, Copy, Debug, PartialEq, Eq)]
+#[derive(Clone, Copy)]
 pub enum AskError {
     /// The exchange failed.
     Failed,
@@ -137,7 +137,7 @@ pub enum AskError {
 }
 
 /// Why a reply gives no rows.
-#[derive(Clone, Copy, Debug, PartialEq, Eq)]
+#[derive(Clone, Copy)]
 pub enum TableError {
     /// It has this fault.
     Bad { why: ReplyFault },

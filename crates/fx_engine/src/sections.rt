@@ -15,7 +15,7 @@ use fx_terms::{Iri, Items, Memory, Name, Pattern};
 use std::alloc::Global;
 
 /// A part of a query that requests are sent for.
-#[derive(Debug, Drop)]
+#[derive(Drop)]
 pub(crate) enum Section {
     /// A maximal run of triple patterns of a group, with nothing but filters between them. With it come the filters of the whole
     /// group, and the names in scope before the run, each once.

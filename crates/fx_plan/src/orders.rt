@@ -10,7 +10,7 @@ use fx_terms::{Memory, Name, Pattern};
 use std::alloc::Global;
 
 /// A unit that isn't taken yet, and its variables that aren't known yet.
-#[derive(Debug, Drop)]
+#[derive(Drop)]
 pub(crate) struct Waiting {
     pub unit: Unit,
     pub free: Names,

@@ -14,7 +14,7 @@ use std::cmp::Ordering;
 use std::collections::BTreeSet;
 
 /// The terms of a row under columns.
-#[derive(Debug, Drop)]
+#[derive(Drop)]
 pub(crate) struct Cells {
     pub cells: Items<Option<Term>>,
 }

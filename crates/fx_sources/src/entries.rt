@@ -4,7 +4,7 @@ use fx_outside::Endpoint;
 use std::marker::Model;
 
 // An endpoint that requests can be sent to, and the text that its address reads to. Contracts see the endpoint.
-#[derive(Debug, Drop)]
+#[derive(Drop)]
 pub struct Entry {
     pub endpoint: Endpoint,
     pub url: String,

@@ -13,7 +13,7 @@ use std::str;
 use url::{ParseError, Url};
 
 // What a line says.
-#[derive(Debug, Drop)]
+#[derive(Drop)]
 pub enum Line {
     // Nothing: it is empty, or a comment.
     Passed,

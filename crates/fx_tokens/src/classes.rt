@@ -4,7 +4,7 @@ ghost use Rattle.fx_terms.specs.Names.{is_base_char, is_name_start, is_name_char
 ghost use Rattle.fx_tokens.specs.Classes as class;
 
 /// A quote.
-#[derive(Clone, Copy, Debug, PartialEq, Eq)]
+#[derive(Clone, Copy)]
 pub enum Quote {
     Single,
     Double,
@@ -23,7 +23,7 @@ impl Quote {
 }
 
 /// A class of characters of the grammar (SPARQL 1.1 section 19.8).
-#[derive(Clone, Copy, Debug, PartialEq, Eq)]
+#[derive(Clone, Copy)]
 pub enum Class {
     /// This character.
     Is(char),

@@ -10,7 +10,7 @@ use crate::classes::{Class, Quote};
 use crate::parts::{code, longer, one, skip, some, width};
 
 /// What is repeated within a token.
-#[derive(Clone, Copy, Debug, PartialEq, Eq)]
+#[derive(Clone, Copy)]
 pub enum Part {
     /// A character of an IRI, or one that is written by its number.
     Iri,
