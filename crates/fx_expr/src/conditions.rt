@@ -2,7 +2,7 @@
 ghost use Rattle.std.specs.Prelude.{◌≡◌, IfOk};
 ghost use Rattle.fx_algebra.specs.Conditions as spec;
 
-use crate::values::truth_in;
+use crate::values::truth_on;
 use fx_algebra::{Expr, Solution};
 use fx_terms::Memory;
 use std::alloc::Global;
@@ -14,7 +14,7 @@ pub fn holds(alloc: Global, conditions: &[Expr], solution: &Solution) -> Result<
     ensures { IfOk result (λ held. held ≡ spec.holds conditions.now solution.now) }
 {
     for condition in conditions {
-        match truth_in(alloc, condition, solution)? {
+        match truth_on(alloc, condition, solution)? {
             Some(true) => {}
             Some(false) => return Ok(false),
             None => return Ok(false),

@@ -402,7 +402,7 @@ pub fn value(alloc: Global, expr: &Expr, solution: &Solution) -> Result<Option<T
             found_among(alloc, *negated, item, list.as_slice(), solution)
         }
         Expr::Sum { first, rest } => {
-            let first = integer_of(alloc, first.get(), solution)?;
+            let first = integer_on(alloc, first.get(), solution)?;
             integer_term(alloc, sum(alloc, first, rest.as_slice(), solution)?)
         }
         Expr::Product(parts) => { integer_term(alloc, product(alloc, parts.as_slice(), solution)?) }
@@ -428,7 +428,7 @@ fn copied(term: &Term) -> Result<Option<Term>, Memory>
 
 // The truth of an expression's value.
 #[cycle(value)]
-pub(crate) fn truth_in(
+pub(crate) fn truth_on(
     alloc: Global,
     expr: &Expr,
     solution: &Solution,
@@ -440,7 +440,7 @@ pub(crate) fn truth_in(
 
 // The integer that an expression's value is.
 #[cycle(value)]
-fn integer_of(alloc: Global, expr: &Expr, solution: &Solution) -> Result<Option<i64>, Memory>
+fn integer_on(alloc: Global, expr: &Expr, solution: &Solution) -> Result<Option<i64>, Memory>
     ensures { IfOk result (λ number. number ≡ spec.integer_in (spec.value expr.now solution.now)) }
 {
     Ok(integer_in(&value(alloc, expr, solution)?))
@@ -451,7 +451,7 @@ fn integer_of(alloc: Global, expr: &Expr, solution: &Solution) -> Result<Option<
 fn opposite(alloc: Global, part: &Expr, solution: &Solution) -> Result<Option<Term>, Memory>
     ensures { IfOk result (λ v. v ≡ spec.value (Expr.Not part.now) solution.now) }
 {
-    match truth_in(alloc, part, solution)? {
+    match truth_on(alloc, part, solution)? {
         Some(truth) => truth_term(alloc, Some(!truth)),
         None => Ok(None),
     }
@@ -462,7 +462,7 @@ fn opposite(alloc: Global, part: &Expr, solution: &Solution) -> Result<Option<Te
 fn positive(alloc: Global, part: &Expr, solution: &Solution) -> Result<Option<Term>, Memory>
     ensures { IfOk result (λ v. v ≡ spec.value (Expr.Positive part.now) solution.now) }
 {
-    integer_term(alloc, integer_of(alloc, part, solution)?)
+    integer_term(alloc, integer_on(alloc, part, solution)?)
 }
 
 // The value of `-` on a part.
@@ -470,7 +470,7 @@ fn positive(alloc: Global, part: &Expr, solution: &Solution) -> Result<Option<Te
 fn negated(alloc: Global, part: &Expr, solution: &Solution) -> Result<Option<Term>, Memory>
     ensures { IfOk result (λ v. v ≡ spec.value (Expr.Negative part.now) solution.now) }
 {
-    match integer_of(alloc, part, solution)? {
+    match integer_on(alloc, part, solution)? {
         Some(number) => integer_term(alloc, negative(number)),
         None => Ok(None),
     }
@@ -487,8 +487,8 @@ fn compared_with(
 ) -> Result<Option<Term>, Memory>
     ensures { IfOk result (λ v. v ≡ option_map spec.boolean (spec.on_both (spec.compared op) left (spec.value right.now solution.now))) }
 {
-    let right = value(alloc, right, solution)?;
-    truth_term(alloc, both_compared(op, &left, &right))
+    let truth = both_compared(op, &left, &value(alloc, right, solution)?);
+    truth_term(alloc, truth)
 }
 
 // The value of `IN`, or of `NOT IN`, on a value.
@@ -521,7 +521,7 @@ fn any_of(alloc: Global, parts: &[Expr], solution: &Solution) -> Result<Option<b
 {
     let mut unsure = false;
     for part in parts {
-        match truth_in(alloc, part, solution)? {
+        match truth_on(alloc, part, solution)? {
             Some(true) => return Ok(Some(true)),
             Some(false) => {}
             None => unsure = true,
@@ -536,7 +536,7 @@ fn all_of(alloc: Global, parts: &[Expr], solution: &Solution) -> Result<Option<b
 {
     let mut uncertain = false;
     for part in parts {
-        match truth_in(alloc, part, solution)? {
+        match truth_on(alloc, part, solution)? {
             Some(false) => return Ok(Some(false)),
             Some(true) => {}
             None => uncertain = true,
@@ -663,7 +663,7 @@ fn chosen(alloc: Global, args: &[Expr], solution: &Solution) -> Result<Option<Te
     ensures { IfOk result (λ v. v ≡ spec.chosen (map (λ e. spec.value e solution.now) args.now)) }
 {
     match args {
-        [test, yes, no] => match truth_in(alloc, test, solution)? {
+        [test, yes, no] => match truth_on(alloc, test, solution)? {
             Some(true) => value(alloc, yes, solution),
             Some(false) => value(alloc, no, solution),
             None => Ok(None),
@@ -719,6 +719,6 @@ fn tested_with(
 ) -> Result<Option<Term>, Memory>
     ensures { IfOk result (λ v. v ≡ option_map spec.boolean (spec.on_both (spec.of_two function) left (spec.value right.now solution.now))) }
 {
-    let right = value(alloc, right, solution)?;
-    truth_term(alloc, both_tested(function, &left, &right))
+    let truth = both_tested(function, &left, &value(alloc, right, solution)?);
+    truth_term(alloc, truth)
 }

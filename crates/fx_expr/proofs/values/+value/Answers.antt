@@ -50,10 +50,10 @@ any_of-loop-part-preserved t c =
     let seen = λ (es : List Expr). map (spec.truth_of) (map (λ e. spec.value e s) es) in
     let rest = drop (i + 1) xs in
     let here : drop i xs ≡ x ∷ rest = drop_more xs i x (omega arith) ∙ ap (λ (y : Expr). y ∷ rest) (sym c.part-item.is) in
-    let split = ap seen here ∙ ap (λ v. v ∷ seen rest) (sym (c.in_ok-truth_in.ensures)) in
+    let split = ap seen here ∙ ap (λ v. v ∷ seen rest) (sym (c.in_ok-truth_on.ensures)) in
     elim c.match-branch-2.branch [
-      | any_of-in-Some-false w ↦ (let k = behind_truth spec.is_true c.in_ok-truth_in.field-0 false c.loop-part.unsure c.match-branch-2.unsure (seen (drop i xs)) (seen rest) (seen xs) split (w.in-Some-false.is ∙ ap Some w.in-Some-false.field-0-test) refl w.unsure-is c.loop-part.invariant.sure c.loop-part.invariant.errors in record { sure = k.sure; errors = k.errors })
-      | any_of-in-None w ↦ (let k = behind_error spec.is_true c.in_ok-truth_in.field-0 c.loop-part.unsure c.match-branch-2.unsure (seen (drop i xs)) (seen rest) (seen xs) split w.in-None.is refl w.unsure-is c.loop-part.invariant.sure c.loop-part.invariant.errors in record { sure = k.sure; errors = k.errors })
+      | any_of-in-Some-false w ↦ (let k = behind_truth spec.is_true c.in_ok-truth_on.field-0 false c.loop-part.unsure c.match-branch-2.unsure (seen (drop i xs)) (seen rest) (seen xs) split (w.in-Some-false.is ∙ ap Some w.in-Some-false.field-0-test) refl w.unsure-is c.loop-part.invariant.sure c.loop-part.invariant.errors in record { sure = k.sure; errors = k.errors })
+      | any_of-in-None w ↦ (let k = behind_error spec.is_true c.in_ok-truth_on.field-0 c.loop-part.unsure c.match-branch-2.unsure (seen (drop i xs)) (seen rest) (seen xs) split w.in-None.is refl w.unsure-is c.loop-part.invariant.sure c.loop-part.invariant.errors in record { sure = k.sure; errors = k.errors })
     ]
 
 pub all_of-loop-part-preserved : goal.all_of-loop-part-preserved
@@ -65,10 +65,10 @@ all_of-loop-part-preserved t c =
     let seen = λ (es : List Expr). map (spec.truth_of) (map (λ e. spec.value e s) es) in
     let rest = drop (i + 1) xs in
     let here : drop i xs ≡ x ∷ rest = drop_more xs i x (omega arith) ∙ ap (λ (y : Expr). y ∷ rest) (sym c.part-item.is) in
-    let split = ap seen here ∙ ap (λ v. v ∷ seen rest) (sym (c.in_ok-truth_in.ensures)) in
+    let split = ap seen here ∙ ap (λ v. v ∷ seen rest) (sym (c.in_ok-truth_on.ensures)) in
     elim c.match-branch-2.branch [
-      | all_of-in-Some-true w ↦ (let k = behind_truth spec.is_false c.in_ok-truth_in.field-0 true c.loop-part.uncertain c.match-branch-2.uncertain (seen (drop i xs)) (seen rest) (seen xs) split (w.in-Some-true.is ∙ ap Some w.in-Some-true.field-0-test) refl w.uncertain-is c.loop-part.invariant.sure c.loop-part.invariant.errors in record { sure = k.sure; errors = k.errors })
-      | all_of-in-None w ↦ (let k = behind_error spec.is_false c.in_ok-truth_in.field-0 c.loop-part.uncertain c.match-branch-2.uncertain (seen (drop i xs)) (seen rest) (seen xs) split w.in-None.is refl w.uncertain-is c.loop-part.invariant.sure c.loop-part.invariant.errors in record { sure = k.sure; errors = k.errors })
+      | all_of-in-Some-true w ↦ (let k = behind_truth spec.is_false c.in_ok-truth_on.field-0 true c.loop-part.uncertain c.match-branch-2.uncertain (seen (drop i xs)) (seen rest) (seen xs) split (w.in-Some-true.is ∙ ap Some w.in-Some-true.field-0-test) refl w.uncertain-is c.loop-part.invariant.sure c.loop-part.invariant.errors in record { sure = k.sure; errors = k.errors })
+      | all_of-in-None w ↦ (let k = behind_error spec.is_false c.in_ok-truth_on.field-0 c.loop-part.uncertain c.match-branch-2.uncertain (seen (drop i xs)) (seen rest) (seen xs) split w.in-None.is refl w.uncertain-is c.loop-part.invariant.sure c.loop-part.invariant.errors in record { sure = k.sure; errors = k.errors })
     ]
 
 pub among-loop-part-preserved : goal.among-loop-part-preserved
