@@ -345,9 +345,10 @@ module _ (graphs : List ℕ → List Triple) (down : List ℕ) where
   group_kept : (x : Group-F Element Group) (y : Group-F KeptElement KeptGroup) → map-Group KeptElement KeptGroup Element Group (λ e. e.0) (λ g. g.0) y ≡ x → GroupKept (roll-Group x)
   group_kept x y is =
       let kept = subst LayerGroupKept is (elements_kept y.elements, element_names_kept y.elements) in
-      let layer = fold-roll-Group Part Meaning (element_meaning graphs down) group_meaning x in
-      (ap (λ (m : Meaning). m.tree) layer ∙ ap (λ (v : List Element). roll-Group (record { elements = v })) kept.0,
-      ap (λ (m : Meaning). m.cut.names) layer ∙ kept.1 ∙ sym (fold-roll-Group (List (List ℕ)) (List (List ℕ)) element_names group_names x))
+      let layer = fold-roll-Group Part Meaning (element_meaning graphs down) group_meaning x in (
+        ap (λ (m : Meaning). m.tree) layer ∙ ap (λ (v : List Element). roll-Group (record { elements = v })) kept.0,
+        ap (λ (m : Meaning). m.cut.names) layer ∙ kept.1 ∙ sym (fold-roll-Group (List (List ℕ)) (List (List ℕ)) element_names group_names x),
+      )
 
   kept : (g : Group) → GroupKept g
   kept = ind-Group ElementKept GroupKept element_kept group_kept

@@ -83,6 +83,7 @@ module _ (rename : List ℕ → List ℕ) (names : List (List ℕ)) (apart : Tel
           let two : true ≡ false = sym (eq_itself name) ∙ ap (λ v. is_eq (text_cmp v name)) (sym same) ∙ other in
           absurd (cc)
       renamed n m other false e = e
+
       by : (n : List ℕ) → is_among names n ≡ true → (b : Bool) → is_eq (text_cmp n name) ≡ b → cond b (Some term) (term_of s n) ≡ option_or (term_of row n) (term_of (with_pair t (rename name) term) (rename n))
       by n m true e =
           let same : n ≡ name = name_from n name e in
@@ -93,6 +94,7 @@ module _ (rename : List ℕ → List ℕ) (names : List (List ℕ)) (apart : Tel
           let other : term_of (with_pair t (rename name) term) (rename n) ≡ term_of t (rename n) =
           with_pair_has t (rename name) term (rename n) ∙ ap (λ (b : Bool). cond b (Some term) (term_of t (rename n))) (renamed n m e (is_eq (text_cmp (rename n) (rename name))) refl) in
           h.inside n m ∙ ap (option_or (term_of row n)) (sym other)
+
       by_other : (n : List ℕ) → is_among names n ≡ false → (b : Bool) → is_eq (text_cmp n name) ≡ b → cond b (Some term) (term_of s n) ≡ term_of row n
       by_other n m true e = let two : true ≡ false = sym among ∙ ap (is_among names) (sym (name_from n name e)) ∙ m in absurd (cc)
       by_other n m false e = h.outside n m
@@ -157,6 +159,7 @@ value_term s name (Some t) n = by (term_of s name) refl
         with_pair_has s name t n ∙ ap (λ (b : Bool). cond b (Some t) (term_of s n)) e ∙ ap (λ (v : Option Term). option_or v (Some t)) (sym here)
     at false e (Some u) f = refl
     at false e None f = with_pair_has s name t n ∙ ap (λ (b : Bool). cond b (Some t) (term_of s n)) e
+
     by : (o : Option Term) → term_of s name ≡ o → term_of (with_new s (name, t)) n ≡ cond (is_eq (text_cmp n name)) (option_or (term_of s n) (Some t)) (term_of s n)
     by o f = ap (λ (v : Option Term). term_of (cond (is_some v) s (with_pair s name t)) n) f ∙ at (is_eq (text_cmp n name)) refl o f
 
@@ -176,9 +179,11 @@ module _ (rename : List ℕ → List ℕ) where
       again None None = refl
       again None (Some u) = refl
       again (Some v) p = refl
+
       pick : (c : Bool) → cond c (option_or (option_or (term_of s n) (term_of t (rename n))) (term_of t (rename n))) (option_or (term_of s n) (term_of t (rename n))) ≡ option_or (term_of s n) (term_of t (rename n))
       pick true = again (term_of s n) (term_of t (rename n))
       pick false = refl
+
       turn : (b : Bool) → is_eq (text_cmp n name) ≡ b → (c : Bool)
           → cond c (option_or (cond b (option_or (term_of s n) (term_of t (rename name))) (term_of s n)) (term_of t (rename n))) (cond b (option_or (term_of s n) (term_of t (rename name))) (term_of s n))
           ≡ cond (is_eq (text_cmp name n) || c) (option_or (term_of s n) (term_of t (rename n))) (term_of s n)

@@ -40,6 +40,7 @@ in_kept p x (y ∷ ys) m = by (p y) refl (in_kept p x ys) m
   where
     more : Among x ys × (p x ≡ true) → Among x (y ∷ ys) × (p x ≡ true)
     more t = (inr t.0, t.1)
+
     by : (b : Bool) → p y ≡ b → (Among x (filter p ys) → Among x ys × (p x ≡ true)) → Among x (cond b (y ∷ filter p ys) (filter p ys)) → Among x (y ∷ ys) × (p x ≡ true)
     by true e f (inl same) = (inl same, ap p (sym same) ∙ e)
     by true e f (inr n) = more (f n)
@@ -197,8 +198,7 @@ from_member graphs u (inl x) s m =
     let only : AllByRecursion (HasTriple all s) (x.pattern ∷ []) = subst (AllByRecursion (HasTriple all s)) x.alone (recursion_from_All (HasTriple all s) u.patterns h.turns) in
     let a = a_source graphs x.pattern s only.0.0 (among_from all only.0.0 only.0.1) only.0.2 in
     let turned : All (HasTriple (graph_of graphs a.0) s) u.patterns =
-    subst (All (HasTriple (graph_of graphs a.0) s)) (sym x.alone) (All-from_recursion (HasTriple (graph_of graphs a.0) s) (x.pattern ∷ []) ((only.0.0, contains_from (graph_of graphs a.0) only.0.0 a.2, only.0.2), tt)) in
-    (
+    subst (All (HasTriple (graph_of graphs a.0) s)) (sym x.alone) (All-from_recursion (HasTriple (graph_of graphs a.0) s) (x.pattern ∷ []) ((only.0.0, contains_from (graph_of graphs a.0) only.0.0 a.2, only.0.2), tt)) in (
       a.0,
       among_from u.members a.0 (each_of (Contains u.members) (sources graphs x.pattern) (recursion_from_All (Contains u.members) (sources graphs x.pattern) x.all) a.0 a.1),
       among_from (bgp (graph_of graphs a.0) u.patterns) s (row_from (graph_of graphs a.0) u.patterns s (record { rises = h.rises; binds = h.binds; turns = turned })),

@@ -174,6 +174,7 @@ group_patterns m (a ∷ rest) = by (only_source a.1) refl (group_patterns m rest
         ∙ append-nil (a.0 ∷ patterns_of m rest)
     here k false e h =
         ap unit_patterns (others_pass (is_group_of m) (is_group_of k) (one_group m k (equal_turned k m e)) (by_position rest)) ∙ h
+
     by : (o : Option ℕ) → only_source a.1 ≡ o → unit_patterns (filter (is_group_of m) (by_position rest)) ≡ patterns_of m rest → unit_patterns (filter (is_group_of m) (in_front a rest o (by_position rest))) ≡ cond (is_only m a.1) (a.0 ∷ patterns_of m rest) (patterns_of m rest)
     by None e h = h ∙ ap (λ (b : Bool). cond b (a.0 ∷ patterns_of m rest) (patterns_of m rest)) (sym (no_only m a.1 e))
     by (Some k) e h = here k (k == m) refl h ∙ ap (λ (b : Bool). cond b (a.0 ∷ patterns_of m rest) (patterns_of m rest)) (sym (an_only m k a.1 e))

@@ -69,6 +69,7 @@ in_filter p x (y ∷ ys) m = by (p y) refl (in_filter p x ys) m
   where
     more : Among x ys × (p x ≡ true) → Among x (y ∷ ys) × (p x ≡ true)
     more t = (inr t.0, t.1)
+
     by : (b : Bool) → p y ≡ b → (Among x (filter p ys) → Among x ys × (p x ≡ true)) → Among x (cond b (y ∷ filter p ys) (filter p ys)) → Among x (y ∷ ys) × (p x ≡ true)
     by true e f (inl same) = (inl same, ap p (sym same) ∙ e)
     by true e f (inr n) = more (f n)
