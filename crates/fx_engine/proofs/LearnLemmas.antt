@@ -15,7 +15,7 @@ use Rattle.fx_algebra.specs.declared.queries.Query.{Query}
 use Rattle.fx_wire.specs.Exchanges.{Exchange, Seen, IsAfter}
 use Rattle.fx_sources.specs.Patterns as all
 use Rattle.fx_sources.specs.Probes.{Entry, chosen, learned, missing, told}
-use Rattle.fx_algebra.specs.Units.{fits, graph_of}
+use Rattle.fx_algebra.specs.Units.{graph_of}
 use Rattle.fx_sources.specs.Sources as source
 use Rattle.fx_sources.specs.declared.probes.Probe.{Probe}
 use Rattle.fx_sources.proofs.SourceLemmas.{learned_tells, kept_tells}

@@ -1,5 +1,5 @@
 -- The sections of a query: how they come element by element, and that their patterns are the query's.
-use Rattle.std.proofs.Common.{◌≡◌, ◌∙◌, ap, sym, subst, refl, ℕ, ◌+◌, Bool, true, false, List, [], ◌∷◌, ◌++◌, map, append-nil, append_assoc}
+use Rattle.std.proofs.Common.{◌≡◌, ◌∙◌, ap, sym, subst, refl, ℕ, ◌+◌, true, false, List, [], ◌∷◌, ◌++◌, map, append-nil, append_assoc}
 use Rattle.std.proofs.lemmas.List.{map-append}
 use Rattle.std.specs.List.{AllByRecursion, flat_map}
 use Rattle.std.proofs.lemmas.Grind.{flat_map-append}
@@ -9,11 +9,10 @@ use Rattle.fx_algebra.specs.BasicGraphPatterns.{variables}
 use Rattle.fx_algebra.specs.Groups.{Cut, Meaning, Part, pattern, condition, operator, Step, with_pattern, steps_of, stations_of, conditions_of, keeps_run, names_of_part, names_before, group_cut, alternative_stations, element_meaning, group_meaning}
 use Rattle.fx_algebra.specs.Groups as step
 use Rattle.fx_algebra.specs.Scopes.{mentions}
-use Rattle.fx_algebra.specs.Stations.{Station}
 use Rattle.fx_algebra.specs.declared.expressions.Expr.{Expr}
 use Rattle.fx_algebra.specs.declared.queries.Element.{Element, Element-F, map-Element, fold-roll-Element, roll-Element, ind-Element}
 use Rattle.fx_algebra.specs.declared.queries.Element.TheVariants.{Union, rolls-Union}
-use Rattle.fx_algebra.specs.declared.queries.Group.{Group, Group-F, ind-Group, fold-roll-Group, fold_out-Group, map-Group, out-Group, roll-Group}
+use Rattle.fx_algebra.specs.declared.queries.Group.{Group, Group-F, ind-Group, fold-roll-Group, fold_out-Group, map-Group, roll-Group}
 use Rattle.fx_algebra.specs.declared.queries.Query.{Query}
 use Rattle.fx_algebra.proofs.CutLemmas.{part_binds}
 use Rattle.fx_sources.specs.Patterns as all

@@ -1,5 +1,5 @@
 -- Each unit of the plan of an accepted query can be asked for, and its members give all the rows that the union has for it.
-use Rattle.std.proofs.Common.{◌≡◌, ◌∙◌, ap, sym, subst, refl, ℕ, zero, suc, ◌+◌, ◌<◌, ◌⊎◌, inl, inr, Bool, true, false, not, cond, ◌&&◌, ◌||◌, if◌then◌else◌, List, [], ◌∷◌, ◌++◌, map, filter, length, get_or, All, arith}
+use Rattle.std.proofs.Common.{◌≡◌, ◌∙◌, ap, sym, subst, refl, ℕ, ◌<◌, ◌⊎◌, inl, inr, Bool, true, false, cond, ◌&&◌, ◌||◌, if◌then◌else◌, List, [], ◌∷◌, ◌++◌, map, filter, length, get_or, All, arith}
 use Rattle.std.specs.Prelude.{AllPairs, Contains}
 use Rattle.std.specs.List.{AllByRecursion, flat_map, list_any, range_with_len, zip}
 use Rattle.std.proofs.lemmas.List.Elements.{All-contains_itself, All-from_recursion}
@@ -7,18 +7,16 @@ use Rattle.std.proofs.lemmas.List.FromFn.{get_or-range_with_len, length-range_wi
 use Rattle.std.proofs.lemmas.List.Kept.{AllPairs-filter}
 use Rattle.fx_terms.specs.declared.triples.Triple.{Triple}
 use Rattle.fx_terms.specs.declared.patterns.Pattern.{Pattern}
-use Rattle.fx_algebra.specs.Answers.{has_rows, is_empty_list, no_graphs}
-use Rattle.fx_algebra.specs.BasicGraphPatterns.{bgp, variables}
-use Rattle.fx_algebra.specs.Groups.{Meaning, Part, pattern, condition, operator, names_before, group_cut, element_meaning, group_meaning}
+use Rattle.fx_algebra.specs.Answers.{is_empty_list, no_graphs}
+use Rattle.fx_algebra.specs.BasicGraphPatterns.{variables}
+use Rattle.fx_algebra.specs.Groups.{Meaning, Part, pattern, condition, operator, names_before, element_meaning, group_meaning}
 use Rattle.fx_algebra.specs.Measures.{is_some, measured}
-use Rattle.fx_algebra.specs.Units.{is_covered, is_empty, is_pushable}
-use Rattle.fx_algebra.specs.Solutions.{Bindings}
 use Rattle.fx_algebra.specs.declared.expressions.Expr.{Expr}
 use Rattle.fx_algebra.specs.declared.queries.Element.{Element, Element-F, map-Element, fold-roll-Element, roll-Element}
 use Rattle.fx_algebra.specs.declared.queries.Group.{Group, Group-F, ind-Group, fold-roll-Group, map-Group, roll-Group}
 use Rattle.fx_algebra.specs.declared.units.Unit as unit
 use Rattle.fx_plan.specs.Laws as plans
-use Rattle.fx_plan.specs.Plans.{Asked, by_position, in_order, is_sooner, next, plan, pushed, shared, taken}
+use Rattle.fx_plan.specs.Plans.{Asked, plan}
 use Rattle.fx_plan.specs.declared.parts.Part.TheVariants as part
 use Rattle.fx_plan.proofs.LawLemmas.{filters_are_own, filters_of_run, no_source_is_left_out, units_are_of_the_run}
 use Rattle.fx_algebra.specs.Units.{fits, graph_of, sources}
