@@ -164,11 +164,11 @@ value_term s name (Some t) n = by (term_of s name) refl
     by o f = ap (λ (v : Option Term). term_of (cond (is_some v) s (with_pair s name t)) n) f ∙ at (is_eq (text_cmp n name)) refl o f
 
 module _ (rename : List ℕ → List ℕ) where
-  told_rises : (names : List (List ℕ)) (s t : Bindings) → IsTrue (rises s) → IsTrue (rises (told rename names s t))
+  pub told_rises : (names : List (List ℕ)) (s t : Bindings) → IsTrue (rises s) → IsTrue (rises (told rename names s t))
   told_rises [] s t up = up
   told_rises (name ∷ names) s t up = told_rises names (with_value s name (term_of t (rename name))) t (value_rises s name (term_of t (rename name)) up)
 
-  told_term : (names : List (List ℕ)) (s t : Bindings) (n : List ℕ) → term_of (told rename names s t) n ≡ cond (is_among names n) (option_or (term_of s n) (term_of t (rename n))) (term_of s n)
+  pub told_term : (names : List (List ℕ)) (s t : Bindings) (n : List ℕ) → term_of (told rename names s t) n ≡ cond (is_among names n) (option_or (term_of s n) (term_of t (rename n))) (term_of s n)
   told_term [] s t n = refl
   told_term (name ∷ names) s t n =
       told_term names (with_value s name (term_of t (rename name))) t n

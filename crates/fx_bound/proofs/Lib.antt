@@ -1,2 +1,5 @@
 pub mod BranchLemmas
 pub mod UnionLemmas
+pub mod UniteLemmas
+pub mod NamingLemmas
+pub mod ReadingLemmas

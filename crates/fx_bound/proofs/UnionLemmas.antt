@@ -34,7 +34,7 @@ to_T false h = cc
 
 -- ---- lists
 
-in_kept : {X : Type 0} (p : X → Bool) (x : X) (xs : List X) → Among x (filter p xs) → Among x xs × (p x ≡ true)
+pub in_kept : {X : Type 0} (p : X → Bool) (x : X) (xs : List X) → Among x (filter p xs) → Among x xs × (p x ≡ true)
 in_kept p x [] m = absurd m
 in_kept p x (y ∷ ys) m = by (p y) refl (in_kept p x ys) m
   where
@@ -46,7 +46,7 @@ in_kept p x (y ∷ ys) m = by (p y) refl (in_kept p x ys) m
     by true e f (inr n) = more (f n)
     by false e f n = more (f n)
 
-kept_in : {X : Type 0} (p : X → Bool) (x : X) (xs : List X) → Among x xs → p x ≡ true → Among x (filter p xs)
+pub kept_in : {X : Type 0} (p : X → Bool) (x : X) (xs : List X) → Among x xs → p x ≡ true → Among x (filter p xs)
 kept_in p x [] m e = absurd m
 kept_in p x (y ∷ ys) (inl same) e = subst (λ (b : Bool). Among x (cond b (y ∷ filter p ys) (filter p ys))) (sym (ap p same ∙ e)) (inl same)
 kept_in p x (y ∷ ys) (inr m) e = by (p y) (kept_in p x ys m e)
@@ -181,7 +181,7 @@ a_source graphs p s t m h =
 abbrev AsksOne : List (List Triple) → unit.Unit → Bindings → Type 0
 AsksOne graphs u s = (at : ℕ) × Among at u.members × Among s (bgp (graph_of graphs at) u.patterns)
 
-each_of : {X : Type 0} (P : X → Type 0) (xs : List X) → AllByRecursion P xs → (x : X) → Among x xs → P x
+pub each_of : {X : Type 0} (P : X → Type 0) (xs : List X) → AllByRecursion P xs → (x : X) → Among x xs → P x
 each_of P [] h x m = absurd m
 each_of P (y ∷ ys) h x (inl e) = subst P e h.0
 each_of P (y ∷ ys) h x (inr m) = each_of P ys h.1 x m

@@ -1,2 +1,4 @@
 pub mod Branches
 pub mod Unions
+pub mod Uniting
+pub mod Reading

@@ -1,10 +1,12 @@
 //! Bound joins: several rows asked for in one text.
 //!
-//! So far the laws of one branch, and of what several members have for it; each is the contract of a function that does nothing.
+//! So far the laws of one branch, of reading an answer's rows, and of uniting what members have; each is the contract of a function that does nothing.
 #![tactic(auto)]
 
 ghost use Rattle.fx_bound.specs.Branches.{BranchTellsItsRow, HopelessBranchHasNone};
+ghost use Rattle.fx_bound.specs.Reading.{AnswerTellsBranches};
 ghost use Rattle.fx_bound.specs.Unions.{MembersHaveTheUnion};
+ghost use Rattle.fx_bound.specs.Uniting.{UnitedIsTheStep};
 
 /// The solutions of a branch over a graph tell what its row merges to with each solution of the unit's patterns that it agrees with
 /// and on which the unit's filters hold, in their order.
@@ -17,7 +19,19 @@ pub fn hopeless_branch_has_none()
     ensures { HopelessBranchHasNone }
 {}
 
+/// The rows of an answer, in any order, that are those of the branches of at most 64 rows are read without a fault, and tell exactly
+/// what the graph has for each branch.
+pub fn answer_tells_branches()
+    ensures { AnswerTellsBranches }
+{}
+
 /// Where a unit is sound over graphs, what its members have beside a row, each solution once, is what the union of the graphs has.
 pub fn members_have_the_union()
     ensures { MembersHaveTheUnion }
+{}
+
+/// Where a unit is sound over graphs, what its members have for the branches of rows unites to what the unit makes of the rows over the
+/// union of the graphs.
+pub fn united_is_the_step()
+    ensures { UnitedIsTheStep }
 {}
