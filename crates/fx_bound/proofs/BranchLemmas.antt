@@ -140,7 +140,7 @@ module _ (rename : List ℕ → List ℕ) (names : List (List ℕ)) (apart : Tel
 
 -- ---- what is told is the solution
 
-value_rises : (s : Bindings) (name : List ℕ) (o : Option Term) → IsTrue (rises s) → IsTrue (rises (with_value s name o))
+pub value_rises : (s : Bindings) (name : List ℕ) (o : Option Term) → IsTrue (rises s) → IsTrue (rises (with_value s name o))
 value_rises s name None up = up
 value_rises s name (Some t) up = rises_new s (name, t) up
 
@@ -210,7 +210,7 @@ told_is rename names apart row s t up h =
 
 module _ (rename : List ℕ → List ℕ) (row s t : Bindings) where
   -- each of the names has the term on the one side that it becomes on the other
-  abbrev AreTold : List (List ℕ) → Type 0
+  abbrev pub AreTold : List (List ℕ) → Type 0
   AreTold ns = AllByRecursion (λ n. term_of s n ≡ option_or (term_of row n) (term_of t (rename n))) ns
 
   in_front : (xs ys : List (List ℕ)) → AreTold (xs ++ ys) → AreTold xs
@@ -301,7 +301,7 @@ module _ (rename : List ℕ → List ℕ) (row s t : Bindings) where
   value_kept : (e : Expr) → IsKept e
   value_kept = ind-Expr IsKept (λ x y same. subst (λ (z : Expr-F Expr). IsKept (roll-Expr z)) same (layer_kept y))
 
-  holds_kept : (es : List Expr) → AllByRecursion (λ e. AreTold (expr_names e)) es → holds (map bound es) t ≡ holds es s
+  pub holds_kept : (es : List Expr) → AllByRecursion (λ e. AreTold (expr_names e)) es → holds (map bound es) t ≡ holds es s
   unfolding holds
   holds_kept [] h = refl
   holds_kept (e ∷ es) h =

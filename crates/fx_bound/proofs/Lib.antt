@@ -3,3 +3,4 @@ pub mod UnionLemmas
 pub mod UniteLemmas
 pub mod NamingLemmas
 pub mod ReadingLemmas
+pub mod BatchLemmas

@@ -130,7 +130,7 @@ once_left rename row names name = same_tests (is_among (left rename row names) n
 
 -- ---- rows that bind just the columns of a branch
 
-abbrev BindsJust : List (List ℕ) → Bindings → Type 0
+abbrev pub BindsJust : List (List ℕ) → Bindings → Type 0
 BindsJust columns row = (name : List ℕ) → is_some (term_of row name) ≡ is_among columns name
 
 module _ (graph : List Triple) (u : unit.Unit) (b : Place) where
@@ -145,7 +145,7 @@ module _ (graph : List Triple) (u : unit.Unit) (b : Place) where
       ∙ ap (λ (v : List (List ℕ)). is_among v name) (variables_left (renamed u b.number) b.row.solution u.patterns)
       ∙ once_left (renamed u b.number) b.row.solution (variables u.patterns) name
 
-  solution_rises : (s : Bindings) → solved s → IsTrue (rises s)
+  pub solution_rises : (s : Bindings) → solved s → IsTrue (rises s)
   solution_rises s m =
       let qs = map (bound_pattern (renamed u b.number) b.row.solution) u.patterns in
       let k = in_kept (holds (map (bound_expr (renamed u b.number) b.row.solution) u.filters)) s (bgp graph qs) m in
@@ -183,7 +183,7 @@ map_none : (rename : List ℕ → List ℕ) (names : List (List ℕ)) → map re
 map_none rename [] h = refl
 map_none rename (n ∷ ns) h = cc
 
-row_binds : (graph : List Triple) (u : unit.Unit) (b : Place) (s : Bindings) → Among s (branch_solutions graph u b) → BindsJust (columns_of u b) (checked_by b.number (free_names u b.row.solution) s)
+pub row_binds : (graph : List Triple) (u : unit.Unit) (b : Place) (s : Bindings) → Among s (branch_solutions graph u b) → BindsJust (columns_of u b) (checked_by b.number (free_names u b.row.solution) s)
 row_binds graph u b s m =
     let left = map (renamed u b.number) (free_names u b.row.solution) in
     columns_bound b.number left left s (solution_rises graph u b s m) refl (solution_binds graph u b s m) (free_names u b.row.solution) (map_none (renamed u b.number) (free_names u b.row.solution)) (ap (map (renamed u b.number)))
@@ -236,7 +236,7 @@ module _ (u : unit.Unit) (short : length (unit_names u) < 2 ^ 64) where
 
 -- ---- one row is read
 
-found_some : (es : Bindings) (e : List ℕ × Term) → Among e es → is_some (term_of es e.0) ≡ true
+pub found_some : (es : Bindings) (e : List ℕ × Term) → Among e es → is_some (term_of es e.0) ≡ true
 found_some [] e m = absurd m
 found_some (f ∷ fs) e m = pick (is_eq (text_cmp e.0 f.0)) refl m (found_some fs e)
   where
@@ -291,7 +291,7 @@ one_bound row (n ∷ ns) e = pick (is_some (term_of row n)) refl e (one_bound ro
     pick false f g later = let x = later g in (x.0, inr x.1, x.2)
 
 module _ (u : unit.Unit) (rows : List Row) (few : length rows ≤ 64) (short : length (unit_names u) < 2 ^ 64) where
-  low : (b : Place) → Among b (branches u rows) → b.number < 2 ^ 64
+  pub low : (b : Place) → Among b (branches u rows) → b.number < 2 ^ 64
   low b m =
       let k = in_kept (is_worth_asking u) b (places_from 0 rows) m in
       let h = number_below 0 rows b k.0 in
@@ -340,7 +340,7 @@ told_alike rename xs ys row t up same =
     same_entries text_cmp texts_total exact_bytes (told rename xs row t) (told rename ys row t) (to_T (rises (told rename xs row t)) (told_rises rename xs row t up)) (to_T (rises (told rename ys row t)) (told_rises rename ys row t up))
     (λ n. told_term rename xs row t n ∙ ap (λ (b : Bool). cond b (option_or (term_of row n) (term_of t (rename n))) (term_of row n)) (same n) ∙ sym (told_term rename ys row t n))
 
-no_free : (names : List (List ℕ)) (row : Bindings) → filter (λ n. is_none (term_of row n)) names ≡ [] → (n : List ℕ) → Among n names → is_none (term_of row n) ≡ false
+pub no_free : (names : List (List ℕ)) (row : Bindings) → filter (λ n. is_none (term_of row n)) names ≡ [] → (n : List ℕ) → Among n names → is_none (term_of row n) ≡ false
 no_free names row e n m = by (is_none (term_of row n)) refl
   where
     by : (b : Bool) → is_none (term_of row n) ≡ b → is_none (term_of row n) ≡ false

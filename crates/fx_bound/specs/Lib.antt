@@ -2,3 +2,4 @@ pub mod Branches
 pub mod Unions
 pub mod Uniting
 pub mod Reading
+pub mod Batches

@@ -1,8 +1,10 @@
 //! Bound joins: several rows asked for in one text.
 //!
-//! So far the laws of one branch, of reading an answer's rows, and of uniting what members have; each is the contract of a function that does nothing.
+//! So far the laws of one branch, of a batch's answer and how its rows are read, and of uniting what members have; each is the contract of a
+//! function that does nothing.
 #![tactic(auto)]
 
+ghost use Rattle.fx_bound.specs.Batches.{BatchHasTheRows, BatchIsTheStep};
 ghost use Rattle.fx_bound.specs.Branches.{BranchTellsItsRow, HopelessBranchHasNone};
 ghost use Rattle.fx_bound.specs.Reading.{AnswerTellsBranches};
 ghost use Rattle.fx_bound.specs.Unions.{MembersHaveTheUnion};
@@ -17,6 +19,11 @@ pub fn branch_tells_its_row()
 /// Where a row puts a literal in the place of a subject or of a predicate, it merges to nothing, so its branch may be left out.
 pub fn hopeless_branch_has_none()
     ensures { HopelessBranchHasNone }
+{}
+
+/// The answer of a batch's query over a graph is a table of the rows of its branches, in some order.
+pub fn batch_has_the_rows()
+    ensures { BatchHasTheRows }
 {}
 
 /// The rows of an answer, in any order, that are those of the branches of at most 64 rows are read without a fault, and tell exactly
@@ -34,4 +41,10 @@ pub fn members_have_the_union()
 /// union of the graphs.
 pub fn united_is_the_step()
     ensures { UnitedIsTheStep }
+{}
+
+/// Where a unit is sound over graphs, the answers of its members to the batch of at most 64 rows, each in any order, are read without a
+/// fault and unite to what the unit makes of the rows over the union of the graphs.
+pub fn batch_is_the_step()
+    ensures { BatchIsTheStep }
 {}
