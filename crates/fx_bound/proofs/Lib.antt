@@ -4,3 +4,5 @@ pub mod UniteLemmas
 pub mod NamingLemmas
 pub mod ReadingLemmas
 pub mod BatchLemmas
+pub mod MeasureLemmas
+pub mod WordLemmas

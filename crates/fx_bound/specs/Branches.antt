@@ -9,10 +9,12 @@ use Rattle.fx_terms.specs.declared.patterns.Pattern.{Pattern}
 use Rattle.fx_terms.specs.declared.patterns.PatternTerm.{PatternTerm}
 use Rattle.fx_terms.specs.declared.patterns.PatternTerm.TheVariants.{Variable, Constant}
 use Rattle.fx_algebra.specs.BasicGraphPatterns.{bgp, variables}
+use Rattle.fx_algebra.specs.Measures.{Measured, condition_nest, measured}
 use Rattle.fx_algebra.specs.Operators.{filtered, merges, with_value}
+use Rattle.fx_algebra.specs.Printed.{Word, fixed, variable, term, number, condition, printed}
 use Rattle.fx_algebra.specs.Scopes.{is_among}
 use Rattle.fx_algebra.specs.Solutions.{Bindings, rises, term_of}
-use Rattle.fx_algebra.specs.Units.{is_covered}
+use Rattle.fx_algebra.specs.Units.{calls_bound, is_covered}
 use Rattle.fx_algebra.specs.declared.expressions.Expr.{Expr, Expr-F, fold-Expr, roll-Expr}
 
 -- ---- a row's terms in their places
@@ -51,6 +53,19 @@ bound_step rename row (Expr-F.Call f args) = roll-Expr (Expr-F.Call f args)
 abbrev pub bound_expr : (List ℕ → List ℕ) → Bindings → Expr → Expr
 bound_expr rename row = fold-Expr Expr (bound_step rename row)
 
+-- ---- words
+
+abbrev pub word_by : (List ℕ → List ℕ) → List ℕ → Option Term → Word
+word_by rename name (Some t) = term t
+word_by rename name None = variable (rename name)
+
+-- a word with a row's terms in it
+abbrev pub bound_word : (List ℕ → List ℕ) → Bindings → Word → Word
+bound_word rename row (variable name) = word_by rename name (term_of row name)
+bound_word rename row (fixed text) = fixed text
+bound_word rename row (term t) = term t
+bound_word rename row (number n) = number n
+
 -- ---- what is told
 
 -- a row with the terms that a solution has under the other names of variables, where the row has none
@@ -83,6 +98,18 @@ BranchTellsItsRow = (graph : List Triple) (ps : List Pattern) (es : List Expr) (
     → TellsApart rename (variables ps)
     → All (λ e. is_covered ps e ≡ true) es
     → map (told rename (variables ps) row) (filtered (map (bound_expr rename row) es) (bgp graph (map (bound_pattern rename row) ps))) ≡ filtered es (merges (bgp graph ps) row)
+
+-- a row's terms open no bracket in an expression without BOUND, and the grammar has it as before
+pub record IsOfOneMeasure (m n : Measured) : Type 0 where
+  pub good : m.good ≡ n.good
+  pub nest : condition_nest m ≡ condition_nest n
+
+abbrev pub BoundKeepsTheMeasure : Type 0
+BoundKeepsTheMeasure = (rename : List ℕ → List ℕ) (row : Bindings) (e : Expr) → calls_bound e ≡ false → IsOfOneMeasure (measured (bound_expr rename row e)) (measured e)
+
+-- as a condition it is printed in the words that it had, with a term or another name in the place of each variable
+abbrev pub BoundHasTheWords : Type 0
+BoundHasTheWords = (rename : List ℕ → List ℕ) (row : Bindings) (e : Expr) → condition (printed (bound_expr rename row e)) ≡ map (bound_word rename row) (condition (printed e))
 
 -- where a literal comes to stand as a subject or a predicate, there is nothing to tell: so such a branch may be left out
 abbrev pub HopelessBranchHasNone : Type 0

@@ -5,7 +5,7 @@
 #![tactic(auto)]
 
 ghost use Rattle.fx_bound.specs.Batches.{BatchHasTheRows, BatchIsTheStep};
-ghost use Rattle.fx_bound.specs.Branches.{BranchTellsItsRow, HopelessBranchHasNone};
+ghost use Rattle.fx_bound.specs.Branches.{BoundHasTheWords, BoundKeepsTheMeasure, BranchTellsItsRow, HopelessBranchHasNone};
 ghost use Rattle.fx_bound.specs.Reading.{AnswerTellsBranches};
 ghost use Rattle.fx_bound.specs.Unions.{MembersHaveTheUnion};
 ghost use Rattle.fx_bound.specs.Uniting.{UnitedIsTheStep};
@@ -19,6 +19,16 @@ pub fn branch_tells_its_row()
 /// Where a row puts a literal in the place of a subject or of a predicate, it merges to nothing, so its branch may be left out.
 pub fn hopeless_branch_has_none()
     ensures { HopelessBranchHasNone }
+{}
+
+/// A row's terms in an expression without BOUND open no bracket in its text, and the grammar has it as before.
+pub fn bound_keeps_the_measure()
+    ensures { BoundKeepsTheMeasure }
+{}
+
+/// A condition with a row's terms in it is printed in the words that it had, with a term or another name in the place of each variable.
+pub fn bound_has_the_words()
+    ensures { BoundHasTheWords }
 {}
 
 /// The answer of a batch's query over a graph is a table of the rows of its branches, in some order.
