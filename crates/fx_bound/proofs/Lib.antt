@@ -6,3 +6,4 @@ pub mod ReadingLemmas
 pub mod BatchLemmas
 pub mod MeasureLemmas
 pub mod WordLemmas
+pub mod TextNames

@@ -4,6 +4,7 @@ use Rattle.std.specs.List.{flat_map, list_all, list_any}
 use Rattle.std.specs.Fmt.{decimal}
 use Rattle.std.specs.Ordering.{is_eq}
 use Rattle.std.proofs.Common.{suc}
+use Rattle.fx_terms.specs.Names.{IsName}
 use Rattle.fx_terms.specs.Texts.{text_cmp}
 use Rattle.fx_terms.specs.declared.triples.Triple.{Triple}
 use Rattle.fx_algebra.specs.BasicGraphPatterns.{bgp, variables}
@@ -95,7 +96,15 @@ read_bound u row (b ∷ c ∷ bs) = Err mixed
 abbrev pub read_row : unit.Unit → List Place → Bindings → Result Found RowFault
 read_row u bs row = if list_any (λ e. not (is_among (all_columns u bs) e.0)) row then Err foreign else read_bound u row (filter (λ b. binds_one (columns_of u b) row) bs)
 
--- ---- the law
+-- ---- laws
+
+-- each column is a name
+pub record AreColumnNames (variable branch : ℕ) : Type 0 where
+  pub sent : IsName (sent_name variable branch)
+  pub check : IsName (check_name branch)
+
+abbrev pub ColumnsAreNames : Type 0
+ColumnsAreNames = (variable branch : ℕ) → variable < 2 ^ 64 → branch < 2 ^ 64 → AreColumnNames variable branch
 
 -- an answer's rows are read, each as what it tells of its branch
 pub record AreRead (u : unit.Unit) (bs : List Place) (graph : List Triple) (answer : List Bindings) : Type 0 where

@@ -6,7 +6,7 @@
 
 ghost use Rattle.fx_bound.specs.Batches.{BatchHasTheRows, BatchIsTheStep};
 ghost use Rattle.fx_bound.specs.Branches.{BoundHasTheWords, BoundKeepsTheMeasure, BranchTellsItsRow, HopelessBranchHasNone};
-ghost use Rattle.fx_bound.specs.Reading.{AnswerTellsBranches};
+ghost use Rattle.fx_bound.specs.Reading.{AnswerTellsBranches, ColumnsAreNames};
 ghost use Rattle.fx_bound.specs.Unions.{MembersHaveTheUnion};
 ghost use Rattle.fx_bound.specs.Uniting.{UnitedIsTheStep};
 
@@ -29,6 +29,11 @@ pub fn bound_keeps_the_measure()
 /// A condition with a row's terms in it is printed in the words that it had, with a term or another name in the place of each variable.
 pub fn bound_has_the_words()
     ensures { BoundHasTheWords }
+{}
+
+/// Each column of a batch is the name of a variable.
+pub fn columns_are_names()
+    ensures { ColumnsAreNames }
 {}
 
 /// The answer of a batch's query over a graph is a table of the rows of its branches, in some order.
