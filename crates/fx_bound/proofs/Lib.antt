@@ -7,3 +7,4 @@ pub mod BatchLemmas
 pub mod MeasureLemmas
 pub mod WordLemmas
 pub mod TextNames
+pub mod AcceptLemmas

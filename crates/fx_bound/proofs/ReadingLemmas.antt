@@ -94,10 +94,10 @@ module _ (rename : List ℕ → List ℕ) (row : Bindings) where
       ap (map rename) (filter-append (λ name. is_none (term_of row name)) xs ys)
       ∙ map-append rename (filter (λ name. is_none (term_of row name)) xs) (filter (λ name. is_none (term_of row name)) ys)
 
-  abbrev left : List (List ℕ) → List (List ℕ)
+  abbrev pub left : List (List ℕ) → List (List ℕ)
   left names = map rename (filter (λ name. is_none (term_of row name)) names)
 
-  pattern_left : (p : Pattern) → pattern_names (bound_pattern rename row p) ≡ left (pattern_names p)
+  pub pattern_left : (p : Pattern) → pattern_names (bound_pattern rename row p) ≡ left (pattern_names p)
   pattern_left p =
       ap (λ (v : List (List ℕ)). v ++ (part_names (bound_part rename row p.predicate) ++ part_names (bound_part rename row p.object))) (part_left p.subject)
       ∙ ap (λ (v : List (List ℕ)). left (part_names p.subject) ++ (v ++ part_names (bound_part rename row p.object))) (part_left p.predicate)
@@ -200,7 +200,7 @@ number_below n (r ∷ rows) b (inr m) = let low = number_below (suc n) rows b m 
 
 module _ (u : unit.Unit) (short : length (unit_names u) < 2 ^ 64) where
   -- a column is the other name of a variable, or the one of a branch that has none
-  abbrev IsColumn : ℕ → List ℕ → Type 0
+  abbrev pub IsColumn : ℕ → List ℕ → Type 0
   IsColumn number column = ((n : List ℕ) × (is_among (unit_names u) n ≡ true) × (renamed u number n ≡ column)) ⊎ (check_name number ≡ column)
 
   column_by : (number : ℕ) (free columns : List (List ℕ)) → columns ≡ map (renamed u number) free → ((n : List ℕ) → Among n free → is_among (unit_names u) n ≡ true) → (column : List ℕ) → Among column (columns_by number columns) → IsColumn number column
@@ -210,12 +210,12 @@ module _ (u : unit.Unit) (short : length (unit_names u) < 2 ^ 64) where
       let a = among_from_map (renamed u number) column free (subst (Among column) e m) in
       inl (a.0, f a.0 a.1, a.2)
 
-  is_column : (b : Place) (column : List ℕ) → Among column (columns_of u b) → IsColumn b.number column
+  pub is_column : (b : Place) (column : List ℕ) → Among column (columns_of u b) → IsColumn b.number column
   is_column b column m =
       column_by b.number (free_names u b.row.solution) (map (renamed u b.number) (free_names u b.row.solution)) refl
       (λ n k. test_from (unit_names u) n (in_kept (λ name. is_none (term_of b.row.solution name)) n (unit_names u) k).0) column m
 
-  one_number : (i l : ℕ) → i < 2 ^ 64 → l < 2 ^ 64 → (column : List ℕ) → IsColumn i column → IsColumn l column → i ≡ l
+  pub one_number : (i l : ℕ) → i < 2 ^ 64 → l < 2 ^ 64 → (column : List ℕ) → IsColumn i column → IsColumn l column → i ≡ l
   one_number i l low high column (inl a) (inl b) =
       (sent_apart (place_of (unit_names u) a.0) i (place_of (unit_names u) b.0) l (near a.0 a.1) low (near b.0 b.1) high (a.2 ∙ sym b.2)).1
     where
@@ -269,7 +269,7 @@ alone_passes p (c ∷ cs) b m passes only apart = by (p c) refl m (λ n. alone_p
     by false e (inl same) f = let two : true ≡ false = sym passes ∙ ap p (sym same) ∙ e in absurd (cc)
     by false e (inr n) f = f n
 
-once_kept : {X : Type 0} (p : X → Bool) (xs : List X) → IsOnce xs → IsOnce (filter p xs)
+pub once_kept : {X : Type 0} (p : X → Bool) (xs : List X) → IsOnce xs → IsOnce (filter p xs)
 once_kept p [] h = tt
 once_kept p (x ∷ xs) h = by (p x) (once_kept p xs h.1)
   where
@@ -277,7 +277,7 @@ once_kept p (x ∷ xs) h = by (p x) (once_kept p xs h.1)
     by true k = ((λ m. h.0 (in_kept p x xs m).0), k)
     by false k = k
 
-places_once : (n : ℕ) (rows : List Row) → IsOnce (places_from n rows)
+pub places_once : (n : ℕ) (rows : List Row) → IsOnce (places_from n rows)
 places_once n [] = tt
 places_once n (r ∷ rows) = ((λ m. let low = number_above (suc n) rows (record { number = n; row = r }) m in absurd (omega (arith, low))), places_once (suc n) rows)
 

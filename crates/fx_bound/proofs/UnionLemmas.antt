@@ -63,7 +63,7 @@ once_kept p (x ∷ xs) h = by (p x) (once_kept p xs h.1)
     by true k = ((λ m. h.0 (in_kept p x xs m).0), k)
     by false k = k
 
-once_mapped : {X Y : Type 0} (f : X → Y) (xs : List X) → ((a b : X) → Among a xs → Among b xs → f a ≡ f b → a ≡ b) → IsOnce xs → IsOnce (map f xs)
+pub once_mapped : {X Y : Type 0} (f : X → Y) (xs : List X) → ((a b : X) → Among a xs → Among b xs → f a ≡ f b → a ≡ b) → IsOnce xs → IsOnce (map f xs)
 once_mapped f [] apart h = tt
 once_mapped f (x ∷ xs) apart h = (
   (λ m. let a = among_from_map f (f x) xs m in h.0 (subst (λ v. Among v xs) (apart a.0 x (inr a.1) (inl refl) a.2) a.1)),

@@ -3,3 +3,4 @@ pub mod Unions
 pub mod Uniting
 pub mod Reading
 pub mod Batches
+pub mod Texts

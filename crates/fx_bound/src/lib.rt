@@ -7,6 +7,7 @@
 ghost use Rattle.fx_bound.specs.Batches.{BatchHasTheRows, BatchIsTheStep};
 ghost use Rattle.fx_bound.specs.Branches.{BoundHasTheWords, BoundKeepsTheMeasure, BranchTellsItsRow, HopelessBranchHasNone};
 ghost use Rattle.fx_bound.specs.Reading.{AnswerTellsBranches, ColumnsAreNames};
+ghost use Rattle.fx_bound.specs.Texts.{BatchIsAccepted};
 ghost use Rattle.fx_bound.specs.Unions.{MembersHaveTheUnion};
 ghost use Rattle.fx_bound.specs.Uniting.{UnitedIsTheStep};
 
@@ -34,6 +35,11 @@ pub fn bound_has_the_words()
 /// Each column of a batch is the name of a variable.
 pub fn columns_are_names()
     ensures { ColumnsAreNames }
+{}
+
+/// The printed query of a batch of at most 64 rows, of which one at least is worth asking for, is accepted as that query.
+pub fn batch_is_accepted()
+    ensures { BatchIsAccepted }
 {}
 
 /// The answer of a batch's query over a graph is a table of the rows of its branches, in some order.
