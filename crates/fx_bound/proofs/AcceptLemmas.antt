@@ -43,7 +43,7 @@ use Rattle.fx_spelling.specs.Printable.{AreFine, AreNames, Held, IsFine, IsPart,
 use Rattle.fx_spelling.proofs.Columns.{fine_columns}
 use Rattle.fx_spelling.proofs.Saying.{fine_both}
 use Rattle.fx_spelling.proofs.Terms.{fine_triple}
-use Rattle.fx_bound.specs.Batches.{batch_query, branch_group, check_elements}
+use Rattle.fx_bound.specs.Batches.{batch_query, branch_elements, branch_group, check_elements}
 use Rattle.fx_bound.specs.Branches.{bound_expr, bound_part, bound_pattern, bound_word, is_hopeless, is_literal, part_by, word_by}
 use Rattle.fx_bound.specs.Reading.{all_columns, check_name, columns_by, columns_of, free_names, place_of, renamed, unit_names}
 use Rattle.fx_spelling.specs.Units.{IsFit, IsPushed}
@@ -51,7 +51,7 @@ use Rattle.fx_spelling.proofs.Columns.{names_both}
 use Rattle.fx_spelling.proofs.Queries.{printed_is_accepted}
 use Rattle.fx_grammar.specs.Accepted.{Accepted}
 use Rattle.fx_algebra.specs.Printed.{column_words, form_words, order_words, printed_query, query_words}
-use Rattle.fx_bound.specs.Texts.{BatchIsAccepted, HasTerms, IsSpelled}
+use Rattle.fx_bound.specs.Texts.{BatchHasTheWords, BatchIsAccepted, HasTerms, IsSpelled, branch_words, check_words}
 use Rattle.fx_bound.specs.Uniting.{Place, branches, is_worth_asking, places_from}
 use Rattle.fx_bound.proofs.NamingLemmas.{among_from_test, among_once, place_apart, place_low, sent_apart, test_from}
 use Rattle.fx_bound.proofs.ReadingLemmas.{is_column, left, low, no_free, once_kept, one_number, pattern_left, places_once}
@@ -591,3 +591,66 @@ row_terms rows h = each rows (recursion_from_All (λ (r : Row). HasTerms r.solut
 
 pub batch_is_accepted : BatchIsAccepted
 batch_is_accepted u rows fit spelled terms few short asked = accepted u rows fit spelled (row_terms rows terms) few short asked
+
+-- ---- the words of the whole
+
+flat_words : (xs ys : List Element) → flat_map (λ words. words) (map element_words (xs ++ ys)) ≡ flat_map (λ words. words) (map element_words xs) ++ flat_map (λ words. words) (map element_words ys)
+flat_words [] ys = refl
+flat_words (x ∷ xs) ys =
+    ap (λ (v : List Word). element_words x ++ v) (flat_words xs ys) ∙ sym (append_assoc (element_words x) (flat_map (λ words. words) (map element_words xs)) (flat_map (λ words. words) (map element_words ys)))
+
+module _ (u : unit.Unit) where
+  triples_in_words : (b : Place) (ps : List Pattern)
+      → flat_map (λ words. words) (map element_words (map (λ p. element.Triple (bound_pattern (renamed u b.number) b.row.solution p)) ps)) ≡ flat_map (λ p. pattern_words (bound_pattern (renamed u b.number) b.row.solution p)) ps
+  triples_in_words b [] = refl
+  triples_in_words b (p ∷ ps) =
+      ap (λ (v : List Word). v ++ flat_map (λ words. words) (map element_words (map (λ q. element.Triple (bound_pattern (renamed u b.number) b.row.solution q)) ps))) (triple_words (bound_pattern (renamed u b.number) b.row.solution p))
+      ∙ ap (λ (v : List Word). pattern_words (bound_pattern (renamed u b.number) b.row.solution p) ++ v) (triples_in_words b ps)
+
+  filters_in_words : (b : Place) (es : List Expr)
+      → flat_map (λ words. words) (map element_words (map (λ e. element.Filter (bound_expr (renamed u b.number) b.row.solution e)) es))
+      ≡ flat_map (λ e. fixed (codes "FILTER") ∷ map (bound_word (renamed u b.number) b.row.solution) (condition (printed e))) es
+  filters_in_words b [] = refl
+  filters_in_words b (e ∷ es) =
+      let x = bound_expr (renamed u b.number) b.row.solution e in
+      ap (λ (v : List Word). v ++ flat_map (λ words. words) (map element_words (map (λ q. element.Filter (bound_expr (renamed u b.number) b.row.solution q)) es)))
+      (filter_words x ∙ ap (λ (v : List Word). fixed (codes "FILTER") ∷ v) (bound_has_the_words (renamed u b.number) b.row.solution e))
+      ∙ ap (λ (v : List Word). (fixed (codes "FILTER") ∷ map (bound_word (renamed u b.number) b.row.solution) (condition (printed e))) ++ v) (filters_in_words b es)
+
+  check_in_words : (b : Place) (free : List (List ℕ)) → flat_map (λ words. words) (map element_words (check_elements b.number free)) ≡ check_words b.number free
+  check_in_words b [] = ap (λ (v : List Word). v ++ []) (bind_words (integer (pos 1)) (check_name b.number))
+  check_in_words b (n ∷ ns) = refl
+
+  branch_in_words : (b : Place) → group_words (branch_group u b) ≡ branch_words u b
+  branch_in_words b =
+      let triples = map (λ p. element.Triple (bound_pattern (renamed u b.number) b.row.solution p)) u.patterns in
+      let filters = map (λ e. element.Filter (bound_expr (renamed u b.number) b.row.solution e)) u.filters in
+      let last = check_elements b.number (free_names u b.row.solution) in
+      let inner : flat_map (λ words. words) (map element_words (triples ++ (filters ++ last)))
+      ≡ flat_map (λ p. pattern_words (bound_pattern (renamed u b.number) b.row.solution p)) u.patterns
+      ++ (flat_map (λ e. fixed (codes "FILTER") ∷ map (bound_word (renamed u b.number) b.row.solution) (condition (printed e))) u.filters ++ check_words b.number (free_names u b.row.solution)) =
+      flat_words triples (filters ++ last)
+      ∙ ap (λ (v : List Word). v ++ flat_map (λ words. words) (map element_words (filters ++ last))) (triples_in_words b u.patterns)
+      ∙ ap (λ (v : List Word). flat_map (λ p. pattern_words (bound_pattern (renamed u b.number) b.row.solution p)) u.patterns ++ v)
+      (flat_words filters last ∙ ap (λ (v : List Word). v ++ flat_map (λ words. words) (map element_words last)) (filters_in_words b u.filters)
+      ∙ ap (λ (v : List Word). flat_map (λ e. fixed (codes "FILTER") ∷ map (bound_word (renamed u b.number) b.row.solution) (condition (printed e))) u.filters ++ v) (check_in_words b (free_names u b.row.solution))) in
+      fold-roll-Group (List Word) (List Word) element_step group_step (record { elements = branch_elements u b })
+      ∙ ap (λ (v : List Word). fixed (codes "{") ∷ (v ++ fixed (codes "}") ∷ [])) inner
+
+  branches_in_words : (bs : List Place) → map group_words (map (branch_group u) bs) ≡ map (branch_words u) bs
+  branches_in_words [] = refl
+  branches_in_words (b ∷ bs) = ap (λ (v : List Word). v ∷ map group_words (map (branch_group u) bs)) (branch_in_words b) ∙ ap (λ (v : List (List Word)). branch_words u b ∷ v) (branches_in_words bs)
+
+  union_in_words : (bs : List Place) → group_words (roll-Group (record { elements = element.Union (map (branch_group u) bs) ∷ [] })) ≡ fixed (codes "{") ∷ (separated (fixed (codes "UNION")) (map (branch_words u) bs) ++ fixed (codes "}") ∷ [])
+  union_in_words bs =
+      fold-roll-Group (List Word) (List Word) element_step group_step (record { elements = element.Union (map (branch_group u) bs) ∷ [] })
+      ∙ ap (λ (v : List Word). fixed (codes "{") ∷ ((v ++ []) ++ fixed (codes "}") ∷ [])) (union_words (map (branch_group u) bs) ∙ ap (separated (fixed (codes "UNION"))) (branches_in_words bs))
+      ∙ ap (λ (v : List Word). fixed (codes "{") ∷ (v ++ fixed (codes "}") ∷ [])) (append-nil (separated (fixed (codes "UNION")) (map (branch_words u) bs)))
+
+pub batch_has_the_words : BatchHasTheWords
+unfolding query_words form_words order_words
+batch_has_the_words u bs =
+    let group = group_words (roll-Group (record { elements = element.Union (map (branch_group u) bs) ∷ [] })) in
+    ap (λ (v : List Word). (fixed (codes "SELECT") ∷ (column_words (all_columns u bs) ++ fixed (codes "WHERE") ∷ [])) ++ v) (append-nil group ∙ union_in_words u bs)
+    ∙ ap (λ (v : List Word). fixed (codes "SELECT") ∷ v)
+    (append_assoc (column_words (all_columns u bs)) (fixed (codes "WHERE") ∷ []) (fixed (codes "{") ∷ (separated (fixed (codes "UNION")) (map (branch_words u) bs) ++ fixed (codes "}") ∷ [])))

@@ -8,3 +8,4 @@ pub mod MeasureLemmas
 pub mod WordLemmas
 pub mod TextNames
 pub mod AcceptLemmas
+pub mod ExampleLemmas

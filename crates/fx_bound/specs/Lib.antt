@@ -4,3 +4,4 @@ pub mod Uniting
 pub mod Reading
 pub mod Batches
 pub mod Texts
+pub mod Examples

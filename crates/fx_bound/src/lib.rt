@@ -1,13 +1,14 @@
 //! Bound joins: several rows asked for in one text.
 //!
-//! So far the laws of one branch, of a batch's answer and how its rows are read, and of uniting what members have; each is the contract of a
+//! So far the laws of one branch, of a batch's text, of its answer and how its rows are read, and of uniting what members have; each is the contract of a
 //! function that does nothing.
 #![tactic(auto)]
 
 ghost use Rattle.fx_bound.specs.Batches.{BatchHasTheRows, BatchIsTheStep};
 ghost use Rattle.fx_bound.specs.Branches.{BoundHasTheWords, BoundKeepsTheMeasure, BranchTellsItsRow, HopelessBranchHasNone};
+ghost use Rattle.fx_bound.specs.Examples.{TextsAreWritten};
 ghost use Rattle.fx_bound.specs.Reading.{AnswerTellsBranches, ColumnsAreNames};
-ghost use Rattle.fx_bound.specs.Texts.{BatchIsAccepted};
+ghost use Rattle.fx_bound.specs.Texts.{BatchHasTheWords, BatchIsAccepted};
 ghost use Rattle.fx_bound.specs.Unions.{MembersHaveTheUnion};
 ghost use Rattle.fx_bound.specs.Uniting.{UnitedIsTheStep};
 
@@ -35,6 +36,16 @@ pub fn bound_has_the_words()
 /// Each column of a batch is the name of a variable.
 pub fn columns_are_names()
     ensures { ColumnsAreNames }
+{}
+
+/// The query of a batch is printed in the words of its branches: the unit's own, with a row's terms and other names in them.
+pub fn batch_has_the_words()
+    ensures { BatchHasTheWords }
+{}
+
+/// The texts of four batches are what is written out in `specs/Examples.antt`.
+pub fn texts_are_written()
+    ensures { TextsAreWritten }
 {}
 
 /// The printed query of a batch of at most 64 rows, of which one at least is worth asking for, is accepted as that query.
