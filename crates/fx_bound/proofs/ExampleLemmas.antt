@@ -1,4 +1,4 @@
--- The texts of the examples, by their words.
+-- The texts of the examples, by their words, and their rows.
 use Rattle.std.proofs.Common.{◌≡◌, ◌∙◌, ap, refl, ℕ, List, [], ◌∷◌, codes}
 use Rattle.std.specs.Fmt.{digits}
 use Rattle.fx_algebra.specs.Printed.{joined}
@@ -6,7 +6,7 @@ use Rattle.fx_algebra.specs.Scopes.{with_name}
 use Rattle.fx_algebra.specs.Values.{integer}
 use Rattle.fx_algebra.specs.declared.units.Row.{Row}
 use Rattle.fx_algebra.specs.declared.units.Unit as unit
-use Rattle.fx_bound.specs.Examples.{TextsAreWritten, linked, of_patterns, with_terms, iri, text}
+use Rattle.fx_bound.specs.Examples.{RowsAreRead, TextsAreWritten, linked, of_patterns, with_terms, iri, text}
 use Rattle.fx_bound.specs.Texts.{batch_words}
 use Rattle.fx_bound.specs.Uniting.{branches}
 use Rattle.fx_bound.proofs.AcceptLemmas.{batch_has_the_words}
@@ -25,3 +25,7 @@ texts_are_written = record {
   whole = by_words (of_patterns (linked (codes "x") (codes "p") (codes "y") ∷ [])) (with_terms ((codes "x", iri (codes "a")) ∷ (codes "y", iri (codes "b")) ∷ []) ∷ [])
       (codes "SELECT ?k_0 WHERE { { <http://e/a> <http://e/p> <http://e/b> . BIND ( \"1\"^^<http://www.w3.org/2001/XMLSchema#integer> AS ?k_0 ) } }") refl;
 }
+
+pub rows_are_read : RowsAreRead
+unfolding with_name digits integer
+rows_are_read = record { told_by_second = refl; of_two_branches = refl; of_none = refl; unasked = refl; unasked_first = refl; of_half = refl; of_all = refl }

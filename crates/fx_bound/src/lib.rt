@@ -6,7 +6,7 @@
 
 ghost use Rattle.fx_bound.specs.Batches.{BatchHasTheRows, BatchIsTheStep};
 ghost use Rattle.fx_bound.specs.Branches.{BoundHasTheWords, BoundKeepsTheMeasure, BranchTellsItsRow, HopelessBranchHasNone};
-ghost use Rattle.fx_bound.specs.Examples.{TextsAreWritten};
+ghost use Rattle.fx_bound.specs.Examples.{RowsAreRead, TextsAreWritten};
 ghost use Rattle.fx_bound.specs.Reading.{AnswerTellsBranches, ColumnsAreNames};
 ghost use Rattle.fx_bound.specs.Texts.{BatchHasTheWords, BatchIsAccepted};
 ghost use Rattle.fx_bound.specs.Unions.{MembersHaveTheUnion};
@@ -46,6 +46,11 @@ pub fn batch_has_the_words()
 /// The texts of four batches are what is written out in `specs/Examples.antt`.
 pub fn texts_are_written()
     ensures { TextsAreWritten }
+{}
+
+/// Seven rows of answers tell what is written out in `specs/Examples.antt`, or have the fault that stands there.
+pub fn rows_are_read()
+    ensures { RowsAreRead }
 {}
 
 /// The printed query of a batch of at most 64 rows, of which one at least is worth asking for, is accepted as that query.
