@@ -3,6 +3,7 @@ use Rattle.std.proofs.Common.{◌≡◌, ◌∙◌, ap, sym, subst, refl, inl, i
 use Rattle.std.specs.Prelude.{All, nat_le, pos, is_none}
 use Rattle.std.specs.List.{AllByRecursion, flat_map, list_all}
 use Rattle.std.specs.Ordering.{is_eq}
+use Rattle.std.proofs.lemmas.Bool.{and_parts, or_left, or_parts, or_right}
 use Rattle.std.proofs.lemmas.Bool.Decides.{nat_tests}
 use Rattle.std.proofs.lemmas.List.Elements.{recursion_from_All}
 use Rattle.std.proofs.lemmas.List.Folds.{list_any-append}
@@ -54,9 +55,9 @@ use Rattle.fx_algebra.specs.Printed.{column_words, form_words, order_words, prin
 use Rattle.fx_bound.specs.Texts.{BatchHasTheWords, BatchIsAccepted, HasTerms, IsSpelled, branch_words, check_words}
 use Rattle.fx_bound.specs.Uniting.{Place, branches, is_worth_asking, places_from}
 use Rattle.fx_bound.proofs.NamingLemmas.{among_from_test, among_once, place_apart, place_low, sent_apart, test_from}
-use Rattle.fx_bound.proofs.ReadingLemmas.{is_column, left, low, no_free, once_kept, one_number, pattern_left, places_once}
+use Rattle.fx_bound.proofs.ReadingLemmas.{is_column, left, low, no_free, one_number, pattern_left, places_once}
 use Rattle.fx_bound.proofs.TextNames.{columns_are_names}
-use Rattle.fx_bound.proofs.UnionLemmas.{in_kept, once_mapped}
+use Rattle.fx_bound.proofs.UnionLemmas.{in_kept, once_kept, once_mapped}
 use Rattle.fx_bound.proofs.UniteLemmas.{its_row, one_place}
 use Rattle.fx_bound.proofs.WordLemmas.{bound_has_the_words}
 use Rattle.fx_bound.proofs.MeasureLemmas.{bound_keeps_the_measure}
@@ -126,18 +127,10 @@ module _ (u : unit.Unit) (short : length (unit_names u) < 2 ^ 64) (b : Place) (f
 below : (c : ℕ) → nat_le c 127 ≡ true → c < 128
 below c h = grind (arith, nat_tests)
 
-first_true : (b c : Bool) → (b && c) ≡ true → b ≡ true
-first_true true c h = refl
-first_true false c h = cc
-
-second_true : (b c : Bool) → (b && c) ≡ true → c ≡ true
-second_true true c h = h
-second_true false c h = cc
-
 all_ascii : (text : List ℕ) → list_all (λ c. nat_le c 127) text ≡ true → (i : ℕ) → get_or text i 0 < 128
 all_ascii [] h i = omega arith
-all_ascii (c ∷ cs) h zero = below c (first_true (nat_le c 127) (list_all (λ d. nat_le d 127) cs) h)
-all_ascii (c ∷ cs) h (suc i) = all_ascii cs (second_true (nat_le c 127) (list_all (λ d. nat_le d 127) cs) h) i
+all_ascii (c ∷ cs) h zero = below c (and_parts (nat_le c 127) (list_all (λ d. nat_le d 127) cs) h).0
+all_ascii (c ∷ cs) h (suc i) = all_ascii cs (and_parts (nat_le c 127) (list_all (λ d. nat_le d 127) cs) h).1 i
 
 integer_iri : IsIri xsd_integer
 integer_iri = record { utf8 = IsUtf8-from_ascii xsd_integer (all_ascii xsd_integer refl); iri = refl }
@@ -268,18 +261,6 @@ once_fold front (n ∷ ns) h = once_fold (cond (is_among front n) front (front +
         new x a (inl k) f = let two : true ≡ false = sym (test_from front n (subst (λ (v : List ℕ). Among v front) (sym k) a)) ∙ f in cc
         new x a (inr k) f = k
 
-none_either : (b c : Bool) → (b || c) ≡ false → (b ≡ false) × (c ≡ false)
-none_either true c h = cc
-none_either false c h = (refl, h)
-
-or_first : (b c : Bool) → b ≡ true → (b || c) ≡ true
-or_first true c h = refl
-or_first false c h = cc
-
-or_second : (b c : Bool) → c ≡ true → (b || c) ≡ true
-or_second true c h = refl
-or_second false c h = h
-
 -- ---- one branch
 
 module _ (u : unit.Unit) (fit : IsFit u) (spelled : IsSpelled u) (short : length (unit_names u) < 2 ^ 64) (b : Place) (few : b.number < 2 ^ 64) (terms : AllByRecursion (λ (e : List ℕ × Term). IsTerm e.1) b.row.solution) (asked : is_worth_asking u b ≡ true) where
@@ -290,8 +271,8 @@ module _ (u : unit.Unit) (fit : IsFit u) (spelled : IsSpelled u) (short : length
   not_hopeless : (ps : List Pattern) → is_hopeless (map (bound_pattern (λ name. name) b.row.solution) ps) ≡ false → AllByRecursion (λ p. is_literal (bound_part (λ name. name) b.row.solution p.predicate) ≡ false) ps
   not_hopeless [] h = tt
   not_hopeless (p ∷ ps) h =
-      let k = none_either (is_literal (bound_part (λ name. name) b.row.solution p.subject) || is_literal (bound_part (λ name. name) b.row.solution p.predicate)) (is_hopeless (map (bound_pattern (λ name. name) b.row.solution) ps)) h in
-      ((none_either (is_literal (bound_part (λ name. name) b.row.solution p.subject)) (is_literal (bound_part (λ name. name) b.row.solution p.predicate)) k.0).1, not_hopeless ps k.1)
+      let k = or_parts (is_literal (bound_part (λ name. name) b.row.solution p.subject) || is_literal (bound_part (λ name. name) b.row.solution p.predicate)) (is_hopeless (map (bound_pattern (λ name. name) b.row.solution) ps)) h in
+      ((or_parts (is_literal (bound_part (λ name. name) b.row.solution p.subject)) (is_literal (bound_part (λ name. name) b.row.solution p.predicate)) k.0).1, not_hopeless ps k.1)
 
   verbs : AllByRecursion (λ p. is_literal (bound_part (λ name. name) b.row.solution p.predicate) ≡ false) u.patterns
   verbs = not_hopeless u.patterns (turned (is_hopeless (map (bound_pattern (λ name. name) b.row.solution) u.patterns)) asked)
@@ -353,8 +334,8 @@ module _ (u : unit.Unit) (fit : IsFit u) (spelled : IsSpelled u) (short : length
 
   of_pushable : (e : Expr) → is_pushable e ≡ true → (calls_bound e ≡ false) × (condition_nest (measured e) ≤ 60)
   of_pushable e h =
-      let k = second_true (not (is_empty (expr_names e))) (not (calls_bound e) && nat_le (condition_nest (measured e)) 60) h in
-      (turned (calls_bound e) (first_true (not (calls_bound e)) (nat_le (condition_nest (measured e)) 60) k), low_enough (condition_nest (measured e)) (second_true (not (calls_bound e)) (nat_le (condition_nest (measured e)) 60) k))
+      let k = and_parts (not (calls_bound e)) (nat_le (condition_nest (measured e)) 60) (and_parts (not (is_empty (expr_names e))) (not (calls_bound e) && nat_le (condition_nest (measured e)) 60) h).1 in
+      (turned (calls_bound e) k.0, low_enough (condition_nest (measured e)) k.1)
     where
       turned : (v : Bool) → not v ≡ true → v ≡ false
       turned true h = cc
@@ -412,9 +393,9 @@ module _ (u : unit.Unit) (fit : IsFit u) (spelled : IsSpelled u) (short : length
       pattern_left (renamed u b.number) b.row.solution p
       ∙ none_left (pattern_names p)
       (λ n m. no_free (unit_names u) b.row.solution e n
-      (among_from_test (unit_names u) n (among_once (variables u.patterns) n ∙ f n (list_any-append (λ k. is_eq (text_cmp k n)) (pattern_names p) (variables ps) ∙ or_first (is_among (pattern_names p) n) (is_among (variables ps) n) (test_from (pattern_names p) n m))))) in (
+      (among_from_test (unit_names u) n (among_once (variables u.patterns) n ∙ f n (list_any-append (λ k. is_eq (text_cmp k n)) (pattern_names p) (variables ps) ∙ or_left (is_among (pattern_names p) n) (is_among (variables ps) n) (test_from (pattern_names p) n m))))) in (
         (ap (λ (h : Held). h.binds) is, ap (λ (h : Held). h.names) is ∙ none),
-        still_triples e ps (λ n k. f n (list_any-append (λ m. is_eq (text_cmp m n)) (pattern_names p) (variables ps) ∙ or_second (is_among (pattern_names p) n) (is_among (variables ps) n) k)),
+        still_triples e ps (λ n k. f n (list_any-append (λ m. is_eq (text_cmp m n)) (pattern_names p) (variables ps) ∙ or_right (is_among (pattern_names p) n) (is_among (variables ps) n) k)),
       )
 
   fresh_branch : (free : List (List ℕ)) → free_names u b.row.solution ≡ free

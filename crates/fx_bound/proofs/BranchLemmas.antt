@@ -9,6 +9,7 @@ use Rattle.std.proofs.lemmas.List.{map-append}
 use Rattle.std.proofs.lemmas.List.Elements.{recursion_from_All}
 use Rattle.std.proofs.lemmas.List.Folds.{list_any-append}
 use Rattle.std.proofs.lemmas.Map.Lookups.{exact_bytes}
+use Rattle.std.proofs.lemmas.Bool.{or_left, or_right}
 use Rattle.fx_terms.specs.Texts.{text_cmp, texts_total}
 use Rattle.fx_terms.specs.declared.terms.Term.{Term}
 use Rattle.fx_terms.specs.declared.terms.Term.TheVariants.{Iri, Literal}
@@ -371,27 +372,19 @@ module _ (rename : List ℕ → List ℕ) (names : List (List ℕ)) (apart : Tel
 
 -- ---- all names of patterns are among them
 
-or_first : (b c : Bool) → b ≡ true → (b || c) ≡ true
-or_first true c h = refl
-or_first false c h = cc
-
-or_second : (b c : Bool) → c ≡ true → (b || c) ≡ true
-or_second true c h = refl
-or_second false c h = h
-
 module _ (names : List (List ℕ)) where
   abbrev Holds : PatternTerm → Type 0
   Holds part = (n : List ℕ) → is_among (part_names part) n ≡ true → is_among names n ≡ true
 
 found_in : (xs ys : List (List ℕ)) (n : List ℕ) → is_among xs n ≡ true → is_among (xs ++ ys) n ≡ true
-found_in xs ys n h = list_any-append (λ m. is_eq (text_cmp m n)) xs ys ∙ or_first (is_among xs n) (is_among ys n) h
+found_in xs ys n h = list_any-append (λ m. is_eq (text_cmp m n)) xs ys ∙ or_left (is_among xs n) (is_among ys n) h
 
 found_behind : (xs ys : List (List ℕ)) (n : List ℕ) → is_among ys n ≡ true → is_among (xs ++ ys) n ≡ true
-found_behind xs ys n h = list_any-append (λ m. is_eq (text_cmp m n)) xs ys ∙ or_second (is_among xs n) (is_among ys n) h
+found_behind xs ys n h = list_any-append (λ m. is_eq (text_cmp m n)) xs ys ∙ or_right (is_among xs n) (is_among ys n) h
 
 module _ (rename : List ℕ → List ℕ) (names : List (List ℕ)) (apart : TellsApart rename names) (row : Bindings) where
   a_part : (part : PatternTerm) → ((n : List ℕ) → is_among (part_names part) n ≡ true → is_among names n ≡ true) → IsNamed rename names apart row part
-  a_part (Variable name) h = h name (or_first (is_eq (text_cmp name name)) false (eq_itself name))
+  a_part (Variable name) h = h name (or_left (is_eq (text_cmp name name)) false (eq_itself name))
   a_part (Constant t) h = tt
 
   all_named : (ps : List Pattern) → ((n : List ℕ) → is_among (variables ps) n ≡ true → is_among names n ≡ true) → (ts : List Triple) → AllByRecursion (λ c. IsNamed rename names apart row c.0) (all_parts ps ts)

@@ -36,7 +36,7 @@ use Rattle.fx_bound.specs.Unions.{beside}
 use Rattle.fx_bound.specs.Uniting.{Found, Place, branches, is_worth_asking, places_from, tells}
 use Rattle.fx_bound.proofs.BranchLemmas.{branch_tells_its_row, told_rises, told_term}
 use Rattle.fx_bound.proofs.NamingLemmas.{among_from_test, among_once, check_apart, place_apart, place_low, sent_apart, sent_is_no_check, test_from}
-use Rattle.fx_bound.proofs.UnionLemmas.{in_kept, kept_in}
+use Rattle.fx_bound.proofs.UnionLemmas.{in_kept, kept_in, once_kept}
 use Rattle.fx_bound.proofs.UniteLemmas.{all_covered, its_row, number_above, one_place, permuted}
 
 to_T : (b : Bool) → b ≡ true → T b
@@ -268,14 +268,6 @@ alone_passes p (c ∷ cs) b m passes only apart = by (p c) refl m (λ n. alone_p
         ap (λ (x : Place). x ∷ filter p cs) same ∙ ap (λ (ds : List Place). b ∷ ds) (none_stays p cs (λ d n. fails d n same (p d) refl))
     by false e (inl same) f = let two : true ≡ false = sym passes ∙ ap p (sym same) ∙ e in absurd (cc)
     by false e (inr n) f = f n
-
-pub once_kept : {X : Type 0} (p : X → Bool) (xs : List X) → IsOnce xs → IsOnce (filter p xs)
-once_kept p [] h = tt
-once_kept p (x ∷ xs) h = by (p x) (once_kept p xs h.1)
-  where
-    by : (b : Bool) → IsOnce (filter p xs) → IsOnce (cond b (x ∷ filter p xs) (filter p xs))
-    by true k = ((λ m. h.0 (in_kept p x xs m).0), k)
-    by false k = k
 
 pub places_once : (n : ℕ) (rows : List Row) → IsOnce (places_from n rows)
 places_once n [] = tt

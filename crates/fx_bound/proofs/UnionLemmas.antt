@@ -55,7 +55,7 @@ kept_in p x (y ∷ ys) (inr m) e = by (p y) (kept_in p x ys m e)
     by true n = inr n
     by false n = n
 
-once_kept : {X : Type 0} (p : X → Bool) (xs : List X) → IsOnce xs → IsOnce (filter p xs)
+pub once_kept : {X : Type 0} (p : X → Bool) (xs : List X) → IsOnce xs → IsOnce (filter p xs)
 once_kept p [] h = tt
 once_kept p (x ∷ xs) h = by (p x) (once_kept p xs h.1)
   where
