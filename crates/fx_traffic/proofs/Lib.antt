@@ -1,0 +1,4 @@
+pub mod SentLemmas
+pub mod GainLemmas
+pub mod CutLemmas
+pub mod NumberLemmas

@@ -1,0 +1,59 @@
+-- What is known of several wires before and after a call, each by its place among them.
+use Rattle.std.specs.Prelude.{◌≡◌, ℕ, ◌+◌, ◌≤◌, List, [], ◌∷◌, ◌++◌, Some, All, IsPermutation}
+use Rattle.std.specs.List.{sum_by}
+use Rattle.fx_terms.specs.declared.triples.Triple.{Triple}
+use Rattle.fx_wire.specs.Exchanges.{Exchange, IsAfter, Seen}
+
+-- how many faults they counted at an address, together
+abbrev pub faults_at : List Seen → List ℕ → ℕ
+faults_at wires address = sum_by (λ w. w.faults address) wires
+
+-- each tells this graph of an address
+abbrev pub Tell : List Seen → List ℕ → List Triple → Type 0
+Tell wires address graph = All (λ w. w.graph address ≡ Some graph) wires
+
+-- what the logs gained, one wire's part behind the other's
+abbrev pub HaveGained : List Seen → List Seen → List Exchange → Type 0
+HaveGained [] [] xs = xs ≡ []
+HaveGained [] (later ∷ laters) xs = ⊥
+HaveGained (wire ∷ wires) [] xs = ⊥
+HaveGained (wire ∷ wires) (later ∷ laters) xs = (own : List Exchange) × (rest : List Exchange) × (xs ≡ own ++ rest) × (later.log ≡ wire.log ++ own) × HaveGained wires laters rest
+
+-- what exchanges leave of wires
+abbrev pub AreAfter : List Seen → List Seen → Type 0
+AreAfter [] [] = Unit {0}
+AreAfter [] (later ∷ laters) = ⊥
+AreAfter (wire ∷ wires) [] = ⊥
+AreAfter (wire ∷ wires) (later ∷ laters) = IsAfter wire later × AreAfter wires laters
+
+-- ---- laws
+
+-- a call that does nothing
+abbrev pub NothingGained : Type 0
+NothingGained = (wires : List Seen) → HaveGained wires wires []
+
+-- one call after the other: what both gained, in some order
+pub record GainsOfBoth (before after : List Seen) (xs ys : List Exchange) : Type 0 where
+  pub all : List Exchange
+  pub gained : HaveGained before after all
+  pub same : IsPermutation (xs ++ ys) all
+
+abbrev pub GainedInTurn : Type 0
+GainedInTurn = (before between after : List Seen) (xs ys : List Exchange) → HaveGained before between xs → HaveGained between after ys → GainsOfBoth before after xs ys
+
+-- two halves of the wires
+abbrev pub GainedBeside : Type 0
+GainedBeside = (wires laters others others_later : List Seen) (xs ys : List Exchange) → HaveGained wires laters xs → HaveGained others others_later ys → HaveGained (wires ++ others) (laters ++ others_later) (xs ++ ys)
+
+abbrev pub FaultsAddUp : Type 0
+FaultsAddUp = (wires others : List Seen) (address : List ℕ) → faults_at (wires ++ others) address ≡ faults_at wires address + faults_at others address
+
+abbrev pub FaultsNeverFall : Type 0
+FaultsNeverFall = (wires laters : List Seen) (address : List ℕ) → AreAfter wires laters → faults_at wires address ≤ faults_at laters address
+
+pub record GainLaws : Type 0 where
+  pub nothing : NothingGained
+  pub in_turn : GainedInTurn
+  pub beside : GainedBeside
+  pub add_up : FaultsAddUp
+  pub never_fall : FaultsNeverFall

@@ -1,0 +1,5 @@
+pub mod Sent
+pub mod Gains
+pub mod Batches
+pub mod Traffic
+pub mod Numbers

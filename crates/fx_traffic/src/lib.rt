@@ -1,0 +1,29 @@
+//! What is sent: the requests of a query, as a bag over all wires of a call.
+//!
+//! Nothing here is called: each function is a law of the definitions in `specs/`, which is its contract.
+#![tactic(auto)]
+
+ghost use Rattle.fx_traffic.specs.Batches.{BatchLaws};
+ghost use Rattle.fx_traffic.specs.Gains.{GainLaws};
+ghost use Rattle.fx_traffic.specs.Numbers.{StationsHaveTheNumbers};
+ghost use Rattle.fx_traffic.specs.Sent.{SentLaws};
+
+/// What was sent adds up: of nothing, of one call after another, of two halves of the wires, in any order, and of a part.
+pub fn sent_adds_up()
+    ensures { SentLaws }
+{}
+
+/// What wires gained adds up: of nothing, of one call after another, and of two halves of the wires.
+pub fn gains_add_up()
+    ensures { GainLaws }
+{}
+
+/// Rows that are cut are batches of these rows, as few as a step may have; a step makes of batches what it makes of their rows.
+pub fn batches_are_of_the_rows()
+    ensures { BatchLaws }
+{}
+
+/// Where some text is accepted as a query, the SERVICEs among its stations are its occurrences, numbered from 0 in text order.
+pub fn stations_have_the_numbers()
+    ensures { StationsHaveTheNumbers }
+{}
