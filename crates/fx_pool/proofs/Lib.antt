@@ -1,0 +1,3 @@
+pub mod JobLemmas
+pub mod RunLemmas
+pub mod WireLemmas

@@ -1,0 +1,5 @@
+pub mod Posting
+pub mod Reading
+pub mod Jobs
+pub mod Runs
+pub mod Telling

@@ -1,0 +1,93 @@
+-- What a reply tells of what its request carries, or its first fault.
+use Rattle.std.specs.Prelude.{◌≡◌, ℕ, Bool, not, List, Some, None, Result, Ok, Err, position}
+use Rattle.std.specs.List.{list_any}
+use Rattle.fx_algebra.specs.Scopes.{is_among}
+use Rattle.fx_algebra.specs.Solutions.{Bindings}
+use Rattle.fx_algebra.specs.declared.answers.Answer.{Answer}
+use Rattle.fx_algebra.specs.declared.answers.Answer.TheVariants.{Table, Truth}
+use Rattle.fx_http.specs.Replies.{Replies}
+use Rattle.fx_results.specs.Reading.{read_results}
+use Rattle.fx_results.specs.declared.faults.ResultsError.{ResultsError}
+use Rattle.fx_results.specs.declared.faults.ResultsError.TheVariants as results
+use Rattle.fx_pool.specs.declared.faults.ReplyFault.{ReplyFault}
+use Rattle.fx_pool.specs.declared.faults.ReplyFault.TheVariants as fault
+use Rattle.fx_pool.specs.declared.faults.ReadError.{ReadError}
+use Rattle.fx_pool.specs.declared.faults.ReadError.TheVariants.{Bad, Memory}
+
+-- What a request carries: an ASK, or the text of a SERVICE with these columns.
+pub data Carried : Type 0 where
+  an_ask : Carried
+  a_service : List (List ℕ) → Carried
+
+-- ---- results
+
+-- the reply is read, and its body as these results
+pub record HasResults (reply : List ℕ) (told : Answer) : Type 0 where
+  pub body : List ℕ
+  pub replied : Replies reply (Ok body)
+  pub read : read_results body ≡ Ok told
+
+-- want of memory is no fault of a document
+abbrev pub IsFault : ResultsError → Type 0
+IsFault results.Memory = ⊥
+IsFault e = Unit {0}
+
+-- the reply is read, but its body isn't, for this reason
+pub record HasNoResults (reply : List ℕ) (why : ResultsError) : Type 0 where
+  pub body : List ℕ
+  pub replied : Replies reply (Ok body)
+  pub unread : read_results body ≡ Err why
+  pub fault : IsFault why
+
+-- ---- rows of a SERVICE
+
+-- a row binds a name that is no column
+abbrev pub is_foreign : List (List ℕ) → Bindings → Bool
+is_foreign columns row = list_any (λ e. not (is_among columns e.0)) row
+
+-- ---- faults
+
+-- the results are not what was asked for: a table for an ASK; of a SERVICE a truth value, or the first row that binds a name that
+-- wasn't asked for
+abbrev pub IsUnfit : Carried → Answer → ReplyFault → Type 0
+IsUnfit an_ask (Table columns rows) fault.NotTruth = Unit {0}
+IsUnfit (a_service columns) (Truth truth) fault.NotTable = Unit {0}
+IsUnfit (a_service columns) (Table told rows) (fault.Foreign row) = position (is_foreign columns) rows ≡ Some row
+IsUnfit carried told why = ⊥
+
+pub record HasUnfit (carried : Carried) (reply : List ℕ) (why : ReplyFault) : Type 0 where
+  pub told : Answer
+  pub results : HasResults reply told
+  pub unfit : IsUnfit carried told why
+
+-- The first fault of a reply: why it isn't read as one, why its body isn't read as results, or what is wrong with these.
+abbrev pub HasFault : Carried → List ℕ → ReplyFault → Type 0
+HasFault carried reply (fault.Http why) = Replies reply (Err why)
+HasFault carried reply (fault.Results why) = HasNoResults reply why
+HasFault carried reply why = HasUnfit carried reply why
+
+-- ---- what reading gives
+
+-- the rows of a table that binds the columns alone
+pub record HasTable (reply : List ℕ) (columns : List (List ℕ)) (rows : List Bindings) : Type 0 where
+  pub named : List (List ℕ)
+  pub results : HasResults reply (Table named rows)
+  pub fits : position (is_foreign columns) rows ≡ None
+
+-- results, or why there are none
+abbrev pub GivesResults : List ℕ → Result Answer ReadError → Type 0
+GivesResults reply (Ok told) = HasResults reply told
+GivesResults reply (Err (Bad (fault.Http why))) = Replies reply (Err why)
+GivesResults reply (Err (Bad (fault.Results why))) = HasNoResults reply why
+GivesResults reply (Err (Bad why)) = ⊥
+GivesResults reply (Err Memory) = Unit {0}
+
+abbrev pub GivesTruth : List ℕ → Result Bool ReadError → Type 0
+GivesTruth reply (Ok truth) = HasResults reply (Truth truth)
+GivesTruth reply (Err (Bad why)) = HasFault an_ask reply why
+GivesTruth reply (Err Memory) = Unit {0}
+
+abbrev pub GivesTable : List ℕ → List (List ℕ) → Result (List Bindings) ReadError → Type 0
+GivesTable reply columns (Ok rows) = HasTable reply columns rows
+GivesTable reply columns (Err (Bad why)) = HasFault (a_service columns) reply why
+GivesTable reply columns (Err Memory) = Unit {0}

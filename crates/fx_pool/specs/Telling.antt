@@ -1,0 +1,26 @@
+-- What reading a reply gives of what was asked for.
+use Rattle.std.specs.Prelude.{ℕ, List, Result, Ok, Err}
+use Rattle.fx_algebra.specs.declared.answers.Answer.TheVariants as answer
+use Rattle.fx_pool.specs.Reading.{an_ask, a_service, HasFault, HasResults, HasTable}
+use Rattle.fx_pool.specs.declared.faults.ReadError.{ReadError}
+use Rattle.fx_pool.specs.declared.faults.ReadError.TheVariants.{Bad, Memory}
+use Rattle.fx_pool.specs.declared.jobs.JobReply.{JobReply}
+use Rattle.fx_pool.specs.declared.jobs.JobReply.TheVariants as reply
+use Rattle.fx_pool.specs.declared.jobs.Work.{Work}
+use Rattle.fx_pool.specs.declared.jobs.Work.TheVariants as work
+
+abbrev pub GivesTruthReply : List ℕ → Result JobReply ReadError → Type 0
+GivesTruthReply bytes (Ok (reply.Truth truth)) = HasResults bytes (answer.Truth truth)
+GivesTruthReply bytes (Ok r) = ⊥
+GivesTruthReply bytes (Err (Bad why)) = HasFault an_ask bytes why
+GivesTruthReply bytes (Err Memory) = Unit {0}
+
+abbrev pub GivesTableReply : List ℕ → List (List ℕ) → Result JobReply ReadError → Type 0
+GivesTableReply bytes columns (Ok (reply.Table rows)) = HasTable bytes columns rows
+GivesTableReply bytes columns (Ok r) = ⊥
+GivesTableReply bytes columns (Err (Bad why)) = HasFault (a_service columns) bytes why
+GivesTableReply bytes columns (Err Memory) = Unit {0}
+
+abbrev pub GivesTold : Work → List ℕ → Result JobReply ReadError → Type 0
+GivesTold (work.Ask text) bytes result = GivesTruthReply bytes result
+GivesTold (work.Service text columns) bytes result = GivesTableReply bytes columns result

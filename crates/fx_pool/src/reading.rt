@@ -1,0 +1,69 @@
+//! What replies tell.
+ghost use Rattle.std.specs.Prelude.{◌≡◌, position};
+ghost use Rattle.fx_algebra.specs.Scopes.{is_among as is_among_names};
+ghost use Rattle.fx_pool.specs.Reading as spec;
+
+use crate::faults::{ReadError, ReplyFault};
+use fx_algebra::scopes::is_among;
+use fx_algebra::{Answer, Solution};
+use fx_http::{ReplyError, read_reply};
+use fx_results::{ResultsError, read};
+use fx_terms::{Items, Name};
+use std::alloc::Global;
+
+/// The truth value that a reply to an ASK is, or its first fault.
+pub(crate) fn read_truth(alloc: Global, reply: &[u8]) -> Result<bool, ReadError>
+    ensures { spec.GivesTruth reply.now result }
+{
+    match results_of(alloc, reply) {
+        Ok(Answer::Truth(truth)) => Ok(truth),
+        Ok(Answer::Table { .. }) => Err(ReadError::Bad(ReplyFault::NotTruth)),
+        Err(error) => Err(error),
+    }
+}
+
+/// The rows of the reply to a SERVICE that asks for these columns, or its first fault.
+pub(crate) fn read_table(
+    alloc: Global,
+    reply: &[u8],
+    columns: &[Name],
+) -> Result<Items<Solution>, ReadError>
+    ensures { spec.GivesTable reply.now columns.now result }
+{
+    match results_of(alloc, reply) {
+        Ok(Answer::Table { rows, .. }) => match first_foreign(columns, rows.as_slice()) {
+            None => Ok(rows),
+            Some(row) => Err(ReadError::Bad(ReplyFault::Foreign { row: row as u64 })),
+        },
+        Ok(Answer::Truth(_)) => Err(ReadError::Bad(ReplyFault::NotTable)),
+        Err(error) => Err(error),
+    }
+}
+
+// The results of a reply, or why there are none.
+fn results_of(alloc: Global, reply: &[u8]) -> Result<Answer, ReadError>
+    ensures { spec.GivesResults reply.now result }
+{
+    match read_reply(alloc, reply) {
+        Ok(whole) => match read(alloc, whole.body()) {
+            Ok(answer) => Ok(answer),
+            Err(ResultsError::Memory) => Err(ReadError::Memory),
+            Err(why) => Err(ReadError::Bad(ReplyFault::Results(why))),
+        },
+        Err(ReplyError::Memory) => Err(ReadError::Memory),
+        Err(why) => Err(ReadError::Bad(ReplyFault::Http(why))),
+    }
+}
+
+// The first of the rows that binds a name which is no column.
+fn first_foreign(columns: &[Name], rows: &[Solution]) -> Option<usize>
+    ensures { result ≡ position (spec.is_foreign columns.now) rows.now }
+{
+    rows.iter().position(|row| is_foreign(columns, row))
+}
+
+fn is_foreign(columns: &[Name], row: &Solution) -> bool
+    ensures { result ≡ spec.is_foreign columns.now row.now }
+{
+    row.pairs().iter().any(|pair| !is_among(columns, &pair.0))
+}
