@@ -43,7 +43,8 @@ use Rattle.fx_algebra.specs.Units.{graph_of}
 use Rattle.fx_bound.specs.Batches.{AreAnswered, AreAnswersOf, AreReadAs, BatchHasTheRows, BatchIsTheStep, HasTheRows, batch_query, branch_elements, branch_group, check_elements}
 use Rattle.fx_bound.specs.Branches.{bound_expr, bound_pattern}
 use Rattle.fx_bound.specs.Reading.{AreRead, all_columns, branch_rows, branch_solutions, check_name, checked_by, columns_of, free_names, renamed, unit_names}
-use Rattle.fx_bound.specs.Uniting.{AreAll, AreToldBy, Found, Place, branches}
+use Rattle.fx_bound.specs.Uniting.{AreAll, AreToldBy, Place, branches}
+use Rattle.fx_bound.specs.declared.founds.Found.{Found}
 use Rattle.fx_bound.proofs.BranchLemmas.{AreTold, holds_kept, value_rises}
 use Rattle.fx_bound.proofs.NamingLemmas.{among_from_test, among_once, test_from}
 use Rattle.fx_bound.proofs.ReadingLemmas.{BindsJust, answer_tells_branches, found_some, no_free, row_binds, solution_rises}
@@ -346,7 +347,7 @@ same_rows : (columns : List (List ℕ)) (xs ys : List Bindings) → Table column
 same_rows columns xs ys e = cc
 
 module _ (graphs : List (List Triple)) (u : unit.Unit) (rows : List Row) (fit : IsFit u) (up : All (λ r. IsTrue (rises r.solution)) rows) (few : length rows ≤ 64) (short : length (unit_names u) < 2 ^ 64) where
-  answer_read_as : (graph : List Triple) (answer : List Bindings) → AreAnswered graph u (branches u rows) answer → AreRead u (branches u rows) graph answer
+  pub answer_read_as : (graph : List Triple) (answer : List Bindings) → AreAnswered graph u (branches u rows) answer → AreRead u (branches u rows) graph answer
   answer_read_as graph answer h =
       let has = has_the_rows graph u fit (branches u rows) in
       let same : h.told_rows ≡ has.rows = same_rows (all_columns u (branches u rows)) h.told_rows has.rows (sym h.answer_is ∙ has.answer_is) in

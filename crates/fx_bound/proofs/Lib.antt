@@ -9,3 +9,9 @@ pub mod WordLemmas
 pub mod TextNames
 pub mod AcceptLemmas
 pub mod ExampleLemmas
+pub mod SentLemmas
+pub mod TextLemmas
+pub mod AnswerLemmas
+pub mod FoundLemmas
+pub mod PlaceLemmas
+pub mod BatchTextLemmas

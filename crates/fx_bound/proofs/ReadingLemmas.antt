@@ -31,9 +31,12 @@ use Rattle.fx_algebra.proofs.ForcedLemmas.{name_from, with_pair_has}
 use Rattle.fx_algebra.proofs.MemberLemmas.{IsOnce, among_flat_map, among_from_map, among_map}
 use Rattle.fx_spelling.specs.Units.{IsFit, IsPushed}
 use Rattle.fx_bound.specs.Branches.{TellsApart, bound_expr, bound_part, bound_pattern, part_by, told}
-use Rattle.fx_bound.specs.Reading.{AnswerTellsBranches, AreRead, RowFault, foreign, partial, all_columns, binds_all, binds_one, branch_rows, branch_solutions, check_name, checked_by, columns_by, columns_of, free_names, place_of, read_bound, read_row, renamed, unit_names}
+use Rattle.fx_bound.specs.Reading.{AnswerTellsBranches, AreRead, all_columns, binds_all, binds_one, branch_rows, branch_solutions, check_name, checked_by, columns_by, columns_of, free_names, place_of, read_bound, read_row, renamed, unit_names}
 use Rattle.fx_bound.specs.Unions.{beside}
-use Rattle.fx_bound.specs.Uniting.{Found, Place, branches, is_worth_asking, places_from, tells}
+use Rattle.fx_bound.specs.Uniting.{Place, branches, is_worth_asking, places_from, tells}
+use Rattle.fx_bound.specs.declared.faults.RowFault.{RowFault}
+use Rattle.fx_bound.specs.declared.faults.RowFault.TheVariants.{Foreign, Partial}
+use Rattle.fx_bound.specs.declared.founds.Found.{Found}
 use Rattle.fx_bound.proofs.BranchLemmas.{branch_tells_its_row, told_rises, told_term}
 use Rattle.fx_bound.proofs.NamingLemmas.{among_from_test, among_once, check_apart, place_apart, place_low, sent_apart, sent_is_no_check, test_from}
 use Rattle.fx_bound.proofs.UnionLemmas.{in_kept, kept_in, once_kept}
@@ -45,23 +48,23 @@ to_T false h = cc
 
 -- ---- lists
 
-map_each : {X Y : Type 0} (f g : X → Y) (xs : List X) → ((x : X) → Among x xs → f x ≡ g x) → map f xs ≡ map g xs
+pub map_each : {X Y : Type 0} (f g : X → Y) (xs : List X) → ((x : X) → Among x xs → f x ≡ g x) → map f xs ≡ map g xs
 map_each f g [] h = refl
 map_each f g (x ∷ xs) h = let here : f x ≡ g x = h x (inl refl) in let rest : map f xs ≡ map g xs = map_each f g xs (λ y m. h y (inr m)) in λ i. here i ∷ rest i
 
-map_both : {X Y Z : Type 0} (f : X → Y) (g : Y → Z) (xs : List X) → map g (map f xs) ≡ map (λ x. g (f x)) xs
+pub map_both : {X Y Z : Type 0} (f : X → Y) (g : Y → Z) (xs : List X) → map g (map f xs) ≡ map (λ x. g (f x)) xs
 map_both f g [] = refl
 map_both f g (x ∷ xs) = ap (λ v. g (f x) ∷ v) (map_both f g xs)
 
-map_flat : {X Y Z : Type 0} (f : X → List Y) (g : Y → Z) (xs : List X) → map g (flat_map f xs) ≡ flat_map (λ x. map g (f x)) xs
+pub map_flat : {X Y Z : Type 0} (f : X → List Y) (g : Y → Z) (xs : List X) → map g (flat_map f xs) ≡ flat_map (λ x. map g (f x)) xs
 map_flat f g [] = refl
 map_flat f g (x ∷ xs) = map-append g (f x) (flat_map f xs) ∙ ap (λ v. map g (f x) ++ v) (map_flat f g xs)
 
-flat_each : {X Y : Type 0} (f g : X → List Y) (xs : List X) → ((x : X) → Among x xs → f x ≡ g x) → flat_map f xs ≡ flat_map g xs
+pub flat_each : {X Y : Type 0} (f g : X → List Y) (xs : List X) → ((x : X) → Among x xs → f x ≡ g x) → flat_map f xs ≡ flat_map g xs
 flat_each f g [] h = refl
 flat_each f g (x ∷ xs) h = let here : f x ≡ g x = h x (inl refl) in let rest : flat_map f xs ≡ flat_map g xs = flat_each f g xs (λ y m. h y (inr m)) in λ i. here i ++ rest i
 
-all_pass : {X : Type 0} (p : X → Bool) (xs : List X) → ((x : X) → Among x xs → p x ≡ true) → list_all p xs ≡ true
+pub all_pass : {X : Type 0} (p : X → Bool) (xs : List X) → ((x : X) → Among x xs → p x ≡ true) → list_all p xs ≡ true
 all_pass p [] h = refl
 all_pass p (x ∷ xs) h = ap (λ (b : Bool). b && list_all p xs) (h x (inl refl)) ∙ all_pass p xs (λ y m. h y (inr m))
 
@@ -290,7 +293,7 @@ module _ (u : unit.Unit) (rows : List Row) (few : length rows ≤ 64) (short : l
       low_number b.number (length rows) (omega (arith, h)) few
 
   -- a row that binds just the columns of a branch is read as that branch's
-  row_read : (b : Place) (row : Bindings) → Among b (branches u rows) → BindsJust (columns_of u b) row
+  pub row_read : (b : Place) (row : Bindings) → Among b (branches u rows) → BindsJust (columns_of u b) row
       → read_row u (branches u rows) row ≡ Ok (record { branch = b.number; solution = told (renamed u b.number) (unit_names u) b.row.solution row })
   row_read b row m h =
       let bs = branches u rows in
@@ -302,9 +305,9 @@ module _ (u : unit.Unit) (rows : List Row) (few : length rows ≤ 64) (short : l
       let alone : filter (λ c. binds_one (columns_of u c) row) bs ≡ b ∷ [] =
       alone_passes (λ c. binds_one (columns_of u c) row) bs b m mine (λ c k e. others c k e) (once_kept (is_worth_asking u) (places_from 0 rows) (places_once 0 rows)) in
       let whole : binds_all (columns_of u b) row ≡ true = all_pass (λ name. is_some (term_of row name)) (columns_of u b) (λ name k. h name ∙ test_from (columns_of u b) name k) in
-      ap (λ (v : Bool). cond v (Err foreign) (read_bound u row (filter (λ c. binds_one (columns_of u c) row) bs))) known
+      ap (λ (v : Bool). cond v (Err Foreign) (read_bound u row (filter (λ c. binds_one (columns_of u c) row) bs))) known
       ∙ ap (read_bound u row) alone
-      ∙ ap (λ (v : Bool). cond v (Ok (record { branch = b.number; solution = told (renamed u b.number) (unit_names u) b.row.solution row })) (Err partial)) whole
+      ∙ ap (λ (v : Bool). cond v (Ok (record { branch = b.number; solution = told (renamed u b.number) (unit_names u) b.row.solution row })) (Err Partial)) whole
     where
       others : (c : Place) → Among c (branches u rows) → binds_one (columns_of u c) row ≡ true → c ≡ b
       others c k e =

@@ -10,8 +10,11 @@ use Rattle.fx_algebra.specs.Values.{integer}
 use Rattle.fx_algebra.specs.declared.units.Row.{Row}
 use Rattle.fx_algebra.specs.declared.units.Unit as unit
 use Rattle.fx_bound.specs.Batches.{batch_query}
-use Rattle.fx_bound.specs.Reading.{RowFault, foreign, mixed, partial, read_row}
-use Rattle.fx_bound.specs.Uniting.{Found, branches}
+use Rattle.fx_bound.specs.Reading.{read_row}
+use Rattle.fx_bound.specs.Uniting.{branches}
+use Rattle.fx_bound.specs.declared.faults.RowFault.{RowFault}
+use Rattle.fx_bound.specs.declared.faults.RowFault.TheVariants.{Foreign, Mixed, Partial}
+use Rattle.fx_bound.specs.declared.founds.Found.{Found}
 
 -- names and terms are known by their last letter here
 abbrev pub iri : List ℕ → Term
@@ -51,10 +54,10 @@ by_subject = read (of_patterns (linked (codes "x") (codes "p") (codes "y") ∷ [
 -- what a row tells, and the fault of one that tells nothing; a name that wasn't asked for is the first fault
 pub record RowsAreRead : Type 0 where
   pub told_by_second : by_subject ((codes "v1_1", iri (codes "b")) ∷ []) ≡ Ok (record { branch = 1; solution = (codes "x", iri (codes "c")) ∷ (codes "y", iri (codes "b")) ∷ [] })
-  pub of_two_branches : by_subject ((codes "v1_0", iri (codes "b")) ∷ (codes "v1_1", iri (codes "b")) ∷ []) ≡ Err mixed
-  pub of_none : by_subject [] ≡ Err partial
-  pub unasked : by_subject ((codes "v7_0", iri (codes "b")) ∷ []) ≡ Err foreign
-  pub unasked_first : by_subject ((codes "v1_0", iri (codes "b")) ∷ (codes "v1_1", iri (codes "b")) ∷ (codes "v7_0", iri (codes "b")) ∷ []) ≡ Err foreign
-  pub of_half : read (of_patterns (linked (codes "y") (codes "q") (codes "z") ∷ [])) (with_terms [] ∷ []) ((codes "v0_0", iri (codes "b")) ∷ []) ≡ Err partial
+  pub of_two_branches : by_subject ((codes "v1_0", iri (codes "b")) ∷ (codes "v1_1", iri (codes "b")) ∷ []) ≡ Err Mixed
+  pub of_none : by_subject [] ≡ Err Partial
+  pub unasked : by_subject ((codes "v7_0", iri (codes "b")) ∷ []) ≡ Err Foreign
+  pub unasked_first : by_subject ((codes "v1_0", iri (codes "b")) ∷ (codes "v1_1", iri (codes "b")) ∷ (codes "v7_0", iri (codes "b")) ∷ []) ≡ Err Foreign
+  pub of_half : read (of_patterns (linked (codes "y") (codes "q") (codes "z") ∷ [])) (with_terms [] ∷ []) ((codes "v0_0", iri (codes "b")) ∷ []) ≡ Err Partial
   pub of_all : read (of_patterns (linked (codes "x") (codes "p") (codes "y") ∷ [])) (with_terms ((codes "x", iri (codes "a")) ∷ (codes "y", iri (codes "b")) ∷ []) ∷ []) ((codes "k_0", integer (pos 1)) ∷ [])
       ≡ Ok (record { branch = 0; solution = (codes "x", iri (codes "a")) ∷ (codes "y", iri (codes "b")) ∷ [] })

@@ -16,7 +16,10 @@ use Rattle.fx_algebra.specs.declared.units.Row.{Row}
 use Rattle.fx_algebra.specs.declared.units.Unit as unit
 use Rattle.fx_spelling.specs.Units.{IsFit}
 use Rattle.fx_bound.specs.Branches.{bound_expr, bound_pattern, told}
-use Rattle.fx_bound.specs.Uniting.{Found, Place, branches, tells}
+use Rattle.fx_bound.specs.Uniting.{Place, branches, tells}
+use Rattle.fx_bound.specs.declared.faults.RowFault.{RowFault}
+use Rattle.fx_bound.specs.declared.faults.RowFault.TheVariants.{Foreign, Mixed, Partial}
+use Rattle.fx_bound.specs.declared.founds.Found.{Found}
 
 -- ---- names in the text
 
@@ -36,15 +39,22 @@ abbrev pub place_of : List (List ℕ) → List ℕ → ℕ
 place_of [] name = 0
 place_of (n ∷ ns) name = if is_eq (text_cmp n name) then 0 else suc (place_of ns name)
 
--- the other name of a variable in a branch
+-- the other name that a variable has in a branch, by its place among names
+abbrev pub named : List (List ℕ) → ℕ → List ℕ → List ℕ
+named names branch name = sent_name (place_of names name) branch
+
 abbrev pub renamed : unit.Unit → ℕ → List ℕ → List ℕ
-renamed u branch name = sent_name (place_of (unit_names u) name) branch
+renamed u = named (unit_names u)
 
 -- ---- columns
 
+-- the names that a row leaves free
+abbrev pub free_among : List (List ℕ) → Bindings → List (List ℕ)
+free_among names row = filter (λ name. is_none (term_of row name)) names
+
 -- the variables of a unit that a row leaves free
 abbrev pub free_names : unit.Unit → Bindings → List (List ℕ)
-free_names u row = filter (λ name. is_none (term_of row name)) (unit_names u)
+free_names u = free_among (unit_names u)
 
 abbrev pub columns_by : ℕ → List (List ℕ) → List (List ℕ)
 columns_by branch [] = check_name branch ∷ []
@@ -72,12 +82,6 @@ branch_rows graph u b = map (checked_by b.number (free_names u b.row.solution)) 
 
 -- ---- reading
 
--- what is wrong with a row: it binds a name that wasn't asked for, or columns of two branches; or none, or not all of its branch
-pub data RowFault : Type 0 where
-  foreign : RowFault
-  mixed : RowFault
-  partial : RowFault
-
 abbrev pub binds_one : List (List ℕ) → Bindings → Bool
 binds_one columns row = list_any (λ name. is_some (term_of row name)) columns
 
@@ -89,12 +93,12 @@ all_columns u bs = flat_map (columns_of u) bs
 
 -- a row of these branches, those of which it binds a column
 abbrev pub read_bound : unit.Unit → Bindings → List Place → Result Found RowFault
-read_bound u row [] = Err partial
-read_bound u row (b ∷ []) = if binds_all (columns_of u b) row then Ok (record { branch = b.number; solution = told (renamed u b.number) (unit_names u) b.row.solution row }) else Err partial
-read_bound u row (b ∷ c ∷ bs) = Err mixed
+read_bound u row [] = Err Partial
+read_bound u row (b ∷ []) = if binds_all (columns_of u b) row then Ok (record { branch = b.number; solution = told (renamed u b.number) (unit_names u) b.row.solution row }) else Err Partial
+read_bound u row (b ∷ c ∷ bs) = Err Mixed
 
 abbrev pub read_row : unit.Unit → List Place → Bindings → Result Found RowFault
-read_row u bs row = if list_any (λ e. not (is_among (all_columns u bs) e.0)) row then Err foreign else read_bound u row (filter (λ b. binds_one (columns_of u b) row) bs)
+read_row u bs row = if list_any (λ e. not (is_among (all_columns u bs) e.0)) row then Err Foreign else read_bound u row (filter (λ b. binds_one (columns_of u b) row) bs)
 
 -- ---- laws
 

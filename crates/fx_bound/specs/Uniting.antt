@@ -12,6 +12,7 @@ use Rattle.fx_algebra.specs.declared.units.Unit as unit
 use Rattle.fx_spelling.specs.Units.{IsSound}
 use Rattle.fx_bound.specs.Branches.{bound_pattern, is_hopeless}
 use Rattle.fx_bound.specs.Unions.{beside}
+use Rattle.fx_bound.specs.declared.founds.Found.{Found}
 
 -- ---- the branches of rows
 
@@ -33,11 +34,6 @@ abbrev pub branches : unit.Unit → List Row → List Place
 branches u rows = filter (is_worth_asking u) (places_from 0 rows)
 
 -- ---- what was found
-
--- the number of a branch, and what its row merged to
-pub record Found : Type 0 where
-  pub branch : ℕ
-  pub solution : Bindings
 
 -- what a member with this graph has for a branch
 abbrev pub tells : List Triple → unit.Unit → Place → List Found

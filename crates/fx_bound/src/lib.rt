@@ -1,7 +1,7 @@
 //! Bound joins: several rows asked for in one text.
 //!
-//! So far the laws of one branch, of a batch's text, of its answer and how its rows are read, and of uniting what members have; each is the contract of a
-//! function that does nothing.
+//! A batch is the text that asks for rows of a unit, each in a branch of its own (`batch_text`). The answer of a member is read row by row
+//! (`read_batch`), and what the members told is united (`unite`). The laws on which this rests are contracts of functions that do nothing.
 #![tactic(auto)]
 
 ghost use Rattle.fx_bound.specs.Batches.{BatchHasTheRows, BatchIsTheStep};
@@ -11,6 +11,34 @@ ghost use Rattle.fx_bound.specs.Reading.{AnswerTellsBranches, ColumnsAreNames};
 ghost use Rattle.fx_bound.specs.Texts.{BatchHasTheWords, BatchIsAccepted};
 ghost use Rattle.fx_bound.specs.Unions.{MembersHaveTheUnion};
 ghost use Rattle.fx_bound.specs.Uniting.{UnitedIsTheStep};
+
+pub mod batches;
+pub mod branches;
+mod columns;
+pub mod faults;
+mod filters;
+pub mod founds;
+mod names;
+pub mod reading;
+mod tellings;
+mod texts;
+pub mod uniting;
+
+pub use batches::{Batch, batch_text};
+pub use branches::Branch;
+pub use faults::BatchError;
+pub use founds::Found;
+use fx_terms::shareable;
+pub use reading::read_batch;
+pub use uniting::unite;
+
+/// Every type of this crate may be shared between threads and sent to them.
+pub fn all_shareable() {
+    shareable::<Batch>();
+    shareable::<Branch>();
+    shareable::<Found>();
+    shareable::<BatchError>();
+}
 
 /// The solutions of a branch over a graph tell what its row merges to with each solution of the unit's patterns that it agrees with
 /// and on which the unit's filters hold, in their order.

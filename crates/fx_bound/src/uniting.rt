@@ -1,0 +1,87 @@
+//! What the members of a unit told of a batch, united.
+ghost use Rattle.std.specs.Prelude.{◌≡◌, ◌++◌, All, Contains, IfOk, IsPermutation, List, map, OnOk};
+ghost use Rattle.std.specs.List.{flat_map};
+ghost use Rattle.fx_terms.specs.declared.triples.Triple.{Triple as TripleParts};
+ghost use Rattle.fx_terms.specs.Graphs.{set_of};
+ghost use Rattle.fx_algebra.specs.Graphs.{union};
+ghost use Rattle.fx_algebra.specs.Units.{step};
+ghost use Rattle.fx_spelling.specs.Units.{IsSound};
+ghost use Rattle.fx_bound.specs.Answers as spec;
+ghost use Rattle.fx_bound.specs.FoundOrder.{found_cmp};
+ghost use Rattle.fx_bound.specs.Parts.{IsBatch, places};
+ghost use Rattle.fx_bound.specs.Uniting.{united};
+
+use crate::batches::Batch;
+use crate::founds::Found;
+use fx_algebra::Row;
+use fx_terms::{Items, Memory};
+use std::alloc::Global;
+
+/// All that was found for the branches of a batch, by the number of the branch and then in the order of solutions, each solution of a
+/// branch once, and each under the number of the input row that the branch's row comes from.
+///
+/// Where the unit is sound over the graphs of members, and the lists are what is read of answers that its members give to the text, one for
+/// each, these rows are what the unit makes of the batch's rows over the union of the graphs.
+pub fn unite(alloc: Global, batch: &Batch, lists: &[Items<Found>]) -> Result<Vec<Row>, Memory>
+    requires { All (λ list. All (λ f. Contains (spec.numbers batch.now) f.branch) list) lists.now }
+    ensures exact { IfOk result (λ rows. rows.items ≡ united (places batch.now) lists.now) }
+    ensures step { (graphs : List (List TripleParts)) → IsSound graphs batch.now.unit → spec.AreReadOf graphs batch.now batch.now.unit.members lists.now
+        → IfOk result (λ rows. IsPermutation rows.items (step (union graphs) batch.now.unit batch.now.rows)) }
+{
+    let _branches = batch.branches();
+    let founds = founds_of(alloc, lists)?;
+    rows_of(alloc, batch.rows(), founds)
+}
+
+// Each thing that was found once, in order.
+fn founds_of(alloc: Global, lists: &[Items<Found>]) -> Result<Vec<Found>, Memory>
+    ensures { IfOk result (λ founds. founds.items ≡ set_of found_cmp (flat_map (λ list. list) lists.now)) }
+{
+    let mut founds = Vec::new(alloc);
+    for list in lists {
+        add_all(alloc, &mut founds, list.as_slice())?;
+    }
+    founds.sort()?;
+    founds.dedup();
+    Ok(founds)
+}
+
+fn add_all(alloc: Global, founds: &mut Vec<Found>, more: &[Found]) -> Result<(), Memory>
+    ensures { OnOk result (founds.new.items ≡ founds.old.items ++ more.now) }
+{
+    for found in more {
+        founds.push(found.copy(alloc)?)?;
+    }
+    Ok(())
+}
+
+// The solutions, each under the number that the row of its branch came with.
+fn rows_of(alloc: Global, rows: &[Row], founds: Vec<Found>) -> Result<Vec<Row>, Memory>
+    ensures { IfOk result (λ united. united.items ≡ map (spec.row_by rows.now) founds.items) }
+{
+    let mut united = Vec::with_capacity(alloc, founds.len())?;
+    for found in founds {
+        united.push(row_of(rows, found))?;
+    }
+    Ok(united)
+}
+
+fn row_of(rows: &[Row], found: Found) -> Row
+    ensures { result ≡ spec.row_by rows.now found }
+{
+    let Found { branch, solution } = found;
+    Row {
+        origin: origin(rows, branch),
+        solution,
+    }
+}
+
+// The number that the row at a place came with, or 0 where there is none.
+fn origin(rows: &[Row], place: u32) -> u64
+    ensures { result ≡ spec.origin_at rows.now place }
+{
+    match rows.get(place as usize) {
+        Some(row) => row.origin,
+        None => 0,
+    }
+}
