@@ -1,12 +1,13 @@
 -- What comes of jobs: what each of their replies tells, what was exchanged, and which faults were counted.
 use Rattle.std.specs.Prelude.{◌≡◌, ℕ, ◌+◌, ◌++◌, Bool, false, List, [], ◌∷◌, Option, Some, None, bytes_eq, cond, slice_get}
 use Rattle.fx_outside.specs.Endpoints.{EndpointParts}
+use Rattle.fx_bound.specs.Parts as batch
 use Rattle.fx_http.specs.Requests.{request_of}
 use Rattle.fx_traffic.specs.Sent.{Sent}
 use Rattle.fx_wire.specs.Exchanges.{Exchange}
 use Rattle.fx_algebra.specs.declared.answers.Answer.TheVariants as answer
 use Rattle.fx_pool.specs.Posting.{IsPosted, exchanges_of}
-use Rattle.fx_pool.specs.Reading.{Carried, an_ask, a_service, HasFault, HasResults, HasTable}
+use Rattle.fx_pool.specs.Reading.{Carried, an_ask, a_batch, a_service, HasFault, HasFound, HasResults, HasTable}
 use Rattle.fx_pool.specs.declared.jobs.BadReply.{BadReply}
 use Rattle.fx_pool.specs.declared.jobs.Job.{Job}
 use Rattle.fx_pool.specs.declared.jobs.JobKind.{JobKind}
@@ -20,17 +21,25 @@ use Rattle.fx_pool.specs.declared.posting.Posted.TheVariants as posted
 
 -- ---- what is asked
 
+-- a batch without a branch has none, and isn't one to ask for
+abbrev pub or_nothing : Option (List ℕ) → List ℕ
+or_nothing (Some text) = text
+or_nothing None = []
+
 abbrev pub text_of : Work → List ℕ
 text_of (work.Ask text) = text
+text_of (work.Batch b) = or_nothing (batch.text_of b)
 text_of (work.Service text columns) = text
 
 abbrev pub kind_of : Work → JobKind
 kind_of (work.Ask text) = kind.Ask
+kind_of (work.Batch b) = kind.Batch
 kind_of (work.Service text columns) = kind.Service
 
 -- what the request carries
 abbrev pub carried_by : Work → Carried
 carried_by (work.Ask text) = an_ask
+carried_by (work.Batch b) = a_batch b
 carried_by (work.Service text columns) = a_service columns
 
 -- ---- what a reply tells
@@ -44,6 +53,7 @@ pub record IsBadReply (w : Work) (request bytes : List ℕ) (bad : BadReply) : T
 
 abbrev pub Tells : Work → List ℕ → List ℕ → JobReply → Type 0
 Tells (work.Ask text) request bytes (reply.Truth truth) = HasResults bytes (answer.Truth truth)
+Tells (work.Batch b) request bytes (reply.Found founds) = HasFound bytes b founds
 Tells (work.Service text columns) request bytes (reply.Table rows) = HasTable bytes columns rows
 Tells w request bytes (reply.Bad bad) = IsBadReply w request bytes bad
 Tells w request bytes r = ⊥
@@ -86,6 +96,7 @@ AreWanted endpoints (j ∷ js) (s ∷ wanted) = IsWanted endpoints j s × AreWan
 abbrev pub is_failure : JobReply → ℕ
 is_failure reply.Failed = 1
 is_failure (reply.Truth truth) = 0
+is_failure (reply.Found founds) = 0
 is_failure (reply.Table rows) = 0
 is_failure (reply.Bad bad) = 0
 is_failure (reply.TooLong size) = 0

@@ -5,6 +5,11 @@ use Rattle.fx_algebra.specs.Scopes.{is_among}
 use Rattle.fx_algebra.specs.Solutions.{Bindings}
 use Rattle.fx_algebra.specs.declared.answers.Answer.{Answer}
 use Rattle.fx_algebra.specs.declared.answers.Answer.TheVariants.{Table, Truth}
+use Rattle.fx_bound.specs.Answers.{read_answer}
+use Rattle.fx_bound.specs.Parts.{Parts}
+use Rattle.fx_bound.specs.declared.faults.BatchError.{BatchError}
+use Rattle.fx_bound.specs.declared.faults.BatchError.TheVariants as batch
+use Rattle.fx_bound.specs.declared.founds.Found.{Found}
 use Rattle.fx_http.specs.Replies.{Replies}
 use Rattle.fx_results.specs.Reading.{read_results}
 use Rattle.fx_results.specs.declared.faults.ResultsError.{ResultsError}
@@ -14,9 +19,10 @@ use Rattle.fx_pool.specs.declared.faults.ReplyFault.TheVariants as fault
 use Rattle.fx_pool.specs.declared.faults.ReadError.{ReadError}
 use Rattle.fx_pool.specs.declared.faults.ReadError.TheVariants.{Bad, Memory}
 
--- What a request carries: an ASK, or the text of a SERVICE with these columns.
+-- What a request carries: an ASK, a batch of a unit's rows, or the text of a SERVICE with these columns.
 pub data Carried : Type 0 where
   an_ask : Carried
+  a_batch : Parts → Carried
   a_service : List (List ℕ) → Carried
 
 -- ---- results
@@ -47,10 +53,16 @@ is_foreign columns row = list_any (λ e. not (is_among columns e.0)) row
 
 -- ---- faults
 
--- the results are not what was asked for: a table for an ASK; of a SERVICE a truth value, or the first row that binds a name that
+-- want of memory is no fault of an answer
+abbrev pub IsBatchFault : BatchError → Type 0
+IsBatchFault batch.Memory = ⊥
+IsBatchFault e = Unit {0}
+
+-- the results are not what was asked for: a table for an ASK; of a batch what `read_answer` says; of a SERVICE a truth value, or the first row that binds a name that
 -- wasn't asked for
 abbrev pub IsUnfit : Carried → Answer → ReplyFault → Type 0
 IsUnfit an_ask (Table columns rows) fault.NotTruth = Unit {0}
+IsUnfit (a_batch parts) told (fault.Batch why) = (read_answer parts told ≡ Err why) × IsBatchFault why
 IsUnfit (a_service columns) (Truth truth) fault.NotTable = Unit {0}
 IsUnfit (a_service columns) (Table told rows) (fault.Foreign row) = position (is_foreign columns) rows ≡ Some row
 IsUnfit carried told why = ⊥
@@ -67,6 +79,12 @@ HasFault carried reply (fault.Results why) = HasNoResults reply why
 HasFault carried reply why = HasUnfit carried reply why
 
 -- ---- what reading gives
+
+-- what is found for the branches of a batch
+pub record HasFound (reply : List ℕ) (parts : Parts) (founds : List Found) : Type 0 where
+  pub told : Answer
+  pub results : HasResults reply told
+  pub read : read_answer parts told ≡ Ok founds
 
 -- the rows of a table that binds the columns alone
 pub record HasTable (reply : List ℕ) (columns : List (List ℕ)) (rows : List Bindings) : Type 0 where
@@ -86,6 +104,11 @@ abbrev pub GivesTruth : List ℕ → Result Bool ReadError → Type 0
 GivesTruth reply (Ok truth) = HasResults reply (Truth truth)
 GivesTruth reply (Err (Bad why)) = HasFault an_ask reply why
 GivesTruth reply (Err Memory) = Unit {0}
+
+abbrev pub GivesFound : List ℕ → Parts → Result (List Found) ReadError → Type 0
+GivesFound reply parts (Ok founds) = HasFound reply parts founds
+GivesFound reply parts (Err (Bad why)) = HasFault (a_batch parts) reply why
+GivesFound reply parts (Err Memory) = Unit {0}
 
 abbrev pub GivesTable : List ℕ → List (List ℕ) → Result (List Bindings) ReadError → Type 0
 GivesTable reply columns (Ok rows) = HasTable reply columns rows

@@ -1,7 +1,8 @@
 -- What reading a reply gives of what was asked for.
 use Rattle.std.specs.Prelude.{ℕ, List, Result, Ok, Err}
 use Rattle.fx_algebra.specs.declared.answers.Answer.TheVariants as answer
-use Rattle.fx_pool.specs.Reading.{an_ask, a_service, HasFault, HasResults, HasTable}
+use Rattle.fx_bound.specs.Parts.{Parts}
+use Rattle.fx_pool.specs.Reading.{an_ask, a_batch, a_service, HasFault, HasFound, HasResults, HasTable}
 use Rattle.fx_pool.specs.declared.faults.ReadError.{ReadError}
 use Rattle.fx_pool.specs.declared.faults.ReadError.TheVariants.{Bad, Memory}
 use Rattle.fx_pool.specs.declared.jobs.JobReply.{JobReply}
@@ -15,6 +16,12 @@ GivesTruthReply bytes (Ok r) = ⊥
 GivesTruthReply bytes (Err (Bad why)) = HasFault an_ask bytes why
 GivesTruthReply bytes (Err Memory) = Unit {0}
 
+abbrev pub GivesFoundReply : List ℕ → Parts → Result JobReply ReadError → Type 0
+GivesFoundReply bytes parts (Ok (reply.Found founds)) = HasFound bytes parts founds
+GivesFoundReply bytes parts (Ok r) = ⊥
+GivesFoundReply bytes parts (Err (Bad why)) = HasFault (a_batch parts) bytes why
+GivesFoundReply bytes parts (Err Memory) = Unit {0}
+
 abbrev pub GivesTableReply : List ℕ → List (List ℕ) → Result JobReply ReadError → Type 0
 GivesTableReply bytes columns (Ok (reply.Table rows)) = HasTable bytes columns rows
 GivesTableReply bytes columns (Ok r) = ⊥
@@ -23,4 +30,5 @@ GivesTableReply bytes columns (Err Memory) = Unit {0}
 
 abbrev pub GivesTold : Work → List ℕ → Result JobReply ReadError → Type 0
 GivesTold (work.Ask text) bytes result = GivesTruthReply bytes result
+GivesTold (work.Batch batch) bytes result = GivesFoundReply bytes batch result
 GivesTold (work.Service text columns) bytes result = GivesTableReply bytes columns result

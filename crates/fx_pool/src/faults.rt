@@ -1,5 +1,6 @@
 //! Why a reply is bad.
 
+use fx_bound::BatchError;
 use fx_http::ReplyError;
 use fx_results::ResultsError;
 
@@ -10,6 +11,8 @@ pub enum ReplyFault {
     Http(ReplyError),
     /// Its body is no results document, for this reason, which is never want of memory.
     Results(ResultsError),
+    /// Its results are none of a batch, for this reason, which is never want of memory.
+    Batch(BatchError),
     /// Its results are a table, where a truth value was asked for.
     NotTruth,
     /// Its results are a truth value, where the rows of a SERVICE were asked for.

@@ -3,6 +3,7 @@ ghost use Rattle.std.specs.Prelude.{◌≡◌, string_bytes};
 
 use crate::faults::ReplyFault;
 use fx_algebra::Solution;
+use fx_bound::{Batch, Found};
 use fx_terms::{Items, Name};
 use std::marker::Model;
 
@@ -37,19 +38,21 @@ impl RequestText {
 }
 
 /// Something to ask an endpoint for, by its number, from 0.
-#[derive(Debug, Drop)]
+#[derive(Drop)]
 pub struct Job {
     pub at: u32,
     pub work: Work,
 }
 
 /// What is asked for.
-#[derive(Debug, Drop)]
+#[derive(Drop)]
 pub enum Work {
     /// The truth value of an ASK.
     Ask {
         text: RequestText,
     },
+    /// What the rows of a batch are found to join with. A batch without a branch has no text, and isn't one to ask for.
+    Batch { batch: Batch },
     /// The rows of a SERVICE that asks for these columns.
     Service {
         text: RequestText,
@@ -61,6 +64,7 @@ pub enum Work {
 #[derive(Clone, Copy, Debug, PartialEq, Eq)]
 pub enum JobKind {
     Ask,
+    Batch,
     Service,
 }
 
@@ -79,6 +83,8 @@ pub struct BadReply {
 pub enum JobReply {
     /// The truth value of an ASK.
     Truth(bool),
+    /// What was found for the branches of a batch, in the order of the rows that tell it.
+    Found(Items<Found>),
     /// The rows of a SERVICE, each of which binds columns alone.
     Table(Items<Solution>),
     /// The exchange failed, and was counted as a fault at the endpoint's address.
@@ -99,6 +105,7 @@ impl Work {
     {
         match self {
             Work::Ask { text } => text.as_str(),
+            Work::Batch { batch } => batch.text().unwrap_or(""),
             Work::Service { text, columns: _ } => text.as_str(),
         }
     }
@@ -109,6 +116,7 @@ impl Work {
     {
         match self {
             Work::Ask { text: _ } => JobKind::Ask,
+            Work::Batch { batch: _ } => JobKind::Batch,
             Work::Service { .. } => JobKind::Service,
         }
     }

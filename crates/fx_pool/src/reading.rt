@@ -4,6 +4,7 @@ ghost use Rattle.fx_algebra.specs.Scopes.{is_among as is_among_names};
 ghost use Rattle.fx_pool.specs.Reading as spec;
 
 use crate::faults::{ReadError, ReplyFault};
+use fx_bound::{Batch, BatchError, Found, read_batch};
 use fx_algebra::scopes::is_among;
 use fx_algebra::{Answer, Solution};
 use fx_http::{ReplyError, read_reply};
@@ -36,6 +37,24 @@ pub(crate) fn read_table(
             Some(row) => Err(ReadError::Bad(ReplyFault::Foreign { row: row as u64 })),
         },
         Ok(Answer::Truth(_)) => Err(ReadError::Bad(ReplyFault::NotTable)),
+        Err(error) => Err(error),
+    }
+}
+
+/// What is found for the branches of a batch by the reply to it, or its first fault.
+pub(crate) fn read_found(
+    alloc: Global,
+    reply: &[u8],
+    batch: &Batch,
+) -> Result<Items<Found>, ReadError>
+    ensures { spec.GivesFound reply.now batch.now result }
+{
+    match results_of(alloc, reply) {
+        Ok(answer) => match read_batch(alloc, batch, &answer) {
+            Ok(founds) => Ok(founds),
+            Err(BatchError::Memory) => Err(ReadError::Memory),
+            Err(why) => Err(ReadError::Bad(ReplyFault::Batch(why))),
+        },
         Err(error) => Err(error),
     }
 }

@@ -4,12 +4,13 @@ ghost use Rattle.fx_outside.specs.Endpoints.{is_sendable};
 ghost use Rattle.fx_wire.specs.Exchanges.{seen};
 ghost use Rattle.fx_pool.specs.Jobs.{IsReplyTo, Tells};
 ghost use Rattle.fx_pool.specs.Runs.{WireDid, WiresDid, all_replies, one_reply};
-ghost use Rattle.fx_pool.specs.Telling.{GivesTableReply, GivesTold, GivesTruthReply};
+ghost use Rattle.fx_pool.specs.Telling.{GivesFoundReply, GivesTableReply, GivesTold, GivesTruthReply};
 
 use crate::faults::ReadError;
 use crate::jobs::{BadReply, Job, JobReply, Work};
 use crate::posting::{Posted, post};
-use crate::reading::{read_table, read_truth};
+use crate::reading::{read_found, read_table, read_truth};
+use fx_bound::Batch;
 use fx_outside::Endpoint;
 use fx_terms::{Items, Memory, Name};
 use fx_wire::Wire;
@@ -119,6 +120,7 @@ fn read_as(alloc: Global, work: &Work, reply: &[u8]) -> Result<JobReply, ReadErr
 {
     match work {
         Work::Ask { text: _ } => truth_of(alloc, reply),
+        Work::Batch { batch } => found_of(alloc, reply, batch),
         Work::Service { text: _, columns } => table_of(alloc, reply, columns.as_slice()),
     }
 }
@@ -128,6 +130,15 @@ fn truth_of(alloc: Global, reply: &[u8]) -> Result<JobReply, ReadError>
 {
     match read_truth(alloc, reply) {
         Ok(truth) => Ok(JobReply::Truth(truth)),
+        Err(error) => Err(error),
+    }
+}
+
+fn found_of(alloc: Global, reply: &[u8], batch: &Batch) -> Result<JobReply, ReadError>
+    ensures { GivesFoundReply reply.now batch.now result }
+{
+    match read_found(alloc, reply, batch) {
+        Ok(founds) => Ok(JobReply::Found(founds)),
         Err(error) => Err(error),
     }
 }
