@@ -21,7 +21,7 @@ use Rattle.fx_algebra.specs.declared.units.Unit as unit
 use Rattle.fx_algebra.proofs.JoinLemmas.{exact_solutions}
 use Rattle.fx_algebra.proofs.WeightLemmas.{permutation_from, sum_by-flat_map, weights_from}
 use Rattle.fx_traffic.specs.Sent.{Sent}
-use Rattle.fx_traffic.specs.Batches.{AreCut, AreSentTo, BatchLaws, CutsAreBatches, CutsOfSeveral, IsRunSent, IsSentTo, IsSized, MoreMayBe, NothingOfARun, RunInAnyOrder, StepInAnyOrder, StepOfBatches, joined}
+use Rattle.fx_traffic.specs.Batches.{AreCut, BatchLaws, CutsAreBatches, CutsOfSeveral, IsRunSent, IsStepSent, IsSized, MoreMayBe, NothingOfARun, RunInAnyOrder, StepInAnyOrder, StepOfBatches, joined}
 
 -- ---- cuts
 
@@ -130,11 +130,9 @@ step_in_any_order graph u rows others same =
 
 -- ---- a run
 
-sent_to_any_order : (endpoints : List EndpointParts) (u : unit.Unit) (rows others : List Row) (block most more : ℕ) (at : ℕ) (wanted : List Sent) → most ≡ more → IsPermutation rows others
-    → IsSentTo endpoints u rows block most at wanted → IsSentTo endpoints u others block more at wanted
-sent_to_any_order endpoints u rows others block most more at wanted same moved h = record {
-  member = h.member;
-  found = h.found;
+step_sent_any_order : (endpoints : List EndpointParts) (u : unit.Unit) (rows others : List Row) (block most more : ℕ) (wanted : List Sent) → most ≡ more → IsPermutation rows others
+    → IsStepSent endpoints u rows block most wanted → IsStepSent endpoints u others block more wanted
+step_sent_any_order endpoints u rows others block most more wanted same moved h = record {
   batches = h.batches;
   cut = record {
     unused = h.cut.unused;
@@ -145,12 +143,6 @@ sent_to_any_order endpoints u rows others block most more at wanted same moved h
   texts = h.texts;
 }
 
-members_any_order : (endpoints : List EndpointParts) (u : unit.Unit) (rows others : List Row) (block most more : ℕ) (members : List ℕ) (wanted : List Sent) → most ≡ more → IsPermutation rows others
-    → AreSentTo endpoints u rows block most members wanted → AreSentTo endpoints u others block more members wanted
-members_any_order endpoints u rows others block most more [] wanted same moved h = h
-members_any_order endpoints u rows others block most more (at ∷ members) wanted same moved h =
-    (h.0, h.1, h.2, sent_to_any_order endpoints u rows others block most more at h.0 same moved h.3, members_any_order endpoints u rows others block most more members h.1 same moved h.4)
-
 run_from_any_order : (endpoints : List EndpointParts) (graph : List Triple) (block most more : ℕ) (us : List unit.Unit) (rows others : List Row) (wanted : List Sent) → most ≡ more → IsPermutation rows others
     → IsRunSent endpoints graph block most us rows wanted → IsRunSent endpoints graph block more us others wanted
 run_from_any_order endpoints graph block most more [] rows others wanted same moved h = h
@@ -160,42 +152,19 @@ run_from_any_order endpoints graph block most more (u ∷ us) rows others wanted
       h.0,
       h.1,
       h.2,
-      members_any_order endpoints u rows others block (most + length rows / block) (more + length others / block) u.members h.0 next moved h.3,
+      step_sent_any_order endpoints u rows others block (most + length rows / block) (more + length others / block) h.0 next moved h.3,
       run_from_any_order endpoints graph block (most + length rows / block) (more + length others / block) us (step graph u rows) (step graph u others) h.1 next (step_in_any_order graph u rows others moved) h.4,
     )
 
 run_in_any_order : RunInAnyOrder
 run_in_any_order endpoints graph block most us rows others wanted moved h = run_from_any_order endpoints graph block most most us rows others wanted refl moved h
 
-nothing_sent_to : (endpoints : List EndpointParts) (u : unit.Unit) (rows : List Row) (block most : ℕ) (members : List ℕ) → AllByRecursion (λ at. at < length endpoints) members → AreSentTo endpoints u rows block most members []
-nothing_sent_to endpoints u rows block most [] h = refl
-nothing_sent_to endpoints u rows block most (at ∷ members) h = ([], [], refl, by (slice_get_cases endpoints at).1, nothing_sent_to endpoints u rows block most members h.1)
-  where
-    by : ((e : EndpointParts) × (at < length endpoints) × (slice_get endpoints at ≡ Some e) × (get_or endpoints at e ≡ e)) ⊎ ((length endpoints ≤ at) × (slice_get endpoints at ≡ None))
-        → IsSentTo endpoints u rows block most at []
-    by (inl e) = record {
-      member = e.0;
-      found = e.2;
-      batches = [];
-      cut = record { unused = rows; of_rows = IsPermutation-refl rows; sized = All-from_recursion (IsSized block) [] tt; few = zero-le };
-      texts = refl;
-    }
-    by (inr past) = let low : length endpoints ≤ at = past.0 in let below : at < length endpoints = h.0 in absurd (omega (arith, low, below))
-
-nothing_of_a_run : (endpoints : List EndpointParts) (graph : List Triple) (block most : ℕ) (us : List unit.Unit) (rows : List Row)
-    → AllByRecursion (λ (u : unit.Unit). All (λ at. at < length endpoints) u.members) us → IsRunSent endpoints graph block most us rows []
-nothing_of_a_run endpoints graph block most [] rows h = refl
-nothing_of_a_run endpoints graph block most (u ∷ us) rows h = (
-  [],
-  [],
-  refl,
-  nothing_sent_to endpoints u rows block (most + length rows / block) u.members (recursion_from_All (λ at. at < length endpoints) u.members h.0),
-  nothing_of_a_run endpoints graph block (most + length rows / block) us (step graph u rows) h.1,
-)
-
 nothing_allowed : NothingOfARun
-nothing_allowed endpoints graph block most us rows all =
-    nothing_of_a_run endpoints graph block most us rows (recursion_from_All (λ (u : unit.Unit). All (λ at. at < length endpoints) u.members) us all)
+nothing_allowed endpoints graph block most [] rows = refl
+nothing_allowed endpoints graph block most (u ∷ us) rows =
+    ([], [], refl,
+    record { batches = []; cut = record { unused = rows; of_rows = IsPermutation-refl rows; sized = All-from_recursion (IsSized block) [] tt; few = zero-le }; texts = refl },
+    nothing_allowed endpoints graph block (most + length rows / block) us (step graph u rows))
 
 pub batch_laws : BatchLaws
 batch_laws = record { cut = cuts_are_batches; several = cuts_of_several; step = step_of_batches; any_order = step_in_any_order; run_in_any_order = run_in_any_order; more = more_may_be; nothing = nothing_allowed }

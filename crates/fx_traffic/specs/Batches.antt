@@ -1,6 +1,6 @@
 -- What a run of triple patterns sends: for each step of its plan batches of the rows that enter it, each to the members of its unit.
 -- (FedX: bound joins.)
-use Rattle.std.specs.Prelude.{◌≡◌, ℕ, ◌+◌, ◌*◌, ◌/◌, ◌<◌, ◌≤◌, List, [], ◌∷◌, ◌++◌, length, Some, All, IsPermutation, slice_get}
+use Rattle.std.specs.Prelude.{◌≡◌, Option, None, ℕ, ◌+◌, ◌*◌, ◌/◌, ◌<◌, ◌≤◌, List, [], ◌∷◌, ◌++◌, length, Some, All, IsPermutation, slice_get}
 use Rattle.std.specs.List.{flat_map}
 use Rattle.fx_terms.specs.declared.triples.Triple.{Triple}
 use Rattle.fx_outside.specs.Endpoints.{EndpointParts}
@@ -45,18 +45,26 @@ text_sent e u (b ∷ bs) = record { at = e; request = request_of e (printed_quer
 abbrev pub batch_sent : EndpointParts → unit.Unit → List Row → List Sent
 batch_sent e u batch = text_sent e u (branches u batch)
 
--- what a member is sent of a step whose unit these rows enter
-pub record IsSentTo (endpoints : List EndpointParts) (u : unit.Unit) (rows : List Row) (block most : ℕ) (at : ℕ) (wanted : List Sent) : Type 0 where
-  pub member : EndpointParts
-  pub found : slice_get endpoints at ≡ Some member
+abbrev pub to_endpoint : unit.Unit → List Row → Option EndpointParts → List Sent
+to_endpoint u batch None = []
+to_endpoint u batch (Some e) = batch_sent e u batch
+
+-- to the endpoint of a member, by its number
+abbrev pub member_sent : List EndpointParts → unit.Unit → List Row → ℕ → List Sent
+member_sent endpoints u batch at = to_endpoint u batch (slice_get endpoints at)
+
+-- each of the batches to each of the unit's members, once
+abbrev pub unit_sent : List EndpointParts → unit.Unit → List Row → List Sent
+unit_sent endpoints u batch = flat_map (member_sent endpoints u batch) u.members
+
+abbrev pub batches_sent : List EndpointParts → unit.Unit → List (List Row) → List Sent
+batches_sent endpoints u batches = flat_map (unit_sent endpoints u) batches
+
+-- what a step sends whose unit these rows enter
+pub record IsStepSent (endpoints : List EndpointParts) (u : unit.Unit) (rows : List Row) (block most : ℕ) (wanted : List Sent) : Type 0 where
   pub batches : List (List Row)
   pub cut : AreBatchesOf rows block most batches
-  pub texts : wanted ≡ flat_map (batch_sent member u) batches
-
-abbrev pub AreSentTo : List EndpointParts → unit.Unit → List Row → ℕ → ℕ → List ℕ → List Sent → Type 0
-AreSentTo endpoints u rows block most [] wanted = wanted ≡ []
-AreSentTo endpoints u rows block most (at ∷ members) wanted =
-    (own : List Sent) × (rest : List Sent) × (wanted ≡ own ++ rest) × IsSentTo endpoints u rows block most at own × AreSentTo endpoints u rows block most members rest
+  pub texts : wanted ≡ batches_sent endpoints u batches
 
 -- What the steps of a run send, where these rows enter the first of them. A step may have one batch, and one more for each whole block of
 -- rows that enters it or a step before it: before the first step stand `most`, which is one at the begin of a run.
@@ -64,7 +72,7 @@ abbrev pub IsRunSent : List EndpointParts → List Triple → ℕ → ℕ → Li
 IsRunSent endpoints graph block most [] rows wanted = wanted ≡ []
 IsRunSent endpoints graph block most (u ∷ us) rows wanted =
     (own : List Sent) × (rest : List Sent) × (wanted ≡ own ++ rest)
-    × AreSentTo endpoints u rows block (most + length rows / block) u.members own
+    × IsStepSent endpoints u rows block (most + length rows / block) own
     × IsRunSent endpoints graph block (most + length rows / block) us (step graph u rows) rest
 
 -- ---- laws
@@ -101,11 +109,9 @@ RunInAnyOrder = (endpoints : List EndpointParts) (graph : List Triple) (block mo
 abbrev pub MoreMayBe : Type 0
 MoreMayBe = (rows : List Row) (block most more : ℕ) (batches : List (List Row)) → most ≤ more → AreBatchesOf rows block most batches → AreBatchesOf rows block more batches
 
--- a run may send nothing, where its units ask members that there are
+-- a run may send nothing
 abbrev pub NothingOfARun : Type 0
-NothingOfARun = (endpoints : List EndpointParts) (graph : List Triple) (block most : ℕ) (us : List unit.Unit) (rows : List Row)
-    → All (λ (u : unit.Unit). All (λ at. at < length endpoints) u.members) us
-    → IsRunSent endpoints graph block most us rows []
+NothingOfARun = (endpoints : List EndpointParts) (graph : List Triple) (block most : ℕ) (us : List unit.Unit) (rows : List Row) → IsRunSent endpoints graph block most us rows []
 
 pub record BatchLaws : Type 0 where
   pub cut : CutsAreBatches

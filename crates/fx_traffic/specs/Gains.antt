@@ -2,6 +2,7 @@
 use Rattle.std.specs.Prelude.{◌≡◌, ℕ, ◌+◌, ◌≤◌, List, [], ◌∷◌, ◌++◌, Some, All, IsPermutation}
 use Rattle.std.specs.List.{sum_by}
 use Rattle.fx_terms.specs.declared.triples.Triple.{Triple}
+use Rattle.fx_outside.specs.Endpoints.{EndpointParts}
 use Rattle.fx_wire.specs.Exchanges.{Exchange, IsAfter, Seen}
 
 -- how many faults they counted at an address, together
@@ -11,6 +12,13 @@ faults_at wires address = sum_by (λ w. w.faults address) wires
 -- each tells this graph of an address
 abbrev pub Tell : List Seen → List ℕ → List Triple → Type 0
 Tell wires address graph = All (λ w. w.graph address ≡ Some graph) wires
+
+-- so it is of the address of each endpoint
+abbrev pub TellAll : List Seen → List EndpointParts → List (List Triple) → Type 0
+TellAll wires [] [] = Unit {0}
+TellAll wires [] (graph ∷ graphs) = ⊥
+TellAll wires (e ∷ endpoints) [] = ⊥
+TellAll wires (e ∷ endpoints) (graph ∷ graphs) = Tell wires e.iri graph × TellAll wires endpoints graphs
 
 -- what the logs gained, one wire's part behind the other's
 abbrev pub HaveGained : List Seen → List Seen → List Exchange → Type 0
