@@ -1,3 +1,4 @@
 pub mod JobLemmas
 pub mod RunLemmas
 pub mod WireLemmas
+pub mod HonestLemmas

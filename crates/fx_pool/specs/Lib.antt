@@ -3,3 +3,4 @@ pub mod Reading
 pub mod Jobs
 pub mod Runs
 pub mod Telling
+pub mod Laws

@@ -52,7 +52,9 @@ pub enum Work {
         text: RequestText,
     },
     /// What the rows of a batch are found to join with. A batch without a branch has no text, and isn't one to ask for.
-    Batch { batch: Batch },
+    Batch {
+        batch: Batch,
+    },
     /// The rows of a SERVICE that asks for these columns.
     Service {
         text: RequestText,

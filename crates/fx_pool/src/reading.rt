@@ -4,9 +4,9 @@ ghost use Rattle.fx_algebra.specs.Scopes.{is_among as is_among_names};
 ghost use Rattle.fx_pool.specs.Reading as spec;
 
 use crate::faults::{ReadError, ReplyFault};
-use fx_bound::{Batch, BatchError, Found, read_batch};
 use fx_algebra::scopes::is_among;
 use fx_algebra::{Answer, Solution};
+use fx_bound::{Batch, BatchError, Found, read_batch};
 use fx_http::{ReplyError, read_reply};
 use fx_results::{ResultsError, read};
 use fx_terms::{Items, Name};

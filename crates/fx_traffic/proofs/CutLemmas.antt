@@ -1,5 +1,5 @@
 -- Rows that are cut are batches of these rows, and a step of batches is the step of their rows.
-use Rattle.std.proofs.Common.{◌≡◌, ◌∙◌, ap, sym, subst, refl, inl, inr, ◌⊎◌, Some, None, slice_get, get_or, ℕ, zero, suc, ◌+◌, ◌*◌, ◌/◌, ◌<◌, ◌≤◌, List, [], ◌∷◌, ◌++◌, length, All, arith, IsPermutation, sum_by, append-nil, div-mul-le_self, length-append, suc-mul, add-mul, zero-le}
+use Rattle.std.proofs.Common.{◌≡◌, ◌∙◌, ap, sym, subst, refl, ℕ, zero, suc, ◌+◌, ◌*◌, ◌/◌, ◌<◌, ◌≤◌, List, [], ◌∷◌, ◌++◌, length, All, arith, IsPermutation, sum_by, append-nil, div-mul-le_self, length-append, suc-mul, add-mul, zero-le}
 use Rattle.std.specs.List.{AllByRecursion, flat_map}
 use Rattle.std.specs.Cmp.{IsTotalOrder}
 use Rattle.std.specs.declared.cmp.Ordering.{Ordering}
@@ -11,7 +11,6 @@ use Rattle.std.proofs.lemmas.List.Elements.{All-append, All-from_recursion, recu
 use Rattle.std.proofs.lemmas.List.Sorted.{IsPermutation-refl, IsPermutation-trans, length_permutation}
 use Rattle.std.proofs.lemmas.Map.Lookups.{exact_unsigned}
 use Rattle.std.proofs.lemmas.Nat.{le-div}
-use Rattle.std.proofs.lemmas.Option.{slice_get_cases}
 use Rattle.fx_terms.specs.declared.triples.Triple.{Triple}
 use Rattle.fx_outside.specs.Endpoints.{EndpointParts}
 use Rattle.fx_algebra.specs.Solutions.{solution_cmp, solutions_total}
@@ -161,10 +160,13 @@ run_in_any_order endpoints graph block most us rows others wanted moved h = run_
 
 nothing_allowed : NothingOfARun
 nothing_allowed endpoints graph block most [] rows = refl
-nothing_allowed endpoints graph block most (u ∷ us) rows =
-    ([], [], refl,
-    record { batches = []; cut = record { unused = rows; of_rows = IsPermutation-refl rows; sized = All-from_recursion (IsSized block) [] tt; few = zero-le }; texts = refl },
-    nothing_allowed endpoints graph block (most + length rows / block) us (step graph u rows))
+nothing_allowed endpoints graph block most (u ∷ us) rows = (
+  [],
+  [],
+  refl,
+  record { batches = []; cut = record { unused = rows; of_rows = IsPermutation-refl rows; sized = All-from_recursion (IsSized block) [] tt; few = zero-le }; texts = refl },
+  nothing_allowed endpoints graph block (most + length rows / block) us (step graph u rows),
+)
 
 pub batch_laws : BatchLaws
 batch_laws = record { cut = cuts_are_batches; several = cuts_of_several; step = step_of_batches; any_order = step_in_any_order; run_in_any_order = run_in_any_order; more = more_may_be; nothing = nothing_allowed }
