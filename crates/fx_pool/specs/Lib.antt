@@ -4,3 +4,4 @@ pub mod Jobs
 pub mod Runs
 pub mod Telling
 pub mod Laws
+pub mod Flows

@@ -2,6 +2,7 @@
 #![tactic(auto)]
 
 pub mod faults;
+pub mod flows;
 pub mod jobs;
 pub mod laws;
 mod posting;
@@ -9,6 +10,7 @@ mod reading;
 pub mod running;
 
 pub use faults::ReplyFault;
+pub use flows::FlowError;
 use fx_terms::shareable;
 pub use jobs::{BadReply, Job, JobKind, JobReply, RequestText, Work};
 pub use running::run_jobs;

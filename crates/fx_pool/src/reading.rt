@@ -1,5 +1,6 @@
 //! What replies tell.
-ghost use Rattle.std.specs.Prelude.{◌≡◌, position};
+ghost use Rattle.std.specs.Prelude.{◌≡◌, All, Contains, IfOk, position};
+ghost use Rattle.fx_bound.specs.Answers.{numbers};
 ghost use Rattle.fx_algebra.specs.Scopes.{is_among as is_among_names};
 ghost use Rattle.fx_pool.specs.Reading as spec;
 
@@ -47,7 +48,8 @@ pub(crate) fn read_found(
     reply: &[u8],
     batch: &Batch,
 ) -> Result<Items<Found>, ReadError>
-    ensures { spec.GivesFound reply.now batch.now result }
+    ensures found { spec.GivesFound reply.now batch.now result }
+    ensures branches { IfOk result (λ founds. All (λ f. Contains (numbers batch.now) f.branch) founds) }
 {
     match results_of(alloc, reply) {
         Ok(answer) => match read_batch(alloc, batch, &answer) {

@@ -1,0 +1,36 @@
+use Rattle.std.proofs.Common.{◌≡◌, ◌∙◌, refl, sym, subst, ap, length, List, [], Some, Ok, slice_get}
+use Rattle.std.proofs.lemmas.List.Elements.{All-from_recursion}
+use Rattle.std.proofs.lemmas.Option.{slice_get_read}
+use Rattle.fx_wire.specs.Exchanges.{seen}
+use Rattle.fx_bound.specs.declared.founds.Found.{Found}
+use Rattle.fx_pool.specs.Flows.{AskedMember}
+use Rattle.fx_pool.specs.Posting.{IsHonestAt}
+use Rattle.fx_pool.proofs.MemberLemmas.{asked_in_vain, asked_member, asked_nothing}
+use Rattle.fx_pool.proofs.flows.ask_member.Goals as goal
+
+pub returns-in-None : goal.returns-in-None
+returns-in-None g c =
+    let see = seen g.W.Wire.tells_log g.W.Wire.log g.W.Wire.graph g.W.Wire.faults c.args.wire.now in
+    let es = c.args.endpoints.now in
+    let e = c.index-endpoints-at.result in
+    let found : slice_get es c.args.at ≡ Some e = slice_get_read es (length es) c.args.at e refl c.requires.within c.index-endpoints-at.is in
+    subst (λ (v : List Found). AskedMember see see es c.args.batch.now c.args.at (Ok v)) (sym c.new.ensures)
+    (asked_nothing es c.args.batch.now c.args.at e found c.branches-branches.ensures.known see (sym c.in-None.ensures.exact))
+
+pub returns-in-Err : goal.returns-in-Err
+returns-in-Err g c =
+    let see = seen g.W.Wire.tells_log g.W.Wire.log g.W.Wire.graph g.W.Wire.faults in
+    let es = c.args.endpoints.now in
+    let e = c.index-endpoints-at.result in
+    let found : slice_get es c.args.at ≡ Some e = slice_get_read es (length es) c.args.at e refl c.requires.within c.index-endpoints-at.is in
+    asked_in_vain es c.args.batch.now c.args.at e found c.branches-branches.ensures.known (see c.args.wire.now) (see c.post.new.wire) c.in-Some.text.now (sym c.in-Some.ensures.exact) c.in-Some.ensures.accepted
+    (record { logged = c.in-Err.ensures.logged; honest = All-from_recursion (IsHonestAt (g.W.Wire.graph c.args.wire.now)) [] tt; same = c.in-Err.ensures.same; tells = refl; kept = c.in-Err.ensures.kept })
+
+pub returns-in-Ok : goal.returns-in-Ok
+returns-in-Ok g c =
+    let see = seen g.W.Wire.tells_log g.W.Wire.log g.W.Wire.graph g.W.Wire.faults in
+    let es = c.args.endpoints.now in
+    let e = c.index-endpoints-at.result in
+    let found : slice_get es c.args.at ≡ Some e = slice_get_read es (length es) c.args.at e refl c.requires.within c.index-endpoints-at.is in
+    asked_member es c.args.batch.now c.args.at e found c.branches-branches.ensures.known (see c.args.wire.now) (see c.post.new.wire) c.in-Some.text.now (sym c.in-Some.ensures.exact) c.in-Some.ensures.accepted c.in-Ok.posted c.found_by.result c.in-Ok.ensures.posted
+    (record { logged = c.in-Ok.ensures.logged; honest = c.in-Ok.ensures.honest; same = c.in-Ok.ensures.same; tells = refl; kept = c.in-Ok.ensures.kept }) c.in-Ok.ensures.counted c.found_by.ensures

@@ -1,0 +1,118 @@
+-- What asking for the units of a run leaves of a wire, and what it gives.
+use Rattle.std.specs.Prelude.{◌≡◌, ◌<◌, ◌≤◌, ◌+◌, ◌*◌, ◌/◌, ◌++◌, ℕ, Bool, List, [], ◌∷◌, Option, Some, IfOk, IfErr, IsTrue, All, Contains, IsPermutation, Result, Ok, Err, length, slice_get}
+use Rattle.std.specs.declared.alloc.Global.{Global}
+use Rattle.std.specs.declared.vec.Vec.{Vec}
+use Rattle.fx_terms.specs.declared.triples.Triple.{Triple}
+use Rattle.fx_outside.specs.Endpoints.{EndpointParts}
+use Rattle.fx_algebra.specs.Graphs.{union}
+use Rattle.fx_algebra.specs.Printed.{printed_query}
+use Rattle.fx_algebra.specs.Units.{graph_of, step}
+use Rattle.fx_algebra.specs.declared.units.Row.{Row}
+use Rattle.fx_algebra.specs.declared.units.Unit as unit
+use Rattle.fx_spelling.specs.Units.{IsSound}
+use Rattle.fx_http.specs.Replies.{Replies}
+use Rattle.fx_http.specs.Requests.{request_of}
+use Rattle.fx_http.specs.declared.replies.ReplyError.TheVariants.{TooLong}
+use Rattle.fx_bound.specs.Answers.{IsRead, numbers}
+use Rattle.fx_bound.specs.Parts.{Parts, query_of, text_of}
+use Rattle.fx_bound.specs.declared.founds.Found.{Found}
+use Rattle.fx_traffic.specs.Batches.{AreBatchesOf, batches_sent, member_sent, unit_sent}
+use Rattle.fx_traffic.specs.Sent.{Sent, Sends}
+use Rattle.fx_wire.specs.Exchanges.{Exchange, Seen, exchanged}
+use Rattle.fx_pool.specs.Posting.{AreHonest}
+use Rattle.fx_pool.specs.Reading.{a_batch, HasFault, HasFound}
+use Rattle.fx_pool.specs.declared.faults.ReplyFault.TheVariants.{Http}
+use Rattle.fx_pool.specs.declared.flows.FlowError.{FlowError}
+use Rattle.fx_pool.specs.declared.flows.FlowError.TheVariants as flow
+use Rattle.fx_pool.specs.declared.jobs.BadReply.{BadReply}
+use Rattle.fx_pool.specs.declared.jobs.JobKind.TheVariants as kind
+use Rattle.fx_pool.specs.declared.posting.Posted.{Posted}
+use Rattle.fx_pool.specs.declared.posting.Posted.TheVariants as posted
+
+-- ---- exchanges on a wire
+
+-- a wire went through these exchanges, which are honest where graphs are told
+pub record Passed (before after : Seen) (xs : List Exchange) : Type 0 where
+  pub logged : IsTrue before.tells_log → after.log ≡ before.log ++ xs
+  pub honest : AreHonest before.graph xs
+  pub same : (address : List ℕ) → after.graph address ≡ before.graph address
+  pub tells : after.tells_log ≡ before.tells_log
+  pub kept : (address : List ℕ) → before.faults address ≤ after.faults address
+
+-- the graph of each endpoint is told
+abbrev pub AreTold : (List ℕ → Option (List Triple)) → List EndpointParts → List (List Triple) → Type 0
+AreTold graph [] [] = Unit {0}
+AreTold graph [] (g ∷ gs) = ⊥
+AreTold graph (e ∷ es) [] = ⊥
+AreTold graph (e ∷ es) (g ∷ gs) = (graph e.iri ≡ Some g) × AreTold graph es gs
+
+-- ---- causes
+
+-- a reply to the text of a batch has this first fault, and is the reply of one of the exchanges; where the graph is told, the fault
+-- is that the reply is too long
+pub record IsBadBatch (graph : List ℕ → Option (List Triple)) (e : EndpointParts) (p : Parts) (xs : List Exchange) (bad : BadReply) : Type 0 where
+  pub of_kind : bad.kind ≡ kind.Batch
+  pub text : List ℕ
+  pub of_batch : text_of p ≡ Some text
+  pub posts : bad.request ≡ request_of e text
+  pub exchanged_so : Contains xs (exchanged e bad.request bad.reply)
+  pub fault : HasFault (a_batch p) bad.reply bad.why
+  pub long : (g : List Triple) → graph e.iri ≡ Some g → (bad.why ≡ Http TooLong) × (67108864 < length bad.reply)
+
+-- the text of a batch is longer than one may be
+pub record IsLongBatch (p : Parts) (size : ℕ) : Type 0 where
+  pub text : List ℕ
+  pub of_batch : text_of p ≡ Some text
+  pub long : 67108864 < size
+  pub size_is : size ≡ length text
+
+-- why a batch has no rows from the endpoint of a number
+abbrev pub IsBatchCause : Seen → Seen → EndpointParts → Parts → List Exchange → FlowError → Type 0
+IsBatchCause before after e p xs (flow.Member at) = before.faults e.iri < after.faults e.iri
+IsBatchCause before after e p xs (flow.BadReply at bad) = IsBadBatch before.graph e p xs bad
+IsBatchCause before after e p xs (flow.RequestTooLong at size) = IsLongBatch p size
+IsBatchCause before after e p xs flow.Memory = Unit {0}
+
+-- the reply answers this request of a batch, and has this first fault
+pub record IsBadReplyTo (p : Parts) (request bytes : List ℕ) (bad : BadReply) : Type 0 where
+  pub of_kind : bad.kind ≡ kind.Batch
+  pub requested : bad.request ≡ request
+  pub replied : bad.reply ≡ bytes
+  pub fault : HasFault (a_batch p) bytes bad.why
+
+-- which endpoint a refusal names
+abbrev pub Names : ℕ → FlowError → Type 0
+Names at (flow.Member it) = it ≡ at
+Names at (flow.BadReply it bad) = it ≡ at
+Names at (flow.RequestTooLong it size) = it ≡ at
+Names at flow.Memory = Unit {0}
+
+-- ---- one reply
+
+-- what the reply to a request tells of a batch, or its first fault
+abbrev pub FoundIn : Parts → ℕ → List ℕ → List ℕ → Result (List Found) FlowError → Type 0
+FoundIn p at request bytes (Ok founds) = HasFound bytes p founds × All (λ f. Contains (numbers p) f.branch) founds
+FoundIn p at request bytes (Err (flow.BadReply it bad)) = (it ≡ at) × IsBadReplyTo p request bytes bad
+FoundIn p at request bytes (Err flow.Memory) = Unit {0}
+FoundIn p at request bytes (Err why) = ⊥
+
+abbrev pub FoundBy : Parts → ℕ → Posted → Result (List Found) FlowError → Type 0
+FoundBy p at (posted.Replied request bytes) result = FoundIn p at request bytes result
+FoundBy p at posted.Failed result = result ≡ Err (flow.Member at)
+FoundBy p at (posted.TooLong size) result = result ≡ Err (flow.RequestTooLong at size)
+
+-- ---- one member
+
+-- A member was asked for a batch: its text was sent once at most, where it has one; what is found is what is read of an answer over its
+-- graph, where that is told.
+pub record AskedMember (before after : Seen) (endpoints : List EndpointParts) (p : Parts) (at : ℕ) (result : Result (List Found) FlowError) : Type 0 where
+  pub exchanges : List Exchange
+  pub passed : Passed before after exchanges
+  pub left : List Sent
+  pub sent : Sends (member_sent endpoints p.unit p.rows at) left exchanges
+  pub endpoint : EndpointParts
+  pub found : slice_get endpoints at ≡ Some endpoint
+  pub numbered : IfOk result (λ founds. All (λ f. Contains (numbers p) f.branch) founds)
+  pub read : IfOk result (λ founds. (g : List Triple) → before.graph endpoint.iri ≡ Some g → IsRead g p founds)
+  pub named : IfErr result (Names at)
+  pub cause : IfErr result (IsBatchCause before after endpoint p exchanges)
