@@ -5,3 +5,5 @@ pub mod HonestLemmas
 pub mod FaultLemmas
 pub mod BatchLemmas
 pub mod MemberLemmas
+pub mod MembersLemmas
+pub mod AskLemmas

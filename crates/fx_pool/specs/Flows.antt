@@ -1,5 +1,6 @@
 -- What asking for the units of a run leaves of a wire, and what it gives.
 use Rattle.std.specs.Prelude.{◌≡◌, ◌<◌, ◌≤◌, ◌+◌, ◌*◌, ◌/◌, ◌++◌, ℕ, Bool, List, [], ◌∷◌, Option, Some, IfOk, IfErr, IsTrue, All, Contains, IsPermutation, Result, Ok, Err, length, slice_get}
+use Rattle.std.specs.List.{flat_map}
 use Rattle.std.specs.declared.alloc.Global.{Global}
 use Rattle.std.specs.declared.vec.Vec.{Vec}
 use Rattle.fx_terms.specs.declared.triples.Triple.{Triple}
@@ -13,7 +14,7 @@ use Rattle.fx_spelling.specs.Units.{IsSound}
 use Rattle.fx_http.specs.Replies.{Replies}
 use Rattle.fx_http.specs.Requests.{request_of}
 use Rattle.fx_http.specs.declared.replies.ReplyError.TheVariants.{TooLong}
-use Rattle.fx_bound.specs.Answers.{IsRead, numbers}
+use Rattle.fx_bound.specs.Answers.{AreReadOf, IsRead, numbers}
 use Rattle.fx_bound.specs.Parts.{Parts, query_of, text_of}
 use Rattle.fx_bound.specs.declared.founds.Found.{Found}
 use Rattle.fx_traffic.specs.Batches.{AreBatchesOf, batches_sent, member_sent, unit_sent}
@@ -116,3 +117,49 @@ pub record AskedMember (before after : Seen) (endpoints : List EndpointParts) (p
   pub read : IfOk result (λ founds. (g : List Triple) → before.graph endpoint.iri ≡ Some g → IsRead g p founds)
   pub named : IfErr result (Names at)
   pub cause : IfErr result (IsBatchCause before after endpoint p exchanges)
+
+-- ---- the members of a unit
+
+-- why the members of a unit have no rows for a batch: the cause at one of them, which the refusal names
+pub record IsMemberCause (before after : Seen) (endpoints : List EndpointParts) (p : Parts) (members : List ℕ) (xs : List Exchange) (e : FlowError) : Type 0 where
+  pub at : ℕ
+  pub member : Contains members at
+  pub endpoint : EndpointParts
+  pub found : slice_get endpoints at ≡ Some endpoint
+  pub named : Names at e
+  pub cause : IsBatchCause before after endpoint p xs e
+
+-- want of memory has none
+abbrev pub HasMemberCause : Seen → Seen → List EndpointParts → Parts → List ℕ → List Exchange → FlowError → Type 0
+HasMemberCause before after endpoints p members xs flow.Memory = Unit {0}
+HasMemberCause before after endpoints p members xs e = IsMemberCause before after endpoints p members xs e
+
+-- members were asked for a batch, one after another
+pub record AskedMembers (before after : Seen) (endpoints : List EndpointParts) (p : Parts) (members : List ℕ) (result : Result (List (List Found)) FlowError) : Type 0 where
+  pub exchanges : List Exchange
+  pub passed : Passed before after exchanges
+  pub left : List Sent
+  pub sent : Sends (flat_map (member_sent endpoints p.unit p.rows) members) left exchanges
+  pub numbered : IfOk result (λ lists. All (λ list. All (λ f. Contains (numbers p) f.branch) list) lists)
+  pub read : IfOk result (λ lists. (graphs : List (List Triple)) → AreTold before.graph endpoints graphs → AreReadOf graphs p members lists)
+  pub cause : IfErr result (HasMemberCause before after endpoints p members exchanges)
+
+-- the lists of an answer
+abbrev pub lists_in : Result (Vec (List Found) Global) FlowError → Result (List (List Found)) FlowError
+lists_in (Ok lists) = Ok lists.items
+lists_in (Err e) = Err e
+
+-- ---- a batch
+
+-- the members of a unit were asked for a batch: the rows are what the unit makes of it, where graphs are told and the unit is sound
+pub record AskedBatch (before after : Seen) (endpoints : List EndpointParts) (p : Parts) (result : Result (List Row) FlowError) : Type 0 where
+  pub exchanges : List Exchange
+  pub passed : Passed before after exchanges
+  pub left : List Sent
+  pub sent : Sends (unit_sent endpoints p.unit p.rows) left exchanges
+  pub done : IfOk result (λ rows. (graphs : List (List Triple)) → AreTold before.graph endpoints graphs → IsSound graphs p.unit → IsPermutation rows (step (union graphs) p.unit p.rows))
+  pub cause : IfErr result (HasMemberCause before after endpoints p p.unit.members exchanges)
+
+abbrev pub rows_in : Result (Vec Row Global) FlowError → Result (List Row) FlowError
+rows_in (Ok rows) = Ok rows.items
+rows_in (Err e) = Err e

@@ -1,15 +1,22 @@
 //! The units of a run, asked for in batches.
-ghost use Rattle.std.specs.Prelude.{◌≡◌, ◌<◌, ◌≤◌, All, Contains, IfOk, true, length};
+ghost use Rattle.std.specs.Prelude.{◌≡◌, ◌<◌, ◌≤◌, All, Contains, IfErr, IfOk, IsPermutation, List, true, length};
+ghost use Rattle.fx_terms.specs.declared.triples.Triple.{Triple as TripleParts};
+ghost use Rattle.fx_algebra.specs.Graphs.{union};
+ghost use Rattle.fx_algebra.specs.Units.{step};
+ghost use Rattle.fx_spelling.specs.Units.{IsFit, IsSound};
+ghost use Rattle.fx_bound.specs.Answers.{AreReadOf, numbers};
+ghost use Rattle.fx_bound.specs.Texts.{IsSpelled};
 ghost use Rattle.fx_outside.specs.Endpoints.{is_sendable};
 ghost use Rattle.fx_wire.specs.Exchanges.{seen};
-ghost use Rattle.fx_pool.specs.Flows.{AskedMember};
+ghost use Rattle.fx_pool.specs.Flows.{AskedBatch, AskedMember, AskedMembers, lists_in, rows_in};
 ghost use Rattle.fx_pool.specs.Flows as spec;
 
 use crate::faults::ReadError;
 use crate::jobs::{BadReply, JobKind};
 use crate::posting::{Posted, post};
 use crate::reading::read_found;
-use fx_bound::{Batch, Found};
+use fx_algebra::{Row, Unit};
+use fx_bound::{Batch, Found, batch_text, unite};
 use fx_outside::Endpoint;
 use fx_terms::{Items, Memory};
 use fx_wire::Wire;
@@ -26,6 +33,68 @@ pub enum FlowError {
     RequestTooLong { at: u32, length: u64 },
     /// Memory ran out.
     Memory,
+}
+
+// What the members of a unit have for rows, united.
+fn ask_batch<W: Wire>(
+    alloc: Global,
+    wire: &mut W,
+    endpoints: &[Endpoint],
+    unit: &Unit,
+    rows: &[Row],
+) -> Result<Vec<Row>, FlowError>
+    requires sendable { All (λ e. is_sendable e ≡ true) endpoints.now }
+    requires fit { IsFit unit.now }
+    requires spelled { IsSpelled unit.now }
+    requires few { length rows.now ≤ 64 }
+    requires within { All (λ at. at < length endpoints.now) unit.now.members }
+    ensures { AskedBatch (seen W.tells_log W.log W.graph W.faults wire.old) (seen W.tells_log W.log W.graph W.faults wire.new) endpoints.now (record { unit = unit.now; rows = rows.now }) (rows_in result) }
+{
+    match batch_text(alloc, unit, rows) {
+        Err(Memory) => Err(FlowError::Memory),
+        Ok(batch) => match ask_members(alloc, wire, endpoints, &batch, unit.members.as_slice()) {
+            Err(error) => Err(error),
+            Ok(lists) => united(alloc, &batch, lists.as_slice()),
+        },
+    }
+}
+
+fn united(alloc: Global, batch: &Batch, lists: &[Items<Found>]) -> Result<Vec<Row>, FlowError>
+    requires { All (λ list. All (λ f. Contains (numbers batch.now) f.branch) list) lists.now }
+    ensures step { (graphs : List (List TripleParts)) → IsSound graphs batch.now.unit → AreReadOf graphs batch.now batch.now.unit.members lists.now
+        → IfOk result (λ rows. IsPermutation rows.items (step (union graphs) batch.now.unit batch.now.rows)) }
+    ensures memory { IfErr result (λ e. e ≡ FlowError.Memory) }
+{
+    match unite(alloc, batch, lists) {
+        Ok(rows) => Ok(rows),
+        Err(Memory) => Err(FlowError::Memory),
+    }
+}
+
+// What members have for a batch, one after another.
+fn ask_members<W: Wire>(
+    alloc: Global,
+    wire: &mut W,
+    endpoints: &[Endpoint],
+    batch: &Batch,
+    members: &[u32],
+) -> Result<Vec<Items<Found>>, FlowError>
+    requires sendable { All (λ e. is_sendable e ≡ true) endpoints.now }
+    requires within { All (λ at. at < length endpoints.now) members.now }
+    ensures { AskedMembers (seen W.tells_log W.log W.graph W.faults wire.old) (seen W.tells_log W.log W.graph W.faults wire.new) endpoints.now batch.now members.now (lists_in result) }
+{
+    let mut lists = Vec::new(alloc);
+    for at in members {
+        match ask_member(alloc, wire, endpoints, batch, *at) {
+            Err(error) => return Err(error),
+            Ok(founds) => {
+                if lists.push(founds).is_err() {
+                    return Err(FlowError::Memory);
+                }
+            }
+        }
+    }
+    Ok(lists)
 }
 
 // What a member has for the branches of a batch: nothing, where the batch has no text.

@@ -1,0 +1,55 @@
+-- What asking the members of a unit for a batch gives.
+use Rattle.std.proofs.Common.{◌≡◌, refl, sym, subst, ℕ, List, [], Option, IfOk, IfErr, Result, Ok, Err, IsPermutation, slice_get, length, ◌<◌, All, Contains, ◌∷◌}
+use Rattle.std.specs.List.{flat_map}
+use Rattle.std.specs.declared.alloc.Global.{Global}
+use Rattle.std.specs.declared.vec.Vec.{Vec}
+use Rattle.fx_terms.specs.declared.triples.Triple.{Triple}
+use Rattle.fx_outside.specs.Endpoints.{EndpointParts}
+use Rattle.fx_algebra.specs.Graphs.{union}
+use Rattle.fx_algebra.specs.Units.{step}
+use Rattle.fx_algebra.specs.declared.units.Row.{Row}
+use Rattle.fx_spelling.specs.Units.{IsSound}
+use Rattle.fx_bound.specs.Answers.{AreReadOf}
+use Rattle.fx_bound.specs.Parts.{Parts}
+use Rattle.fx_bound.specs.declared.founds.Found.{Found}
+use Rattle.fx_wire.specs.Exchanges.{Seen}
+use Rattle.fx_pool.specs.Flows.{AreTold, AskedBatch, AskedMembers, HasMemberCause, rows_in}
+use Rattle.fx_pool.specs.declared.flows.FlowError.{FlowError}
+use Rattle.fx_pool.specs.declared.flows.FlowError.TheVariants as flow
+use Rattle.fx_pool.proofs.MembersLemmas.{passed_none}
+use Rattle.fx_traffic.specs.Batches.{unit_sent}
+use Rattle.std.proofs.lemmas.List.Sorted.{IsPermutation-refl}
+
+module _ (s t : Seen) (es : List EndpointParts) (p : Parts) where
+  pub refused : (why : FlowError) → AskedMembers s t es p p.unit.members (Err why) → AskedBatch s t es p (Err why)
+  refused why h = record { exchanges = h.exchanges; passed = h.passed; left = h.left; sent = h.sent; done = tt; cause = h.cause }
+
+  pub given : (lists : List (List Found)) (result : Result (Vec Row Global) FlowError) → AskedMembers s t es p p.unit.members (Ok lists)
+      → ((graphs : List (List Triple)) → IsSound graphs p.unit → AreReadOf graphs p p.unit.members lists → IfOk result (λ rows. IsPermutation rows.items (step (union graphs) p.unit p.rows)))
+      → IfErr result (λ e. e ≡ flow.Memory) → AskedBatch s t es p (rows_in result)
+  given lists (Ok rows) h f m = record {
+    exchanges = h.exchanges;
+    passed = h.passed;
+    left = h.left;
+    sent = h.sent;
+    done = λ graphs told sound. f graphs sound (h.read graphs told);
+    cause = tt;
+  }
+  given lists (Err why) h f m = record {
+    exchanges = h.exchanges;
+    passed = h.passed;
+    left = h.left;
+    sent = h.sent;
+    done = tt;
+    cause = subst (HasMemberCause s t es p p.unit.members h.exchanges) (sym m) tt;
+  }
+
+  pub unasked : s ≡ t → AskedBatch s t es p (Err flow.Memory)
+  unasked same = subst (λ (v : Seen). AskedBatch s v es p (Err flow.Memory)) same (record {
+    exchanges = [];
+    passed = passed_none s;
+    left = unit_sent es p.unit p.rows;
+    sent = IsPermutation-refl (unit_sent es p.unit p.rows);
+    done = tt;
+    cause = tt;
+  })
