@@ -7,3 +7,4 @@ pub mod BatchLemmas
 pub mod MemberLemmas
 pub mod MembersLemmas
 pub mod AskLemmas
+pub mod StepLemmas

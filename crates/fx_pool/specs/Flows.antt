@@ -17,7 +17,7 @@ use Rattle.fx_http.specs.declared.replies.ReplyError.TheVariants.{TooLong}
 use Rattle.fx_bound.specs.Answers.{AreReadOf, IsRead, numbers}
 use Rattle.fx_bound.specs.Parts.{Parts, query_of, text_of}
 use Rattle.fx_bound.specs.declared.founds.Found.{Found}
-use Rattle.fx_traffic.specs.Batches.{AreBatchesOf, batches_sent, member_sent, unit_sent}
+use Rattle.fx_traffic.specs.Batches.{AreBatchesOf, AreCut, batches_sent, member_sent, unit_sent}
 use Rattle.fx_traffic.specs.Sent.{Sent, Sends}
 use Rattle.fx_wire.specs.Exchanges.{Exchange, Seen, exchanged}
 use Rattle.fx_pool.specs.Posting.{AreHonest}
@@ -163,3 +163,34 @@ pub record AskedBatch (before after : Seen) (endpoints : List EndpointParts) (p 
 abbrev pub rows_in : Result (Vec Row Global) FlowError → Result (List Row) FlowError
 rows_in (Ok rows) = Ok rows.items
 rows_in (Err e) = Err e
+
+-- ---- a step
+
+-- why a step ends: the cause at one of its batches
+pub record IsStepCause (before after : Seen) (endpoints : List EndpointParts) (u : unit.Unit) (batches : List (List Row)) (xs : List Exchange) (e : FlowError) : Type 0 where
+  pub batch : List Row
+  pub among : Contains batches batch
+  pub cause : HasMemberCause before after endpoints (record { unit = u; rows = batch }) u.members xs e
+
+-- A step was asked for in batches of the rows that enter it: its rows are what the unit makes of these, where graphs are told and the
+-- unit is sound.
+pub record AskedStep (before after : Seen) (endpoints : List EndpointParts) (u : unit.Unit) (block : ℕ) (rows : List Row) (result : Result (List Row) FlowError) : Type 0 where
+  pub exchanges : List Exchange
+  pub passed : Passed before after exchanges
+  pub batches : List (List Row)
+  pub cut : AreBatchesOf rows block (1 + length rows / block) batches
+  pub left : List Sent
+  pub sent : Sends (batches_sent endpoints u batches) left exchanges
+  pub done : IfOk result (λ next. (graphs : List (List Triple)) → AreTold before.graph endpoints graphs → IsSound graphs u → IsPermutation next (step (union graphs) u rows))
+  pub cause : IfErr result (IsStepCause before after endpoints u batches exchanges)
+
+-- what was asked so far: all of the first rows, in as few batches as their number allows, which are full where more rows follow
+pub record AskedSoFar (before after : Seen) (endpoints : List EndpointParts) (u : unit.Unit) (block all : ℕ) (rows next : List Row) : Type 0 where
+  pub exchanges : List Exchange
+  pub passed : Passed before after exchanges
+  pub batches : List (List Row)
+  pub cut : AreCut rows block batches
+  pub full : length rows < all → length batches * block ≡ length rows
+  pub left : List Sent
+  pub sent : Sends (batches_sent endpoints u batches) left exchanges
+  pub done : (graphs : List (List Triple)) → AreTold before.graph endpoints graphs → IsSound graphs u → IsPermutation next (step (union graphs) u rows)

@@ -8,7 +8,7 @@ ghost use Rattle.fx_bound.specs.Answers.{AreReadOf, numbers};
 ghost use Rattle.fx_bound.specs.Texts.{IsSpelled};
 ghost use Rattle.fx_outside.specs.Endpoints.{is_sendable};
 ghost use Rattle.fx_wire.specs.Exchanges.{seen};
-ghost use Rattle.fx_pool.specs.Flows.{AskedBatch, AskedMember, AskedMembers, lists_in, rows_in};
+ghost use Rattle.fx_pool.specs.Flows.{AskedBatch, AskedMember, AskedMembers, AskedStep, lists_in, rows_in};
 ghost use Rattle.fx_pool.specs.Flows as spec;
 
 use crate::faults::ReadError;
@@ -33,6 +33,39 @@ pub enum FlowError {
     RequestTooLong { at: u32, length: u64 },
     /// Memory ran out.
     Memory,
+}
+
+// What the members of a unit have for rows, asked for in batches of `block` rows at most.
+fn ask_step<W: Wire>(
+    alloc: Global,
+    wire: &mut W,
+    endpoints: &[Endpoint],
+    unit: &Unit,
+    rows: &[Row],
+    block: usize,
+) -> Result<Vec<Row>, FlowError>
+    requires sendable { All (λ e. is_sendable e ≡ true) endpoints.now }
+    requires fit { IsFit unit.now }
+    requires spelled { IsSpelled unit.now }
+    requires block { (0 < block) × (block ≤ 64) }
+    requires within { All (λ at. at < length endpoints.now) unit.now.members }
+    ensures { AskedStep (seen W.tells_log W.log W.graph W.faults wire.old) (seen W.tells_log W.log W.graph W.faults wire.new) endpoints.now unit.now block rows.now (rows_in result) }
+{
+    let mut next = Vec::new(alloc);
+    let mut start = 0;
+    while start < rows.len() {
+        let end = start + (rows.len() - start).min(block);
+        match ask_batch(alloc, wire, endpoints, unit, &rows[start..end]) {
+            Err(error) => return Err(error),
+            Ok(mut more) => {
+                if next.append(&mut more).is_err() {
+                    return Err(FlowError::Memory);
+                }
+            }
+        }
+        start = end;
+    }
+    Ok(next)
 }
 
 // What the members of a unit have for rows, united.
