@@ -2,7 +2,7 @@
 use Rattle.std.proofs.Common.{◌≡◌, ◌⊎◌, inl, inr, List, [], ◌∷◌, ◌++◌, length, Ok, Err, refl, sym, ap, ◌∙◌, subst, append-nil, ◌≤◌, arith, length-append}
 use Rattle.fx_grammar.specs.declared.kinds.Token.{Token}
 use Rattle.fx_grammar.specs.declared.refusals.SyntaxKind.TheVariants.{Unexpected}
-use Rattle.fx_grammar.specs.Rule.{Outcome, Refusal, refused_at, and_then, Rule, to_end, read_whole, stops_whole, ReadAsSpelled, RefusedAsStopped, SpelledOrStopped, RefusedForGood, RefusedTheSame, RefusedFitly, IsFitting}
+use Rattle.fx_grammar.specs.Rule.{Outcome, Refusal, refused_at, and_then, Rule, to_end, read_whole, stops_whole, ReadAsSpelled, RefusedAsStopped, SpelledOrStopped, EndsAsSpelled, RefusedForGood, RefusedTheSame, RefusedFitly, IsFitting}
 use Rattle.fx_grammar.proofs.RuleLaws.{Sound, Lawful}
 use Rattle.fx_grammar.proofs.RuleLocal.{Local, Alike, Leaves, then_alike, leaves_then, leaves_unexpected, refused_alike}
 use Rattle.fx_grammar.proofs.RuleStops.{Tells, Exact, spelled}
@@ -14,6 +14,14 @@ value_of d (Err r) = d
 pub same_value : {A : Type 0} (o : Outcome A) (x y : A) (ts us : List Token) → o ≡ Ok (x, ts) → o ≡ Ok (y, us) → x ≡ y
 unfolding value_of
 same_value o x y ts us e f = ap (value_of x) (sym e ∙ f)
+
+rest_of : {A : Type 0} → Outcome A → List Token
+rest_of (Ok p) = p.1
+rest_of (Err r) = []
+
+same_rest : {A : Type 0} (o : Outcome A) (x y : A) (ts us : List Token) → o ≡ Ok (x, ts) → o ≡ Ok (y, us) → ts ≡ us
+unfolding rest_of
+same_rest o x y ts us e f = ap rest_of (sym e ∙ f)
 
 module _ {A : Type 0} (r : Rule A) (l : Lawful r) (ts : List Token) where
   found_at : (x y : A) (rest : List Token) → (front : List Token) × (ts ≡ front ++ rest) × r.spells front x → to_end x rest ≡ Ok (y, []) → r.spells ts y
@@ -112,6 +120,16 @@ module _ {A : Type 0} (r : Rule A) (law : Lawful r) (l : Local r) where
       let b = a [] h in cc (b, g)
 
   module _ (exact : Exact r) where
+    -- what ends before a token is read up to it, whatever stands behind it
+    no_longer : (front rest other : List Token) (t : Token) (x y : A) → r.ends front x (t ∷ rest) → r.spells (front ++ t ∷ other) y → ⊥
+    no_longer front rest other t x y h s =
+        let a : Alike t rest other (Ok (x, t ∷ rest)) (r.read (front ++ t ∷ other)) = subst (λ (o : Outcome A). Alike t rest other o (r.read (front ++ t ∷ other))) (exact.ends front (t ∷ rest) x h) (l.alike t rest other front) in
+        let b : r.read (front ++ t ∷ other) ≡ Ok (y, []) = subst (λ (v : List Token). r.read v ≡ Ok (y, [])) (append-nil (front ++ t ∷ other)) (law.complete (front ++ t ∷ other) [] y s refl) in
+        let e : t ∷ other ≡ [] = same_rest (r.read (front ++ t ∷ other)) x y (t ∷ other) [] (a [] refl) b in cc
+
+    pub ends_as_spelled : EndsAsSpelled r
+    ends_as_spelled = (spelled r law exact, no_longer)
+
     pub refused_for_good : RefusedForGood r
     refused_for_good tokens refusal e = λ front rest t is h other x s.
         refused_again t rest other front refusal x (ap (read_whole r) (sym is) ∙ whole_refused r law exact tokens refusal e) h (whole_read r law (front ++ t ∷ other) x s)

@@ -31,7 +31,7 @@ abbrev pub why_at : SyntaxKind → List Token → SyntaxKind
 why_at why [] = why
 why_at why (t ∷ ts) = why_of why (kind_of t)
 
--- at the first of these tokens, or behind all tokens
+-- at the first of these tokens, or behind the last of all
 abbrev pub refused_at : SyntaxKind → List Token → Refusal
 refused_at why tokens = record { why = why_at why tokens; left = length tokens }
 
@@ -49,7 +49,7 @@ pub record Rule (A : Type 0) : Type 1 where
   pub spells : List Token → A → Type 0
   -- they spell it, and the next of the tokens behind them doesn't go on with it
   pub ends : List Token → A → List Token → Type 0
-  -- these tokens stop it so
+  -- these tokens stop it, for this reason at this place
   pub stops : List Token → Refusal → Type 0
   -- from left to right
   pub read : List Token → Outcome A
@@ -76,7 +76,7 @@ abbrev pub read_one : {A : Type 0} → (Kind → Bool) → (Token → Result A S
 read_one kinds value [] = refuse Unexpected []
 read_one kinds value (t ∷ ts) = if kinds (kind_of t) then valued (value t) (t ∷ ts) ts else refuse Unexpected (t ∷ ts)
 
--- one token of these kinds, as its value; it is missing or of another kind, or it has no value, for a reason
+-- one token of these kinds, as its value; it stops where the token is missing or of another kind, or has no value for a reason
 abbrev pub one : {A : Type 0} → (Kind → Bool) → (Token → Result A SyntaxKind) → Rule A
 one kinds value = record {
   begins = kinds;
@@ -134,7 +134,8 @@ pub record Shaped {A : Type 0} (shape : Shape) (r : Rule A) : Type 0 where
   pub empty : r.empty ≡ shape.empty
   pub goes_on : r.goes_on ≡ shape.goes_on
 
--- one, and then another that depends on it; the first stops, or it ends and the second stops at the rest
+-- one, and then another that depends on it; the first stops, or it is spelled, the next token doesn't go on with it, and the
+-- second stops at the rest
 abbrev pub then_by : {A B : Type 0} → Rule A → Shape → (A → Rule B) → Rule (A × B)
 then_by {A} a shape b = record {
   begins = λ k. a.begins k || (a.empty && shape.begins k);
@@ -180,7 +181,7 @@ abbrev pub ends_opt : {A : Type 0} → (Kind → Bool) → (List Token → A →
 ends_opt begins ends ts None rest = (ts ≡ []) × (sees begins rest ≡ false)
 ends_opt begins ends ts (Some x) rest = ends ts x rest
 
--- it, where the next token begins it, or nothing
+-- it, where the next token begins it, or else nothing
 abbrev pub opt : {A : Type 0} → Rule A → Rule (Option A)
 opt a = record {
   begins = a.begins;
@@ -277,7 +278,7 @@ nested rule n = with_depth (shape_of (rule nothing)) (depth rule n)
 
 -- ---- all the tokens
 
--- these tokens stop the rule, or they go on behind what it spells
+-- these tokens stop the rule, or one is left over behind what they spell, which doesn't go on with it
 abbrev pub stops_whole : {A : Type 0} → Rule A → List Token → Refusal → Type 0
 stops_whole {A} r ts f = r.stops ts f ⊎ ((x : A) × (front : List Token) × (t : Token) × (rest : List Token) × (ts ≡ front ++ t ∷ rest) × r.ends front x (t ∷ rest) × (f ≡ refused_at Unexpected (t ∷ rest)))
 
@@ -328,6 +329,12 @@ RefusedAsStopped r =
     ((tokens : List Token) (refusal : Refusal) → read_whole r tokens ≡ Err refusal → stops_whole r tokens refusal)
     × ((tokens : List Token) (refusal : Refusal) → stops_whole r tokens refusal → read_whole r tokens ≡ Err refusal)
 
+-- what is spelled before a token that doesn't go on with it is spelled, and no tokens that begin with it and that token are
+abbrev pub EndsAsSpelled : {A : Type 0} → Rule A → Type 0
+EndsAsSpelled {A} r =
+    ((front rest : List Token) (x : A) → r.ends front x rest → r.spells front x)
+    × ((front rest other : List Token) (t : Token) (x y : A) → r.ends front x (t ∷ rest) → r.spells (front ++ t ∷ other) y → ⊥)
+
 -- tokens spell one value, or they stop the rule at one place for one reason
 pub record SpelledOrStopped {A : Type 0} (r : Rule A) : Type 0 where
   pub one_at_least : (tokens : List Token) → ((x : A) × r.spells tokens x) ⊎ ((refusal : Refusal) × stops_whole r tokens refusal)
@@ -335,11 +342,11 @@ pub record SpelledOrStopped {A : Type 0} (r : Rule A) : Type 0 where
   pub one_value : (tokens : List Token) (x y : A) → r.spells tokens x → r.spells tokens y → x ≡ y
   pub one_refusal : (tokens : List Token) (a b : Refusal) → stops_whole r tokens a → stops_whole r tokens b → a ≡ b
 
--- tokens that stop it do so whatever stands behind the token at the refusal's place
+-- where a token stops it, no tokens that begin with those up to and with that one spell a value
 abbrev pub RefusedForGood : {A : Type 0} → Rule A → Type 0
 RefusedForGood r = (tokens : List Token) (refusal : Refusal) → stops_whole r tokens refusal → StaysRefused r.spells tokens refusal
 
--- a token at which tokens stop does so for the same reason, whatever stands behind it
+-- a token that stops it does so for the same reason, whatever stands behind it
 abbrev pub RefusedTheSame : {A : Type 0} → Rule A → Type 0
 RefusedTheSame r =
     (tokens : List Token) (refusal : Refusal) → stops_whole r tokens refusal

@@ -2,7 +2,7 @@
 ghost use Rattle.fx_grammar.specs.Accepted.{OneQuery};
 ghost use Rattle.fx_grammar.specs.Grammar as grammar;
 ghost use Rattle.fx_grammar.specs.Refused.{NeverBoth, OneRefusal};
-ghost use Rattle.fx_grammar.specs.Rule.{ReadAsSpelled, RefusedAsStopped, RefusedFitly, RefusedForGood, RefusedTheSame, SpelledOrStopped};
+ghost use Rattle.fx_grammar.specs.Rule.{EndsAsSpelled, ReadAsSpelled, RefusedAsStopped, RefusedFitly, RefusedForGood, RefusedTheSame, SpelledOrStopped};
 
 /// A text is accepted as one query at most.
 pub fn one_query()
@@ -22,6 +22,11 @@ pub fn never_both()
 /// Tokens spell one query, or they stop the grammar at one place for one reason, and never both.
 pub fn tokens_spell_or_stop()
     ensures { SpelledOrStopped grammar.query }
+{}
+
+/// What is spelled before a token that doesn't go on with it is a query, and no query begins with its tokens and that one.
+pub fn what_ends_is_spelled()
+    ensures { EndsAsSpelled grammar.query }
 {}
 
 /// The grammar is read from left to right, a token at a time, exactly as it is spelled.
