@@ -1,6 +1,7 @@
 -- A text is one query at most, or it is refused for one reason at one place at most, and never both.
 use Rattle.std.proofs.Common.{◌≡◌, ℕ, List, Result, Ok, Err, refl, sym, ap, ◌∙◌, subst}
 use Rattle.std.specs.Str.{chars}
+use Rattle.fx_terms.proofs.Utf8Stops.{stop_once}
 use Rattle.fx_tokens.specs.Reads.{Reads}
 use Rattle.fx_tokens.specs.declared.Token as read
 use Rattle.fx_tokens.specs.declared.TokenFault.{TokenFault}
@@ -38,13 +39,13 @@ one_query_holds bytes p q a b =
     query_spelled_or_stopped.one_value (classified bytes b.tokens) p q (subst (λ (ts : List read.Token). query.spells (classified bytes ts) p) (one_tokens bytes a.tokens b.tokens a.lexed b.lexed) a.spelled) b.spelled
 
 pub one_refusal_holds : OneRefusal
-one_refusal_holds bytes why other place at (not_utf8 n e f) (not_utf8 m g h) = (e ∙ sym g, f ∙ sym h)
-one_refusal_holds bytes why other place at (not_utf8 n e f) (no_token v b s g) = absurd (n v)
-one_refusal_holds bytes why other place at (not_utf8 n e f) (no_query v us s b t g h) = absurd (n v)
-one_refusal_holds bytes why other place at (no_token u a r e) (not_utf8 m g h) = absurd (m u)
+one_refusal_holds bytes why other place at (not_utf8 n e) (not_utf8 m g) = (e ∙ sym g, stop_once.once bytes place at n m)
+one_refusal_holds bytes why other place at (not_utf8 n e) (no_token v b s g) = absurd (n.faulty v)
+one_refusal_holds bytes why other place at (not_utf8 n e) (no_query v us s b t g h) = absurd (n.faulty v)
+one_refusal_holds bytes why other place at (no_token u a r e) (not_utf8 m g) = absurd (m.faulty u)
 one_refusal_holds bytes why other place at (no_token u a r e) (no_token v b s g) = (e ∙ sym g, one_place bytes place at a b r s)
 one_refusal_holds bytes why other place at (no_token u a r e) (no_query v us s b t g h) = absurd (no_fault bytes us place a s r)
-one_refusal_holds bytes why other place at (no_query u ts r a stops e f) (not_utf8 m g h) = absurd (m u)
+one_refusal_holds bytes why other place at (no_query u ts r a stops e f) (not_utf8 m g) = absurd (m.faulty u)
 one_refusal_holds bytes why other place at (no_query u ts r a stops e f) (no_token v b s g) = absurd (no_fault bytes ts at b r s)
 one_refusal_holds bytes why other place at (no_query u ts r a stops e f) (no_query v us s b halts g h) =
     let same = one_tokens bytes ts us r s in
@@ -52,7 +53,7 @@ one_refusal_holds bytes why other place at (no_query u ts r a stops e f) (no_que
     (e ∙ ap (λ (x : Refusal). x.why) one ∙ sym g, f ∙ subst (λ (vs : List read.Token). place_of bytes ts a.left ≡ place_of bytes vs a.left) same refl ∙ ap (λ (x : Refusal). place_of bytes us x.left) one ∙ sym h)
 
 pub never_both_holds : NeverBoth
-never_both_holds bytes why place q (not_utf8 n e f) a = absurd (n a.utf8)
+never_both_holds bytes why place q (not_utf8 n e) a = absurd (n.faulty a.utf8)
 never_both_holds bytes why place q (no_token u fault r e) a = absurd (no_fault bytes a.tokens place fault a.lexed r)
 never_both_holds bytes why place q (no_query u ts r refusal stops e f) a =
     query_spelled_or_stopped.not_both (classified bytes ts) q refusal (subst (λ (vs : List read.Token). query.spells (classified bytes vs) q) (one_tokens bytes a.tokens ts a.lexed r) a.spelled) stops

@@ -1,8 +1,14 @@
 //! Laws of the definitions, each the contract of a function that does nothing.
+ghost use Rattle.fx_terms.specs.Utf8.{StopOnce};
 ghost use Rattle.fx_grammar.specs.Accepted.{OneQuery};
 ghost use Rattle.fx_grammar.specs.Grammar as grammar;
 ghost use Rattle.fx_grammar.specs.Refused.{NeverBoth, OneRefusal};
 ghost use Rattle.fx_grammar.specs.Rule.{EndsAsSpelled, ReadAsSpelled, RefusedAsStopped, RefusedFitly, RefusedForGood, RefusedTheSame, SpelledOrStopped};
+
+/// Bytes that aren't UTF-8 stop being it at one place.
+pub fn utf8_stops_once()
+    ensures { StopOnce }
+{}
 
 /// A text is accepted as one query at most.
 pub fn one_query()
