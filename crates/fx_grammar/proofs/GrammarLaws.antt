@@ -1,7 +1,7 @@
--- The grammar is read exactly as it is spelled, and a refusal stays one: each choice in it is decided by the next token.
+-- The grammar is read exactly as it is spelled, and refused exactly where it stops: each choice in it is decided by the next token.
 use Rattle.std.proofs.Common.{◌≡◌, ℕ, Bool, true, false, List, [], length, Option, refl}
 use Rattle.fx_grammar.specs.Kinds.{is}
-use Rattle.fx_grammar.specs.Rule.{Rule, shape_of, Shaped, Depth, with_depth, nothing, token, after, opt, depth, Apart, ReadAsSpelled, RefusedForGood, RefusedTheSame, RefusedFitly}
+use Rattle.fx_grammar.specs.Rule.{Rule, shape_of, Shaped, Depth, with_depth, nothing, token, after, opt, depth, Apart, ReadAsSpelled, RefusedAsStopped, SpelledOrStopped, EndsAsSpelled, RefusedForGood, RefusedTheSame, RefusedFitly}
 use Rattle.fx_grammar.specs.Grammar.{Prefixes, parens, braces, body, block, single_block, wide_block, rows, row, row_end, columns, new_column, value, literal, text_suffix, datatype, iri_name, variable, main, query_head, select_head, distinct, selected, column, where_group, whole_group, group, braced, inside, items, first_triples, item, behind_other, other, union, service, service_name, binding, unbound, constraint, whole_expression, expression, disjunction, conjunction, relation, compared, among, sum, addend, signed_product, signed_literal, product, factor, no_quotient, unary, primary, primary_iri, primary_literal, no_call, call, bound_call, coalesce_call, if_call, one_call, two_call, two_args, list, triples, more_triples, dot_triples, same_subject, properties, more_properties, property, objects, verb, verb_iri, no_path, graph_term, part_literal, modifiers, order, condition, limits, limit, offset, number, query, prologue, prefix, with_elements, tag_of, text_of, is_plain_literal, literal_of, one_of, two_of, signed_of, comparison_of, namespace_of, iri_of, dot}
 use Rattle.fx_grammar.specs.declared.kinds.Kind.TheVariants as k
 use Rattle.fx_algebra.specs.declared.expressions.Expr.{Expr}
@@ -10,7 +10,7 @@ use Rattle.fx_terms.specs.declared.terms.Term.{Term}
 use Rattle.fx_grammar.proofs.KindLaws.{apart_by}
 use Rattle.fx_grammar.proofs.RuleKept.{Kept, kept_one, kept_token, kept_made, kept_then_by, kept_seq, kept_after, kept_before, kept_either, kept_opt, kept_many_from, kept_many, kept_chain, kept_some, kept_refusing, kept_nested}
 use Rattle.fx_grammar.proofs.RuleLaws.{Lawful}
-use Rattle.fx_grammar.proofs.RuleWhole.{read_as_spelled, refused_for_good, refused_the_same, refused_fitly}
+use Rattle.fx_grammar.proofs.RuleWhole.{read_as_spelled, refused_as_stopped, spelled_or_stopped, ends_as_spelled, refused_for_good, refused_the_same, refused_fitly}
 
 -- brackets round a rule that doesn't go on with their end
 pub kept_parens : {A : Type 0} {a : Rule A} → Kept a → Apart (is k.RightParen) (after (token k.LeftParen) a).goes_on → Kept (parens a)
@@ -176,9 +176,13 @@ module _ (ps : Prefixes) where
   unfolding disjunction conjunction relation compared among sum addend signed_product signed_literal product factor no_quotient unary primary primary_iri primary_literal no_call call bound_call coalesce_call if_call one_call two_call two_args list literal text_suffix datatype iri_name variable
   expression_fits d = record { begins = refl; empty = refl; goes_on = refl }
 
+  expression_takes : (shape_of (disjunction ps nothing)).empty ≡ false
+  unfolding disjunction conjunction relation compared among sum addend signed_product signed_literal product factor no_quotient unary primary primary_iri primary_literal no_call call bound_call coalesce_call if_call one_call two_call two_args list literal text_suffix datatype iri_name variable
+  expression_takes = refl
+
   pub kept_expression : (n : ℕ) → Kept (expression ps n)
   unfolding expression
-  kept_expression n = kept_nested (disjunction ps) expression_fits (λ d kd. kept_disjunction ps d kd) n
+  kept_expression n = kept_nested (disjunction ps) expression_fits expression_takes (λ d kd. kept_disjunction ps d kd) n
 
   pub kept_whole_expression : Kept (whole_expression ps)
   unfolding whole_expression
@@ -363,9 +367,13 @@ module _ (ps : Prefixes) where
   unfolding braced inside items first_triples item behind_other other union service service_name binding unbound block single_block wide_block rows row row_end columns new_column value literal text_suffix datatype iri_name variable constraint whole_expression expression disjunction conjunction relation compared among sum addend signed_product signed_literal product factor no_quotient unary primary primary_iri primary_literal no_call call bound_call coalesce_call if_call one_call two_call two_args list triples more_triples dot_triples same_subject properties more_properties property objects verb verb_iri no_path graph_term part_literal
   braced_fits d = record { begins = refl; empty = refl; goes_on = refl }
 
+  braced_takes : (shape_of (braced ps nothing)).empty ≡ false
+  unfolding braced
+  braced_takes = refl
+
   pub kept_group : (n : ℕ) → Kept (group ps n)
   unfolding group
-  kept_group n = kept_nested (braced ps) (λ d. braced_fits d) (λ d kd. kept_braced ps d kd) n
+  kept_group n = kept_nested (braced ps) (λ d. braced_fits d) braced_takes (λ d kd. kept_braced ps d kd) n
 
   pub kept_whole_group : Kept (whole_group ps)
   unfolding whole_group
@@ -557,11 +565,20 @@ module _ (ps : Prefixes) (n : ℕ) where
 pub query_read_as_spelled : ReadAsSpelled query
 query_read_as_spelled = read_as_spelled query kept_query.law
 
+pub query_refused_as_stopped : RefusedAsStopped query
+query_refused_as_stopped = refused_as_stopped query kept_query.law kept_query.exact
+
+pub query_spelled_or_stopped : SpelledOrStopped query
+query_spelled_or_stopped = spelled_or_stopped query kept_query.law kept_query.exact
+
+pub query_ends_as_spelled : EndsAsSpelled query
+query_ends_as_spelled = ends_as_spelled query kept_query.law kept_query.local kept_query.exact
+
 pub query_refused_for_good : RefusedForGood query
-query_refused_for_good = refused_for_good query kept_query.law kept_query.local
+query_refused_for_good = refused_for_good query kept_query.law kept_query.local kept_query.exact
 
 pub query_refused_the_same : RefusedTheSame query
-query_refused_the_same = refused_the_same query kept_query.law kept_query.local
+query_refused_the_same = refused_the_same query kept_query.law kept_query.local kept_query.exact
 
 pub query_refused_fitly : RefusedFitly query
-query_refused_fitly = refused_fitly query kept_query.law kept_query.local
+query_refused_fitly = refused_fitly query kept_query.law kept_query.local kept_query.exact

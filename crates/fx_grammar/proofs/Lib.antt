@@ -4,4 +4,5 @@ pub mod OneQuery
 pub mod RuleKept
 pub mod RuleLaws
 pub mod RuleLocal
+pub mod RuleStops
 pub mod RuleWhole

@@ -1,68 +1,84 @@
--- What each way to make a rule keeps, both laws together.
-use Rattle.std.proofs.Common.{◌≡◌, ℕ, zero, suc, Bool, true, false, inl, inr, Result, sym, ◌∙◌}
+-- What each way to make a rule keeps, all its laws together.
+use Rattle.std.proofs.Common.{◌≡◌, ℕ, zero, suc, Bool, true, false, ◌||◌, inl, inr, ◌∷◌, Result, Ok, Err, refl, sym, ap, ◌∙◌, subst}
 use Rattle.fx_grammar.specs.Kinds.{is}
 use Rattle.fx_grammar.specs.declared.kinds.Kind.{Kind}
 use Rattle.fx_grammar.specs.declared.kinds.Token.{Token}
 use Rattle.fx_grammar.specs.declared.refusals.SyntaxKind.{SyntaxKind}
 use Rattle.fx_grammar.specs.declared.refusals.SyntaxKind.TheVariants.{Unexpected}
 use Rattle.fx_grammar.specs.Rule.{Rule, Apart, one, token, made, Shape, shape_of, Shaped, then_by, seq, either, opt, many_from, many, refusing, after, before, chain, some, nothing, Depth, with_depth, depth, nested}
-use Rattle.fx_grammar.proofs.RuleLaws.{Lawful, sees-same, lawful_one, lawful_token, lawful_made, lawful_then_by, lawful_seq, lawful_after, lawful_before, lawful_either, lawful_opt, lawful_many_from, lawful_many, lawful_chain, lawful_some, lawful_refusing}
-use Rattle.fx_grammar.proofs.RuleLocal.{Local, leaves_unexpected, refused_alike, local_one, local_token, local_made, local_then_by, local_seq, local_after, local_before, local_either, local_opt, local_many_from, local_many, local_chain, local_some, local_refusing}
+use Rattle.fx_grammar.proofs.RuleLaws.{Lawful, sees-same, same_shape, lawful_one, lawful_made, lawful_then_by, lawful_either, lawful_opt, lawful_many_from, lawful_refusing}
+use Rattle.fx_grammar.proofs.RuleLocal.{Local, leaves_unexpected, refused_alike, local_one, local_made, local_then_by, local_either, local_opt, local_many_from, local_refusing}
+use Rattle.fx_grammar.proofs.RuleStops.{Exact, Idle, exact_one, exact_made, exact_then_by, exact_either, exact_opt, exact_many_from, exact_refusing}
 
 pub record Kept {A : Type 0} (r : Rule A) : Type 0 where
   pub law : Lawful r
   pub local : Local r
+  pub exact : Exact r
 
 pub kept_one : {A : Type 0} (kinds : Kind → Bool) (value : Token → Result A SyntaxKind) → Kept (one kinds value)
-kept_one kinds value = record { law = lawful_one kinds value; local = local_one kinds value }
+kept_one kinds value = record { law = lawful_one kinds value; local = local_one kinds value; exact = exact_one kinds value }
 
 pub kept_token : (kind : Kind) → Kept (token kind)
-kept_token kind = record { law = lawful_token kind; local = local_token kind }
+kept_token kind = kept_one (is kind) (λ t. Ok tt)
+
+pub kept_refusing : (A : Type 0) (why : SyntaxKind) (kinds : Kind → Bool) → Kept (refusing {A = A} why kinds)
+kept_refusing A why kinds = record { law = lawful_refusing A why kinds; local = local_refusing A why kinds; exact = exact_refusing A why kinds }
 
 pub kept_made : {A B : Type 0} (f : A → B) {a : Rule A} → Kept a → Kept (made f a)
-kept_made f {a} k = record { law = lawful_made f a k.law; local = local_made f a k.local }
+kept_made f {a} k = record { law = lawful_made f a k.law; local = local_made f a k.local; exact = exact_made f a k.exact }
 
 pub kept_then_by : {A B : Type 0} {a : Rule A} (shape : Shape) (b : A → Rule B) → Kept a → ((x : A) → Kept (b x)) → ((x : A) → Shaped shape (b x)) → Apart shape.begins a.goes_on → Kept (then_by a shape b)
 kept_then_by {a = a} shape b ka kb fits apart = record {
   law = lawful_then_by a shape b ka.law (λ x. (kb x).law) fits apart;
   local = local_then_by a shape b ka.local (λ x. (kb x).local);
+  exact = exact_then_by a shape b ka.exact (λ x. (kb x).exact) fits;
 }
 
 pub kept_seq : {A B : Type 0} {a : Rule A} {b : Rule B} → Kept a → Kept b → Apart b.begins a.goes_on → Kept (seq a b)
-kept_seq {a = a} {b = b} ka kb apart = record { law = lawful_seq a b ka.law kb.law apart; local = local_seq a b ka.local kb.local }
+kept_seq {a = a} {b = b} ka kb apart = kept_then_by {a = a} (shape_of b) (λ x. b) ka (λ x. kb) (λ x. same_shape b) apart
 
 pub kept_after : {A B : Type 0} {a : Rule A} {b : Rule B} → Kept a → Kept b → Apart b.begins a.goes_on → Kept (after a b)
-kept_after {a = a} {b = b} ka kb apart = record { law = lawful_after a b ka.law kb.law apart; local = local_after a b ka.local kb.local }
+kept_after {a = a} {b = b} ka kb apart = kept_made (λ p. p.1) {a = seq a b} (kept_seq {a = a} {b = b} ka kb apart)
 
 pub kept_before : {A B : Type 0} {a : Rule A} {b : Rule B} → Kept a → Kept b → Apart b.begins a.goes_on → Kept (before a b)
-kept_before {a = a} {b = b} ka kb apart = record { law = lawful_before a b ka.law kb.law apart; local = local_before a b ka.local kb.local }
+kept_before {a = a} {b = b} ka kb apart = kept_made (λ p. p.0) {a = seq a b} (kept_seq {a = a} {b = b} ka kb apart)
 
 pub kept_either : {A : Type 0} {a b : Rule A} → Kept a → Kept b → a.empty ≡ false → b.empty ≡ false → Apart b.begins a.begins → Kept (either a b)
-kept_either {a = a} {b = b} ka kb na nb apart = record { law = lawful_either a b ka.law kb.law na nb apart; local = local_either a b ka.local kb.local }
+kept_either {a = a} {b = b} ka kb na nb apart = record {
+  law = lawful_either a b ka.law kb.law na nb apart;
+  local = local_either a b ka.local kb.local;
+  exact = exact_either a b ka.law kb.law ka.exact kb.exact na nb apart;
+}
 
 pub kept_opt : {A : Type 0} {a : Rule A} → Kept a → a.empty ≡ false → Kept (opt a)
-kept_opt {a = a} k na = record { law = lawful_opt a k.law na; local = local_opt a k.local }
+kept_opt {a = a} k na = record { law = lawful_opt a k.law na; local = local_opt a k.local; exact = exact_opt a k.law k.exact na }
 
 pub kept_many_from : {S A : Type 0} (shape : Shape) (rule : S → Rule A) (step : S → A → S) → ((s : S) → Kept (rule s)) → ((s : S) → Shaped shape (rule s)) → shape.empty ≡ false → Apart shape.begins shape.goes_on → (s : S) → Kept (many_from shape rule step s)
 kept_many_from shape rule step k fits na apart s = record {
   law = lawful_many_from shape rule step (λ s. (k s).law) fits na apart s;
   local = local_many_from shape rule step (λ s. (k s).local) (λ s. (k s).law) fits na s;
+  exact = exact_many_from shape rule step (λ s. (k s).law) (λ s. (k s).exact) fits na s;
 }
 
 pub kept_many : {A : Type 0} {a : Rule A} → Kept a → a.empty ≡ false → Apart a.begins a.goes_on → Kept (many a)
-kept_many {a = a} k na apart = record { law = lawful_many a k.law na apart; local = local_many a k.local k.law na }
+kept_many {a = a} k na apart = kept_many_from {S = Unit {0}} (shape_of a) (λ s. a) (λ s x. s) (λ s. k) (λ s. same_shape a) na apart tt
+
+or_no : (b : Bool) → (b || false) ≡ true → b ≡ true
+or_no true e = refl
+or_no false e = absurd (cc)
 
 pub kept_chain : {A : Type 0} (mark : Kind) {a : Rule A} → Kept a → a.empty ≡ false → Apart (is mark) a.goes_on → Kept (chain mark a)
-kept_chain mark {a} k na apart = record { law = lawful_chain mark a k.law na apart; local = local_chain mark a k.local k.law }
+kept_chain mark {a} k na apart =
+    let ends : Apart (after (token mark) a).begins (after (token mark) a).goes_on = λ kind e. rw (apart kind (or_no (is mark kind) e), na) refl in
+    kept_made (λ p. p.0 ∷ p.1) {a = seq a (many (after (token mark) a))}
+    (kept_seq {a = a} {b = many (after (token mark) a)} k (kept_many {a = after (token mark) a} (kept_after {a = token mark} {b = a} (kept_token mark) k (λ kind e. refl)) refl ends) (λ kind e. apart kind (or_no (is mark kind) e)))
 
 pub kept_some : {A : Type 0} {a : Rule A} → Kept a → a.empty ≡ false → Apart a.begins a.goes_on → Kept (some a)
-kept_some {a = a} k na apart = record { law = lawful_some a k.law na apart; local = local_some a k.local k.law na }
-
-pub kept_refusing : (A : Type 0) (why : SyntaxKind) (kinds : Kind → Bool) → Kept (refusing {A = A} why kinds)
-kept_refusing A why kinds = record { law = lawful_refusing A why kinds; local = local_refusing A why kinds }
+kept_some {a = a} k na apart = kept_made (λ p. p.0 ∷ p.1) {a = seq a (many a)} (kept_seq {a = a} {b = many a} k (kept_many {a = a} k na apart) apart)
 
 module _ {A : Type 0} (rule : Rule A → Rule A)
     (fits : (d : Depth A) → Shaped (shape_of (rule nothing)) (rule (with_depth (shape_of (rule nothing)) d)))
+    (takes : (shape_of (rule nothing)).empty ≡ false)
     (keeps : (d : Depth A) → Kept (with_depth (shape_of (rule nothing)) d) → Kept (rule (with_depth (shape_of (rule nothing)) d))) where
   abbrev shape : Shape
   shape = shape_of (rule nothing)
@@ -72,6 +88,7 @@ module _ {A : Type 0} (rule : Rule A → Rule A)
   kept_nested zero = record {
     law = record { sound = λ ts. tt; complete = λ front rest x h e. absurd h; starts = λ front x h. absurd h };
     local = record { leaves = λ ts. leaves_unexpected A ts; alike = λ t u v front. refused_alike A Unexpected t u v front };
+    exact = record { tells = λ ts. refl; ends = λ front rest x h. absurd h; stops = λ ts f h. ap Err (sym h); idle = λ ts s. rw takes refl };
   }
   kept_nested (suc n) =
       let r = rule (with_depth shape (depth rule n)) in
@@ -87,4 +104,10 @@ module _ {A : Type 0} (rule : Rule A → Rule A)
           ];
         };
         local = record { leaves = kept.local.leaves; alike = kept.local.alike };
+        exact = record {
+          tells = kept.exact.tells;
+          ends = kept.exact.ends;
+          stops = kept.exact.stops;
+          idle = λ ts s. subst (λ (b : Bool). Idle b ts (r.read ts)) same.empty (kept.exact.idle ts (sees-same shape.begins r.begins ts false (sym same.begins) s));
+        };
       }

@@ -5,7 +5,7 @@ use Rattle.fx_grammar.specs.declared.kinds.Kind.{Kind}
 use Rattle.fx_grammar.specs.declared.kinds.Token.{Token}
 use Rattle.fx_grammar.specs.declared.refusals.SyntaxKind.{SyntaxKind}
 use Rattle.fx_grammar.specs.declared.refusals.SyntaxKind.TheVariants.{Unexpected}
-use Rattle.fx_grammar.specs.Rule.{Outcome, and_then, refuse, Rule, Apart, sees, one, token, read_one, valued, made, Shape, shape_of, Shaped, then_by, seq, either, opt, spells_opt, many_from, spells_from, read_from, many, refusing, after, before, chain, some}
+use Rattle.fx_grammar.specs.Rule.{Outcome, and_then, refuse, Rule, Apart, sees, one, token, read_one, valued, made, Shape, shape_of, Shaped, then_by, seq, either, opt, spells_opt, many_from, spells_from, read_from, refusing, after}
 
 -- what was read is spelled by the tokens before the rest
 abbrev pub Sound : {A : Type 0} → (List Token → A → Type 0) → List Token → Outcome A → Type 0
@@ -164,9 +164,6 @@ lawful_seq a b la lb apart = lawful_then_by a (shape_of b) (λ x. b) la (λ x. l
 pub lawful_after : {A B : Type 0} (a : Rule A) (b : Rule B) → Lawful a → Lawful b → Apart b.begins a.goes_on → Lawful (after a b)
 lawful_after a b la lb apart = lawful_made (λ p. p.1) (seq a b) (lawful_seq a b la lb apart)
 
-pub lawful_before : {A B : Type 0} (a : Rule A) (b : Rule B) → Lawful a → Lawful b → Apart b.begins a.goes_on → Lawful (before a b)
-lawful_before a b la lb apart = lawful_made (λ p. p.0) (seq a b) (lawful_seq a b la lb apart)
-
 -- ---- one or the other
 
 module _ {A : Type 0} (a b : Rule A) (la : Lawful a) (lb : Lawful b) (na : a.empty ≡ false) (nb : b.empty ≡ false) (apart : Apart b.begins a.begins) where
@@ -203,7 +200,7 @@ module _ {A : Type 0} (a b : Rule A) (la : Lawful a) (lb : Lawful b) (na : a.emp
 
 -- ---- what is not empty takes a token
 
-not_empty : (p : Kind → Bool) (front : List Token) → sees p front ≡ true → 0 < length front
+pub not_empty : (p : Kind → Bool) (front : List Token) → sees p front ≡ true → 0 < length front
 not_empty p [] e = absurd (cc)
 not_empty p (t ∷ front) e = omega arith
 
@@ -348,24 +345,8 @@ module _ {S A : Type 0} (shape : Shape) (rule : S → Rule A) (step : S → A �
       starts = starts_from s;
     }
 
-pub lawful_many : {A : Type 0} (a : Rule A) → Lawful a → a.empty ≡ false → Apart a.begins a.goes_on → Lawful (many a)
-lawful_many a l na apart = lawful_many_from {S = Unit {0}} (shape_of a) (λ s. a) (λ s x. s) (λ s. l) (λ s. same_shape a) na apart tt
-
-or_no : (b : Bool) → (b || false) ≡ true → b ≡ true
-or_no true e = refl
-or_no false e = absurd (cc)
-
 pub lawful_item : {A : Type 0} (mark : Kind) (a : Rule A) → Lawful a → Lawful (after (token mark) a)
 lawful_item mark a l = lawful_after (token mark) a (lawful_token mark) l (λ kind e. refl)
-
-pub lawful_chain : {A : Type 0} (mark : Kind) (a : Rule A) → Lawful a → a.empty ≡ false → Apart (is mark) a.goes_on → Lawful (chain mark a)
-lawful_chain mark a l na apart =
-    let ends : Apart (after (token mark) a).begins (after (token mark) a).goes_on = λ kind e. rw (apart kind (or_no (is mark kind) e), na) refl in
-    lawful_made (λ p. p.0 ∷ p.1) (seq a (many (after (token mark) a)))
-    (lawful_seq a (many (after (token mark) a)) l (lawful_many (after (token mark) a) (lawful_item mark a l) refl ends) (λ kind e. apart kind (or_no (is mark kind) e)))
-
-pub lawful_some : {A : Type 0} (a : Rule A) → Lawful a → a.empty ≡ false → Apart a.begins a.goes_on → Lawful (some a)
-lawful_some a l na apart = lawful_made (λ p. p.0 ∷ p.1) (seq a (many a)) (lawful_seq a (many a) l (lawful_many a l na apart) apart)
 
 -- ---- tokens that are refused here
 

@@ -6,8 +6,8 @@ use Rattle.fx_grammar.specs.declared.kinds.Kind.TheVariants as k
 use Rattle.fx_grammar.specs.declared.kinds.Token.{Token}
 use Rattle.fx_grammar.specs.declared.refusals.SyntaxKind.{SyntaxKind}
 use Rattle.fx_grammar.specs.declared.refusals.SyntaxKind.TheVariants.{TooDeep, RelativeIri, Unsupported, Unexpected}
-use Rattle.fx_grammar.specs.Rule.{Outcome, and_then, refuse, why_at, IsFitting, Rule, sees, one, token, read_one, valued, made, Shape, shape_of, Shaped, then_by, seq, either, opt, many_from, read_from, many, refusing, after, before, chain, some}
-use Rattle.fx_grammar.proofs.RuleLaws.{Lawful, Shortens, shortens_from, turn_of, turn_is, same_shape, lawful_item}
+use Rattle.fx_grammar.specs.Rule.{Outcome, and_then, refuse, why_at, IsFitting, Rule, sees, one, read_one, valued, made, Shape, Shaped, then_by, either, opt, many_from, read_from, refusing}
+use Rattle.fx_grammar.proofs.RuleLaws.{Lawful, Shortens, shortens_from, turn_of, turn_is}
 
 -- Two lists that are alike up to a token t, and may differ behind it. What is read of the one before t, or refused at t or before,
 -- is read of the other, or refused there, in the same way.
@@ -34,10 +34,10 @@ cut (y ∷ front) rest (x ∷ mid) u t e h =
     let p = cut front rest mid u t (cc) h in (p.0, (let same : y ≡ x = cc in rw same (ap (λ v. x ∷ v) p.1)), p.2)
 
 -- lists of one length before one list
-same_length : (f m w : List Token) → f ++ w ≡ m ++ w → length f ≡ length m
+pub same_length : (f m w : List Token) → f ++ w ≡ m ++ w → length f ≡ length m
 same_length f m w e = let g : length (f ++ w) ≡ length (m ++ w) = ap length e in omega (arith, length-append f w, length-append m w)
 
-cancel : (f m w : List Token) → length f ≡ length m → f ++ w ≡ m ++ w → f ≡ m
+pub cancel : (f m w : List Token) → length f ≡ length m → f ++ w ≡ m ++ w → f ≡ m
 cancel [] [] w h e = refl
 cancel [] (y ∷ m) w h e = absurd (omega arith)
 cancel (x ∷ f) [] w h e = absurd (omega arith)
@@ -121,9 +121,6 @@ module _ {A : Type 0} (kinds : Kind → Bool) (value : Token → Result A Syntax
   pub local_one : Local (one kinds value)
   local_one = record { leaves = one_leaves; alike = one_alike }
 
-pub local_token : (kind : Kind) → Local (token kind)
-local_token kind = local_one (is kind) (λ t. Ok tt)
-
 -- ---- one after the other
 
 pub leaves_then : {A C : Type 0} (ts : List Token) (o : Outcome A) (k : A → List Token → Outcome C) → Leaves ts o → ((x : A) (mid : List Token) → Leaves mid (k x mid)) → Leaves ts (and_then o k)
@@ -184,9 +181,6 @@ module _ {A B : Type 0} (a : Rule A) (shape : Shape) (b : A → Rule B) (la : Lo
         (λ x m e. made_alike (λ y. (x, y)) t u v ((b x).read (m ++ t ∷ u)) ((b x).read (m ++ t ∷ v)) ((lb x).alike t u v m));
   }
 
-pub local_seq : {A B : Type 0} (a : Rule A) (b : Rule B) → Local a → Local b → Local (seq a b)
-local_seq a b la lb = local_then_by a (shape_of b) (λ x. b) la (λ x. lb)
-
 pub local_either : {A : Type 0} (a b : Rule A) → Local a → Local b → Local (either a b)
 local_either a b la lb = record {
   leaves = λ ts. leaves_cond ts (sees a.begins ts) (a.read ts) (b.read ts) (la.leaves ts) (lb.leaves ts);
@@ -198,12 +192,6 @@ local_opt {A} a la = record {
   leaves = λ ts. leaves_cond ts (sees a.begins ts) (and_then (a.read ts) (λ x rest. Ok (Some x, rest))) (Ok (None, ts)) (made_leaves Some ts (a.read ts) (la.leaves ts)) ([], refl);
   alike = λ t u v front. alike_cond t u v _ _ _ _ _ _ (sees_alike a.begins t u v front) (made_alike Some t u v (a.read (front ++ t ∷ u)) (a.read (front ++ t ∷ v)) (la.alike t u v front)) (here_alike (Option A) None t u v front);
 }
-
-pub local_after : {A B : Type 0} (a : Rule A) (b : Rule B) → Local a → Local b → Local (after a b)
-local_after a b la lb = local_made (λ p. p.1) (seq a b) (local_seq a b la lb)
-
-pub local_before : {A B : Type 0} (a : Rule A) (b : Rule B) → Local a → Local b → Local (before a b)
-local_before a b la lb = local_made (λ p. p.0) (seq a b) (local_seq a b la lb)
 
 -- ---- any number, each under what those before it left
 
@@ -248,18 +236,6 @@ module _ {S A : Type 0} (shape : Shape) (rule : S → Rule A) (step : S → A �
 
   pub local_many_from : (s : S) → Local (many_from shape rule step s)
   local_many_from s = record { leaves = λ ts. from_leaves (length ts) s ts; alike = λ t u v front. from_alike (length front) s t u v front (omega arith) }
-
-pub local_many : {A : Type 0} (a : Rule A) → Local a → Lawful a → a.empty ≡ false → Local (many a)
-local_many a l law na = local_many_from {S = Unit {0}} (shape_of a) (λ s. a) (λ s x. s) (λ s. l) (λ s. law) (λ s. same_shape a) na tt
-
-pub local_chain : {A : Type 0} (mark : Kind) (a : Rule A) → Local a → Lawful a → Local (chain mark a)
-local_chain mark a l law =
-    let item = after (token mark) a in
-    local_made (λ p. p.0 ∷ p.1) (seq a (many item))
-    (local_seq a (many item) l (local_many item (local_after (token mark) a (local_token mark) l) (lawful_item mark a law) refl))
-
-pub local_some : {A : Type 0} (a : Rule A) → Local a → Lawful a → a.empty ≡ false → Local (some a)
-local_some a l law na = local_made (λ p. p.0 ∷ p.1) (seq a (many a)) (local_seq a (many a) l (local_many a l law na))
 
 -- ---- refusals at the front
 

@@ -1,10 +1,11 @@
--- All the tokens are read exactly where they are spelled, and a refusal stays one.
-use Rattle.std.proofs.Common.{◌≡◌, List, [], ◌∷◌, ◌++◌, length, Ok, Err, refl, sym, ap, ◌∙◌, subst, append-nil, ◌≤◌, arith, length-append}
+-- All the tokens are read exactly where they are spelled, and refused exactly where they stop; and a refusal stays one.
+use Rattle.std.proofs.Common.{◌≡◌, ◌⊎◌, inl, inr, List, [], ◌∷◌, ◌++◌, length, Ok, Err, refl, sym, ap, ◌∙◌, subst, append-nil, ◌≤◌, arith, length-append}
 use Rattle.fx_grammar.specs.declared.kinds.Token.{Token}
 use Rattle.fx_grammar.specs.declared.refusals.SyntaxKind.TheVariants.{Unexpected}
-use Rattle.fx_grammar.specs.Rule.{Outcome, Refusal, and_then, Rule, to_end, read_whole, ReadAsSpelled, RefusedForGood, RefusedTheSame, RefusedFitly, IsFitting}
+use Rattle.fx_grammar.specs.Rule.{Outcome, Refusal, refused_at, and_then, Rule, to_end, read_whole, stops_whole, ReadAsSpelled, RefusedAsStopped, SpelledOrStopped, EndsAsSpelled, RefusedForGood, RefusedTheSame, RefusedFitly, IsFitting}
 use Rattle.fx_grammar.proofs.RuleLaws.{Sound, Lawful}
 use Rattle.fx_grammar.proofs.RuleLocal.{Local, Alike, Leaves, then_alike, leaves_then, leaves_unexpected, refused_alike}
+use Rattle.fx_grammar.proofs.RuleStops.{Tells, Exact, spelled}
 
 value_of : {A : Type 0} → A → Outcome A → A
 value_of d (Ok p) = p.0
@@ -13,6 +14,14 @@ value_of d (Err r) = d
 pub same_value : {A : Type 0} (o : Outcome A) (x y : A) (ts us : List Token) → o ≡ Ok (x, ts) → o ≡ Ok (y, us) → x ≡ y
 unfolding value_of
 same_value o x y ts us e f = ap (value_of x) (sym e ∙ f)
+
+rest_of : {A : Type 0} → Outcome A → List Token
+rest_of (Ok p) = p.1
+rest_of (Err r) = []
+
+same_rest : {A : Type 0} (o : Outcome A) (x y : A) (ts us : List Token) → o ≡ Ok (x, ts) → o ≡ Ok (y, us) → ts ≡ us
+unfolding rest_of
+same_rest o x y ts us e f = ap rest_of (sym e ∙ f)
 
 module _ {A : Type 0} (r : Rule A) (l : Lawful r) (ts : List Token) where
   found_at : (x y : A) (rest : List Token) → (front : List Token) × (ts ≡ front ++ rest) × r.spells front x → to_end x rest ≡ Ok (y, []) → r.spells ts y
@@ -37,6 +46,44 @@ module _ {A : Type 0} (r : Rule A) (l : Lawful r) (ts : List Token) where
 
 pub read_as_spelled : {A : Type 0} (r : Rule A) → Lawful r → ReadAsSpelled r
 read_as_spelled r l = (λ ts x e. whole_found r l ts x e, λ ts x s. whole_read r l ts x s)
+
+module _ {A : Type 0} (r : Rule A) (law : Lawful r) (exact : Exact r) where
+  stopped_at : (ts : List Token) (f : Refusal) (y : A) (front rest : List Token) → ts ≡ front ++ rest → r.ends front y rest → to_end y rest ≡ Err f → stops_whole r ts f
+  unfolding to_end
+  stopped_at ts f y front [] e h s = absurd (cc)
+  stopped_at ts f y front (t ∷ rest) e h s = inr (y, front, t, rest, e, h, cc s)
+
+  stopped_in : (ts : List Token) (f : Refusal) (o : Outcome A) → Tells r.ends r.stops ts o → and_then o to_end ≡ Err f → stops_whole r ts f
+  stopped_in ts f (Ok p) h s = stopped_at ts f p.0 h.0 p.1 h.1 h.2 s
+  stopped_in ts f (Err g) h s = inl (let same : g ≡ f = cc s in subst (r.stops ts) same h)
+
+  pub whole_stopped : (ts : List Token) (f : Refusal) → read_whole r ts ≡ Err f → stops_whole r ts f
+  unfolding read_whole
+  whole_stopped ts f s = stopped_in ts f (r.read ts) (exact.tells ts) s
+
+  pub whole_refused : (ts : List Token) (f : Refusal) → stops_whole r ts f → read_whole r ts ≡ Err f
+  unfolding read_whole to_end
+  whole_refused ts f (inl h) = rw (exact.stops ts f h) refl
+  whole_refused ts f (inr h) = rw h.6 (rw (h.4, exact.ends h.1 (h.2 ∷ h.3) h.0 h.5) refl)
+
+  pub refused_as_stopped : RefusedAsStopped r
+  refused_as_stopped = (whole_stopped, whole_refused)
+
+  ended_at : (ts : List Token) (y : A) (front rest : List Token) → ts ≡ front ++ rest → r.ends front y rest → ((x : A) × r.spells ts x) ⊎ ((f : Refusal) × stops_whole r ts f)
+  ended_at ts y front [] e h = inl (y, subst (λ (v : List Token). r.spells v y) (sym (e ∙ append-nil front)) (spelled r law exact front [] y h))
+  ended_at ts y front (t ∷ rest) e h = inr (refused_at Unexpected (t ∷ rest), inr (y, front, t, rest, e, h, refl))
+
+  ended_in : (ts : List Token) (o : Outcome A) → Tells r.ends r.stops ts o → ((x : A) × r.spells ts x) ⊎ ((f : Refusal) × stops_whole r ts f)
+  ended_in ts (Ok p) h = ended_at ts p.0 h.0 p.1 h.1 h.2
+  ended_in ts (Err f) h = inr (f, inl h)
+
+  pub spelled_or_stopped : SpelledOrStopped r
+  spelled_or_stopped = record {
+    one_at_least = λ ts. ended_in ts (r.read ts) (exact.tells ts);
+    not_both = λ ts y f s t. let a = whole_read r law ts y s in let b = whole_refused ts f t in cc (a, b);
+    one_value = λ ts y z s t. same_value (read_whole r ts) y z [] [] (whole_read r law ts y s) (whole_read r law ts z t);
+    one_refusal = λ ts f g s t. let a = whole_refused ts f s in let b = whole_refused ts g t in cc (a, b);
+  }
 
 module _ {A : Type 0} (r : Rule A) (law : Lawful r) (l : Local r) where
   end_leaves : (x : A) (ts : List Token) → Leaves ts (to_end x ts)
@@ -72,21 +119,32 @@ module _ {A : Type 0} (r : Rule A) (law : Lawful r) (l : Local r) where
       let a : Alike t u v (Err f) (read_whole r (front ++ t ∷ v)) = subst (λ (o : Outcome A). Alike t u v o (read_whole r (front ++ t ∷ v))) e (whole_alike t u v front) in
       let b = a [] h in cc (b, g)
 
-  pub refused_for_good : RefusedForGood r
-  refused_for_good tokens refusal e = λ front rest t is h other x s.
-      refused_again t rest other front refusal x (ap (read_whole r) (sym is) ∙ e) h (whole_read r law (front ++ t ∷ other) x s)
+  module _ (exact : Exact r) where
+    -- what ends before a token is read up to it, whatever stands behind it
+    no_longer : (front rest other : List Token) (t : Token) (x y : A) → r.ends front x (t ∷ rest) → r.spells (front ++ t ∷ other) y → ⊥
+    no_longer front rest other t x y h s =
+        let a : Alike t rest other (Ok (x, t ∷ rest)) (r.read (front ++ t ∷ other)) = subst (λ (o : Outcome A). Alike t rest other o (r.read (front ++ t ∷ other))) (exact.ends front (t ∷ rest) x h) (l.alike t rest other front) in
+        let b : r.read (front ++ t ∷ other) ≡ Ok (y, []) = subst (λ (v : List Token). r.read v ≡ Ok (y, [])) (append-nil (front ++ t ∷ other)) (law.complete (front ++ t ∷ other) [] y s refl) in
+        let e : t ∷ other ≡ [] = same_rest (r.read (front ++ t ∷ other)) x y (t ∷ other) [] (a [] refl) b in cc
 
-  pub refused_the_same : RefusedTheSame r
-  refused_the_same tokens refusal e = λ front rest t is h other.
-      let a : Alike t rest other (Err refusal) (read_whole r (front ++ t ∷ other)) = subst (λ (o : Outcome A). Alike t rest other o (read_whole r (front ++ t ∷ other))) (ap (read_whole r) (sym is) ∙ e) (whole_alike t rest other front) in
-      a [] h
+    pub ends_as_spelled : EndsAsSpelled r
+    ends_as_spelled = (spelled r law exact, no_longer)
 
-  fit_by : (ts : List Token) (o : Outcome A) (f : Refusal) → Leaves ts o → o ≡ Err f → (front rest : List Token) × (ts ≡ front ++ rest) × (f.left ≡ length rest) × IsFitting f.why rest
-  fit_by ts (Ok p) f h e = absurd (cc)
-  fit_by ts (Err g) f h e =
-      let same : g ≡ f = cc e in
-      subst (λ (x : Refusal). (front rest : List Token) × (ts ≡ front ++ rest) × (x.left ≡ length rest) × IsFitting x.why rest) same h
+    pub refused_for_good : RefusedForGood r
+    refused_for_good tokens refusal e = λ front rest t is h other x s.
+        refused_again t rest other front refusal x (ap (read_whole r) (sym is) ∙ whole_refused r law exact tokens refusal e) h (whole_read r law (front ++ t ∷ other) x s)
 
-  pub refused_fitly : RefusedFitly r
-  unfolding read_whole
-  refused_fitly ts f e = fit_by ts (and_then (r.read ts) to_end) f (leaves_then ts (r.read ts) to_end (l.leaves ts) end_leaves) e
+    pub refused_the_same : RefusedTheSame r
+    refused_the_same tokens refusal e = λ front rest t is h other.
+        let a : Alike t rest other (Err refusal) (read_whole r (front ++ t ∷ other)) = subst (λ (o : Outcome A). Alike t rest other o (read_whole r (front ++ t ∷ other))) (ap (read_whole r) (sym is) ∙ whole_refused r law exact tokens refusal e) (whole_alike t rest other front) in
+        whole_stopped r law exact (front ++ t ∷ other) (record { why = refusal.why; left = length (t ∷ other) }) (a [] h)
+
+    fit_by : (ts : List Token) (o : Outcome A) (f : Refusal) → Leaves ts o → o ≡ Err f → (front rest : List Token) × (ts ≡ front ++ rest) × (f.left ≡ length rest) × IsFitting f.why rest
+    fit_by ts (Ok p) f h e = absurd (cc)
+    fit_by ts (Err g) f h e =
+        let same : g ≡ f = cc e in
+        subst (λ (x : Refusal). (front rest : List Token) × (ts ≡ front ++ rest) × (x.left ≡ length rest) × IsFitting x.why rest) same h
+
+    pub refused_fitly : RefusedFitly r
+    unfolding read_whole
+    refused_fitly ts f e = fit_by ts (and_then (r.read ts) to_end) f (leaves_then ts (r.read ts) to_end (l.leaves ts) end_leaves) (whole_refused r law exact ts f e)

@@ -1,32 +1,22 @@
 -- Why a text is refused, and where.
-use Rattle.std.specs.Prelude.{◌≡◌, ℕ, ◌+◌, ◌-◌, if◌then◌else◌, List, [], ◌∷◌, length, drop, slice_index, codes, Option, Some, None, Ok, Err}
-use Rattle.std.specs.Int.{is_in_range}
+use Rattle.std.specs.Prelude.{◌≡◌, ℕ, ◌-◌, List, [], ◌∷◌, length, drop, codes, Ok, Err}
 use Rattle.std.specs.Str.{chars, IsUtf8}
-use Rattle.std.specs.Str.Lossy.{utf8_valid_len, utf8_error_len}
+use Rattle.fx_terms.specs.Utf8.{StopsUtf8}
 use Rattle.fx_tokens.specs.Reads.{Reads}
 use Rattle.fx_tokens.specs.declared.Token as read
 use Rattle.fx_tokens.specs.declared.TokenFault.{TokenFault}
 use Rattle.fx_tokens.specs.declared.TokenError.TheVariants.{Bad}
+use Rattle.fx_algebra.specs.declared.queries.Query.{Query}
+use Rattle.fx_grammar.specs.Accepted.{Accepted}
 use Rattle.fx_grammar.specs.Classified.{classified}
 use Rattle.fx_grammar.specs.Grammar.{query}
-use Rattle.fx_grammar.specs.Rule.{Refusal, read_whole}
+use Rattle.fx_grammar.specs.Rule.{Refusal, stops_whole}
 use Rattle.fx_grammar.specs.declared.refusals.SyntaxKind.{SyntaxKind}
 use Rattle.fx_grammar.specs.declared.refusals.SyntaxKind.TheVariants as kind
 use Rattle.fx_grammar.specs.declared.refusals.SyntaxError.{SyntaxError}
 use Rattle.fx_grammar.specs.declared.refusals.SyntaxError.TheVariants.{Refused, Memory}
 
 -- ---- places
-
--- of bytes with which no character begins: how many at the front begin one; all of them where they end first
-abbrev pub begun : ℕ → List ℕ → Option ℕ → ℕ
-begun first bytes None = length bytes
-begun first bytes (Some n) = if is_in_range 0xC2 0xF4 first then n else 0
-
--- the first byte such that no UTF-8 begins with the bytes up to it, or the number of bytes where they end inside a character
-abbrev pub utf8_fault : List ℕ → ℕ
-utf8_fault bytes =
-    let n = utf8_valid_len bytes in
-    n + begun (slice_index bytes n) (drop n bytes) (utf8_error_len (drop n bytes))
 
 -- where the first of some tokens begins, or the end of the text
 abbrev pub place_at : List ℕ → List read.Token → ℕ
@@ -39,17 +29,24 @@ place_of bytes tokens left = place_at bytes (drop (length tokens - left) tokens)
 
 -- ---- refusals
 
--- bytes that aren't UTF-8; or else a text with a place where no token stands; or else tokens that the grammar refuses
+-- bytes that stop being UTF-8; or else a text with a place where no token stands; or else tokens that stop the grammar
 pub data IsRefused (bytes : List ℕ) (why : SyntaxKind) (place : ℕ) : Type 0 where
-  not_utf8 : (IsUtf8 bytes → ⊥) → why ≡ kind.BadUtf8 → place ≡ utf8_fault bytes → IsRefused bytes why place
+  not_utf8 : StopsUtf8 bytes place → why ≡ kind.BadUtf8 → IsRefused bytes why place
   no_token : IsUtf8 bytes → (fault : TokenFault) → Reads 0 (chars bytes) (Err (Bad place fault)) → why ≡ kind.BadToken → IsRefused bytes why place
-  no_query : IsUtf8 bytes → (tokens : List read.Token) → Reads 0 (chars bytes) (Ok tokens) → (refusal : Refusal) → read_whole query (classified bytes tokens) ≡ Err refusal → why ≡ refusal.why → place ≡ place_of bytes tokens refusal.left
+  no_query : IsUtf8 bytes → (tokens : List read.Token) → Reads 0 (chars bytes) (Ok tokens) → (refusal : Refusal) → stops_whole query (classified bytes tokens) refusal → why ≡ refusal.why → place ≡ place_of bytes tokens refusal.left
       → IsRefused bytes why place
 
 -- a refusal has its reason at its place; want of memory has none
 abbrev pub IsCause : List ℕ → SyntaxError → Type 0
 IsCause bytes Memory = Unit {0}
 IsCause bytes (Refused why place) = IsRefused bytes why place
+
+-- the laws: bytes are refused for one reason at one place, and not where they are accepted
+abbrev pub OneRefusal : Type 0
+OneRefusal = (bytes : List ℕ) (why other : SyntaxKind) (place at : ℕ) → IsRefused bytes why place → IsRefused bytes other at → (why ≡ other) × (place ≡ at)
+
+abbrev pub NeverBoth : Type 0
+NeverBoth = (bytes : List ℕ) (why : SyntaxKind) (place : ℕ) (q : Query) → IsRefused bytes why place → Accepted bytes q → ⊥
 
 -- ---- names
 

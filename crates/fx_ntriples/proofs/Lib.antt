@@ -11,6 +11,5 @@ pub mod States
 pub mod Steps
 pub mod Stops
 pub mod Tags
-pub mod Utf8Shapes
 pub mod Utf8Stops
 pub mod Viable

@@ -10,7 +10,8 @@ use Rattle.fx_ntriples.specs.declared.faults.Fault.TheVariants as fault_is
 use Rattle.fx_ntriples.specs.declared.faults.NtError.{NtError}
 use Rattle.fx_ntriples.specs.declared.faults.NtError.TheVariants as error
 use Rattle.fx_ntriples.specs.Quotes.{Got, got, stop}
-use Rattle.fx_ntriples.specs.Places.{line_ends, char_count, utf8_fault, at_place}
+use Rattle.fx_terms.specs.Utf8.{utf8_fault}
+use Rattle.fx_ntriples.specs.Places.{line_ends, char_count, at_place}
 use Rattle.fx_ntriples.specs.Reading.{is_line_end, line, Lines, all, fault, also, followed, read_lines, answered, read_document}
 use Rattle.fx_ntriples.specs.Forms as form
 use Rattle.fx_ntriples.specs.Refusals.{StandsAt, BlankStands, RelativeStands, BadStands, span}

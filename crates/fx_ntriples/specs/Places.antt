@@ -1,22 +1,9 @@
 -- Where a refusal stands.
-use Rattle.std.specs.Prelude.{ℕ, ◌+◌, Bool, false, not, ◌&&◌, ◌||◌, ◌==◌, if◌then◌else◌, List, [], ◌∷◌, length, take, drop, slice_index, count_by, nat_lt, nat_le, Option, Some, None}
-use Rattle.std.specs.Int.{is_in_range}
-use Rattle.std.specs.Str.Lossy.{utf8_valid_len, utf8_error_len}
+use Rattle.std.specs.Prelude.{ℕ, ◌+◌, Bool, false, not, ◌&&◌, ◌||◌, ◌==◌, if◌then◌else◌, List, [], ◌∷◌, take, drop, count_by, nat_lt, nat_le}
 use Rattle.fx_ntriples.specs.declared.faults.Fault.{Fault}
 use Rattle.fx_ntriples.specs.declared.faults.Fault.TheVariants as fault
 use Rattle.fx_ntriples.specs.declared.faults.NtError.{NtError}
 use Rattle.fx_ntriples.specs.declared.faults.NtError.TheVariants.{Bad, Blank, Relative}
-
--- of bytes with which no character begins: how many at the front begin one; all of them where they end first
-abbrev pub begun : ℕ → List ℕ → Option ℕ → ℕ
-begun first bytes None = length bytes
-begun first bytes (Some n) = if is_in_range 0xC2 0xF4 first then n else 0
-
--- the first byte such that no UTF-8 begins with the bytes up to it, or the number of bytes where they end inside a character
-abbrev pub utf8_fault : List ℕ → ℕ
-utf8_fault bytes =
-    let n = utf8_valid_len bytes in
-    n + begun (slice_index bytes n) (drop n bytes) (utf8_error_len (drop n bytes))
 
 abbrev pub begins_with_line_feed : List ℕ → Bool
 begins_with_line_feed [] = false

@@ -16,7 +16,8 @@ use Rattle.fx_ntriples.specs.declared.faults.NtError.{NtError}
 use Rattle.fx_ntriples.specs.declared.faults.NtError.TheVariants.{BadUtf8}
 use Rattle.fx_ntriples.specs.declared.quotes.Quote.TheVariants.{Iri, Text}
 use Rattle.fx_ntriples.specs.Quotes.{Got, got, stop, and_then, body}
-use Rattle.fx_ntriples.specs.Places.{utf8_fault, at_place}
+use Rattle.fx_terms.specs.Utf8.{utf8_fault}
+use Rattle.fx_ntriples.specs.Places.{at_place}
 
 -- a space or a tab
 abbrev pub is_blank : ℕ → Bool

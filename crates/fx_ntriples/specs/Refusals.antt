@@ -1,8 +1,7 @@
 -- What stands at the place of a refusal.
-use Rattle.std.specs.Prelude.{◌≡◌, ◌≢◌, true, false, ℕ, ◌+◌, ◌<◌, ◌≤◌, List, [], ◌∷◌, ◌++◌, length, take, Ok}
+use Rattle.std.specs.Prelude.{◌≡◌, ◌≢◌, true, false, ℕ, ◌+◌, List, [], ◌∷◌, ◌++◌, length, take, Ok}
 use Rattle.std.specs.List.{list_all, slice_split}
 use Rattle.std.specs.Char.{is_ascii_hexdigit}
-use Rattle.std.specs.Str.{IsUtf8}
 use Rattle.fx_terms.specs.declared.triples.Triple.{Triple}
 use Rattle.fx_terms.specs.Iris.{read_iri}
 use Rattle.fx_terms.specs.Literals.{lang_string as rdf_lang_string}
@@ -75,17 +74,6 @@ pub data BadStands : List ℕ → List ℕ → Type 0 where
   misnamed : {p r : List ℕ} → MisnamedStands p r → BadStands p r
   lang_string : {p r : List ℕ} → LangStringStands p r → BadStands p r
   otherwise : {p r : List ℕ} → OtherwiseStands p r → BadStands p r
-
--- UTF-8 begins with the bytes
-abbrev pub BeginsUtf8 : List ℕ → Type 0
-BeginsUtf8 s = (w : List ℕ) × IsUtf8 (s ++ w)
-
--- UTF-8 begins with the bytes before a place, and none with those and the next; or the bytes end there, inside a character
-pub record StopsUtf8 (bytes : List ℕ) (place : ℕ) : Type 0 where
-  pub faulty : IsUtf8 bytes → ⊥
-  pub within : place ≤ length bytes
-  pub before : BeginsUtf8 (take place bytes)
-  pub there : place < length bytes → BeginsUtf8 (take (place + 1) bytes) → ⊥
 
 -- the bytes that lines take, each with its end
 abbrev pub span : List (List ℕ) → ℕ

@@ -3,11 +3,12 @@ ghost use Rattle.std.specs.Prelude.{◌≡◌, ℕ, Err, ◌<◌, ◌≤◌, ◌
 ghost use Rattle.std.specs.List.{slice_split, position_or_len};
 ghost use Rattle.std.specs.Str.{IsErrorLen, IsUtf8, valid_up_to, error_len};
 ghost use Rattle.std.specs.Str.Lossy.{utf8_valid_len, utf8_error_len};
+ghost use Rattle.fx_terms.specs.Utf8.{StopsUtf8, utf8_fault};
 ghost use Rattle.fx_terms.specs.declared.triples.Triple.{Triple as TripleParts};
 ghost use Rattle.fx_ntriples.specs.Reading as spec;
 ghost use Rattle.fx_ntriples.specs.Places as places;
 ghost use Rattle.fx_ntriples.specs.Forms.{IsDocument};
-ghost use Rattle.fx_ntriples.specs.Refusals.{StandsAt, BadStands, BlankStands, RelativeStands, StopsUtf8};
+ghost use Rattle.fx_ntriples.specs.Refusals.{StandsAt, BadStands, BlankStands, RelativeStands};
 ghost use Rattle.fx_ntriples.specs.Answers.{Answers, AnswersLines, Pushes, stopped_at};
 
 use crate::faults::{Fault, NtError, Stop};
@@ -68,7 +69,7 @@ fn utf8_place(bytes: &[u8], error: &Utf8Error) -> usize
     requires within { valid_up_to error.now < length bytes.now }
     requires size { IsErrorLen bytes.now (valid_up_to error.now) (error_len error.now) }
     requires fault { error_len error.now ≡ utf8_error_len (drop (valid_up_to error.now) bytes.now) }
-    ensures { result ≡ places.utf8_fault bytes.now }
+    ensures { result ≡ utf8_fault bytes.now }
 {
     let start = error.valid_up_to();
     let Some(size) = error.error_len() else {

@@ -1,9 +1,10 @@
 -- A text has one answer.
-use Rattle.std.proofs.Common.{◌≡◌, ℕ, suc, map, ◌-◌, ◌≤◌, List, [], ◌∷◌, length, get_or, drop-cons, arith, Result, Ok, Err, ◌⊎◌, inl, inr, refl, sym, ap, ◌∙◌, subst}
+use Rattle.std.proofs.Common.{◌≡◌, ℕ, suc, map, ◌-◌, ◌≤◌, List, [], ◌∷◌, length, get_or, drop-cons, arith, Result, Ok, Err, inl, inr, refl, sym, ap, ◌∙◌, subst}
 use Rattle.std.specs.Str.{chars, IsUtf8}
+use Rattle.fx_terms.specs.Utf8.{StopsUtf8, utf8_fault}
+use Rattle.fx_terms.proofs.Utf8Stops.{stops_there}
 use Rattle.fx_tokens.specs.Reads.{Reads}
 use Rattle.fx_tokens.specs.declared.Token as read
-use Rattle.fx_tokens.specs.declared.TokenFault.{TokenFault}
 use Rattle.fx_tokens.specs.declared.TokenError.{TokenError}
 use Rattle.fx_tokens.specs.declared.TokenError.TheVariants.{Bad, Memory as NoMemory}
 use Rattle.fx_tokens.specs.Answers.{UnlessMemory}
@@ -12,7 +13,7 @@ use Rattle.fx_grammar.specs.Kinds.{kind_of}
 use Rattle.fx_grammar.specs.declared.places.Context.{Context}
 use Rattle.fx_grammar.specs.Classified.{classified, all_placed, behind, outermost, says}
 use Rattle.fx_grammar.specs.Grammar.{query}
-use Rattle.fx_grammar.specs.Rule.{Outcome, Refusal, read_whole}
+use Rattle.fx_grammar.specs.Rule.{Refusal, read_whole}
 use Rattle.fx_syntax.specs.Gives.{IsRefusal}
 use Rattle.fx_grammar.specs.declared.refusals.SyntaxKind.{SyntaxKind}
 use Rattle.fx_grammar.specs.declared.refusals.SyntaxKind.TheVariants.{BadUtf8, BadToken}
@@ -24,94 +25,40 @@ use Rattle.fx_grammar.specs.declared.kinds.Token.{Token}
 use Rattle.std.proofs.lemmas.List.{drop_all}
 use Rattle.fx_grammar.specs.Accepted.{Accepted}
 use Rattle.fx_syntax.specs.Answers.{fault_at, StandsWithin, bad_token, IsAnswer, AnswersTokens}
-use Rattle.fx_grammar.specs.Refused.{place_at, IsRefused, not_utf8, no_token, no_query, place_of, utf8_fault}
-use Rattle.fx_grammar.proofs.GrammarLaws.{kept_query}
-use Rattle.fx_grammar.proofs.RuleWhole.{whole_found, whole_read, same_value, left_within}
+use Rattle.fx_grammar.specs.Refused.{place_at, IsRefused, not_utf8, no_token, no_query, place_of}
+use Rattle.fx_grammar.proofs.GrammarLaws.{kept_query, query_read_as_spelled, query_refused_as_stopped}
+use Rattle.fx_grammar.proofs.OneQuery.{one_query_holds, one_refusal_holds, never_both_holds}
+use Rattle.fx_grammar.proofs.RuleWhole.{left_within}
 
 pub memory_answered : (bytes : List ℕ) → IsAnswer bytes (Err Memory)
 memory_answered bytes = record { found = tt; only = λ q h. refl; refused = tt; first = λ kind place h. inl refl }
 
--- ---- bytes that aren't UTF-8
+-- a reason to refuse is the only one, and there is no query then
+refused_answered : (bytes : List ℕ) (kind : SyntaxKind) (place : ℕ) → IsRefused bytes kind place → IsAnswer bytes (Err (Refused kind place))
+refused_answered bytes kind place h = record {
+  found = tt;
+  only = λ q a. absurd (never_both_holds bytes kind place q h a);
+  refused = h;
+  first = λ k at g. let one = one_refusal_holds bytes kind k place at h g in inr (rw (one.0, one.1) refl);
+}
 
-abbrev Lexed : Type 0
-Lexed = Result (List read.Token) TokenError
+accepted_answered : (bytes : List ℕ) (q : Query) → Accepted bytes q → IsAnswer bytes (Ok q)
+accepted_answered bytes q a = record { found = a; only = λ p b. one_query_holds bytes q p a b; refused = tt; first = λ kind place h. never_both_holds bytes kind place q h a }
 
--- any two reasons to be refused are one
-same_refusal : (kind k : SyntaxKind) (place p : ℕ) → kind ≡ k → place ≡ p → Refused kind place ≡ Refused k p
-same_refusal kind k place p e f = rw (e, f) refl
+-- ---- bytes that aren't UTF-8, a text that isn't tokens, and tokens
 
 pub utf8_answered : (bytes : List ℕ) (place : ℕ) → (IsUtf8 bytes → ⊥) → place ≡ utf8_fault bytes → IsAnswer bytes (Err (Refused BadUtf8 place))
-utf8_answered bytes place n is = record {
-  found = tt;
-  only = λ q h. absurd (n h.utf8);
-  refused = not_utf8 n refl is;
-  first = go;
-}
-  where
-    go : (kind : SyntaxKind) (at : ℕ) → IsRefused bytes kind at → (Refused BadUtf8 place ≡ Memory) ⊎ (Refused BadUtf8 place ≡ Refused kind at)
-    go kind at (not_utf8 m e f) = inr (same_refusal BadUtf8 kind place at (sym e) (is ∙ sym f))
-    go kind at (no_token u fault r e) = absurd (n u)
-    go kind at (no_query u tokens r refusal e f g) = absurd (n u)
+utf8_answered bytes place n is = refused_answered bytes BadUtf8 place (not_utf8 (subst (StopsUtf8 bytes) (sym is) (stops_there bytes n)) refl)
 
--- ---- a text that isn't tokens
+pub error_answered : (bytes : List ℕ) (e : TokenError) → IsUtf8 bytes → UnlessMemory e (Reads 0 (chars bytes) (Err e)) → (s : SyntaxError) → s ≡ bad_token e → IsAnswer bytes (Err s)
+error_answered bytes (Bad place fault) u r s is = rw is (refused_answered bytes BadToken place (no_token u fault r refl))
+error_answered bytes NoMemory u r s is = rw is (memory_answered bytes)
 
-pub fault_answered : (bytes : List ℕ) (place : ℕ) (fault : TokenFault) → IsUtf8 bytes → Reads 0 (chars bytes) (Err (Bad place fault)) → ((answer : Result (List read.Token) TokenError) → Reads 0 (chars bytes) answer → answer ≡ Err (Bad place fault))
-    → IsAnswer bytes (Err (Refused BadToken place))
-fault_answered bytes place fault u r same = record {
-  found = tt;
-  only = λ q h. absurd (let e = same (Ok h.tokens) h.lexed in cc e);
-  refused = no_token u fault r refl;
-  first = go;
-}
-  where
-    one_place : (a b : ℕ) (f g : TokenFault) (o : Lexed) → o ≡ Err (Bad a f) → o ≡ Err (Bad b g) → a ≡ b
-    one_place a b f g o e h = cc (e, h)
-
-    go : (kind : SyntaxKind) (at : ℕ) → IsRefused bytes kind at → (Refused BadToken place ≡ Memory) ⊎ (Refused BadToken place ≡ Refused kind at)
-    go kind at (not_utf8 m e f) = absurd (m u)
-    go kind at (no_token v other s e) = inr (same_refusal BadToken kind place at (sym e) (sym (one_place at place other fault (Err (Bad at other)) refl (same (Err (Bad at other)) s))))
-    go kind at (no_query v tokens s refusal e f g) = absurd (let h = same (Ok tokens) s in cc h)
-
-pub error_answered : (bytes : List ℕ) (e : TokenError) → IsUtf8 bytes → UnlessMemory e (Reads 0 (chars bytes) (Err e)) → ((answer : Lexed) → Reads 0 (chars bytes) answer → UnlessMemory e (answer ≡ Err e)) → (s : SyntaxError) → s ≡ bad_token e → IsAnswer bytes (Err s)
-error_answered bytes (Bad place fault) u r same s is = rw is (fault_answered bytes place fault u r same)
-error_answered bytes NoMemory u r same s is = rw is (memory_answered bytes)
-
--- ---- tokens
-
-one_tokens : (a b : List read.Token) (o : Lexed) → o ≡ Ok a → o ≡ Ok b → a ≡ b
-one_tokens a b o e h = cc (e, h)
-
-one_refusal : (a b : Refusal) (o : Outcome Query) → o ≡ Err a → o ≡ Err b → a ≡ b
-one_refusal a b o e h = cc (e, h)
-
-module _ (bytes : List ℕ) (tokens : List read.Token) (u : IsUtf8 bytes) (r : Reads 0 (chars bytes) (Ok tokens)) (same : (answer : Result (List read.Token) TokenError) → Reads 0 (chars bytes) answer → answer ≡ Ok tokens) where
-  read_as : (q : Query) (h : Accepted bytes q) → read_whole query (classified bytes tokens) ≡ Ok (q, [])
-  read_as q h = whole_read query kept_query.law (classified bytes tokens) q (subst (λ (ts : List read.Token). query.spells (classified bytes ts) q) (one_tokens h.tokens tokens (Ok h.tokens) refl (same (Ok h.tokens) h.lexed)) h.spelled)
-
-  refused_as : (kind : SyntaxKind) (at : ℕ) → IsRefused bytes kind at → (refusal : Refusal) × (read_whole query (classified bytes tokens) ≡ Err refusal) × (kind ≡ refusal.why) × (at ≡ place_of bytes tokens refusal.left)
-  refused_as kind at (not_utf8 m e f) = absurd (m u)
-  refused_as kind at (no_token v other s e) = absurd (let h = same (Err (Bad at other)) s in cc h)
-  refused_as kind at (no_query v others s refusal e f g) =
-      let one = one_tokens others tokens (Ok others) refl (same (Ok others) s) in
-      (refusal, subst (λ (ts : List read.Token). read_whole query (classified bytes ts) ≡ Err refusal) one e, f, subst (λ (ts : List read.Token). at ≡ place_of bytes ts refusal.left) one g)
-
+module _ (bytes : List ℕ) (tokens : List read.Token) (u : IsUtf8 bytes) (r : Reads 0 (chars bytes) (Ok tokens)) where
   pub tokens_answered : (result : Result Query SyntaxError) → AnswersTokens bytes tokens result → IsAnswer bytes result
-  tokens_answered (Ok q) e = record {
-    found = record { utf8 = u; tokens = tokens; lexed = r; spelled = whole_found query kept_query.law (classified bytes tokens) q e };
-    only = λ p h. same_value (read_whole query (classified bytes tokens)) q p [] [] e (read_as p h);
-    refused = tt;
-    first = λ kind at h. let f = refused_as kind at h in let g = f.1 in cc (e, g);
-  }
+  tokens_answered (Ok q) e = accepted_answered bytes q (record { utf8 = u; tokens = tokens; lexed = r; spelled = query_read_as_spelled.0 (classified bytes tokens) q e })
   tokens_answered (Err Memory) e = memory_answered bytes
-  tokens_answered (Err (Refused kind place)) e = record {
-    found = tt;
-    only = λ q h. absurd (let f = read_as q h in let g = e.1 in cc (f, g));
-    refused = no_query u tokens r e.0 e.1 e.2 e.3;
-    first = λ k at h.
-        let f = refused_as k at h in
-        let one = one_refusal e.0 f.0 (read_whole query (classified bytes tokens)) e.1 f.1 in
-        inr (same_refusal kind k place at (e.2 ∙ ap (λ (x : Refusal). x.why) one ∙ sym f.2) (e.3 ∙ ap (λ (x : Refusal). place_of bytes tokens x.left) one ∙ sym f.3));
-  }
+  tokens_answered (Err (Refused kind place)) e = refused_answered bytes kind place (no_query u tokens r e.0 (query_refused_as_stopped.0 (classified bytes tokens) e.0 e.1) e.2 e.3)
 
 -- the answer of another text, which is the same
 pub same_text : (a b : List ℕ) (result : Result Query SyntaxError) → a ≡ b → IsAnswer a result → IsAnswer b result

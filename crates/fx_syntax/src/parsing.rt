@@ -3,6 +3,7 @@
 ghost use Rattle.std.specs.Prelude.{◌≡◌, ◌⊎◌, ℕ, ◌<◌, ◌≤◌, All, length, drop, IfOk, IfErr, MatchResult};
 ghost use Rattle.std.specs.Str.{IsErrorLen, valid_up_to, error_len};
 ghost use Rattle.std.specs.Str.Lossy.{utf8_valid_len, utf8_error_len};
+ghost use Rattle.fx_terms.specs.Utf8 as utf8;
 ghost use Rattle.fx_algebra.specs.declared.queries.Query.{Query as QueryTree};
 ghost use Rattle.fx_tokens.specs.Reads.{IsSlice};
 ghost use Rattle.fx_grammar.specs.declared.refusals.SyntaxKind.{SyntaxKind as Kind};
@@ -62,7 +63,7 @@ fn utf8_place(bytes: &[u8], error: &Utf8Error) -> usize
     requires within { valid_up_to error.now < length bytes.now }
     requires size { IsErrorLen bytes.now (valid_up_to error.now) (error_len error.now) }
     requires fault { error_len error.now ≡ utf8_error_len (drop (valid_up_to error.now) bytes.now) }
-    ensures { result ≡ spec.utf8_fault bytes.now }
+    ensures { result ≡ utf8.utf8_fault bytes.now }
 {
     let start = error.valid_up_to();
     let Some(size) = error.error_len() else {

@@ -1,12 +1,11 @@
 -- A language tag in lower case is a language tag.
-use Rattle.std.proofs.Common.{◌≡◌, ◌∙◌, ap, sym, refl, arith, ℕ, ◌<◌, Bool, true, false, not, ◌&&◌, ◌==◌, cond, List, [], ◌∷◌, map, length}
+use Rattle.std.proofs.Common.{◌≡◌, ◌∙◌, ap, refl, arith, ℕ, Bool, true, false, not, ◌&&◌, ◌==◌, cond, List, [], ◌∷◌, map, length}
 use Rattle.std.proofs.lemmas.List.{length-map}
 use Rattle.std.specs.List.{list_all, slice_split, onto_first}
 use Rattle.std.specs.Char.{to_ascii_lowercase}
-use Rattle.std.specs.Str.{bytes_eq}
 use Rattle.std.proofs.lemmas.Bool.Decides.{nat_tests}
 use Rattle.std.proofs.lemmas.Str.Ascii.{lowercase-lowercase}
-use Rattle.fx_terms.specs.Iris.{is_letter, is_digit}
+use Rattle.fx_terms.specs.Iris.{is_letter}
 use Rattle.fx_terms.specs.Literals.{is_dash, is_letter_or_digit, is_letters, is_letters_or_digits, are_tag_parts, is_tag, IsTag}
 
 dash_lower : (b : ℕ) → is_dash (to_ascii_lowercase b) ≡ is_dash b

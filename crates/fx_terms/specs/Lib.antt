@@ -6,4 +6,5 @@ pub mod Names
 pub mod Terms
 pub mod Texts
 pub mod Triples
+pub mod Utf8
 pub mod Writing

@@ -6,8 +6,8 @@ use Rattle.fx_syntax.proofs.parsing.parse_text.Goals as goal
 
 pub returns-in-Ok : goal.returns-in-Ok
 returns-in-Ok c =
-    tokens_answered c.args.text.now c.in-Ok.read.items c.utf8.text c.in-Ok.ensures.found (λ answer r. c.in-Ok.ensures.only answer r) c.parse_tokens.result
+    tokens_answered c.args.text.now c.in-Ok.read.items c.utf8.text c.in-Ok.ensures.found c.parse_tokens.result
     (subst (λ (ts : List read.Token). AnswersTokens c.args.text.now ts c.parse_tokens.result) c.as_slice.ensures.value c.parse_tokens.ensures)
 
 pub returns-in-Err : goal.returns-in-Err
-returns-in-Err c = error_answered c.args.text.now c.in-Err.error c.utf8.text c.in-Err.ensures.refused (λ answer r. c.in-Err.ensures.only answer r) c.bad_token.result c.bad_token.ensures
+returns-in-Err c = error_answered c.args.text.now c.in-Err.error c.utf8.text c.in-Err.ensures.refused c.bad_token.result c.bad_token.ensures

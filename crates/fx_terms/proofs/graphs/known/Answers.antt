@@ -1,4 +1,4 @@
-use Rattle.std.proofs.Common.{arith, subst, All}
+use Rattle.std.proofs.Common.{subst, All}
 use Rattle.std.proofs.lemmas.List.{take_all}
 use Rattle.std.proofs.lemmas.List.Elements.{All-more}
 use Rattle.fx_terms.specs.Triples.{IsTriple}

@@ -6,7 +6,7 @@ use Rattle.std.specs.Str.{IsUtf8}
 use Rattle.std.proofs.lemmas.Str.{IsUtf8-encode, IsUtf8-drop, IsCharBoundary-from_take}
 use lib.Dec.{T, ltb, ltb→lt, lt→ltb}
 use lib.Utf8.{scalar, scalars, encode, encodes, next, scalar_cases, low_scalar}
-use Rattle.fx_ntriples.proofs.Complete.{back_of, front_of}
+use Rattle.std.proofs.Math.Seq.{take-append_seam, drop-append_seam}
 
 pub order : (m n : ℕ) → (m < n) ⊎ (n ≤ m)
 order m n = cases_lt m n
@@ -163,5 +163,5 @@ ranges bs some u = ranged_by u.0 bs some u.1.0 u.1.1
 -- what follows UTF-8 within UTF-8
 pub rest_utf8 : (a b : List ℕ) → IsUtf8 a → IsUtf8 (a ++ b) → IsUtf8 b
 rest_utf8 a b h k =
-    let front = subst IsUtf8 (sym (front_of a b (length a) refl)) h in
-    subst IsUtf8 (back_of a b (length a) refl) (IsUtf8-drop (a ++ b) (length a) k (IsCharBoundary-from_take (a ++ b) (length a) k (omega (arith, length-append a b)) front))
+    let front = subst IsUtf8 (sym (take-append_seam a b)) h in
+    subst IsUtf8 (drop-append_seam a b) (IsUtf8-drop (a ++ b) (length a) k (IsCharBoundary-from_take (a ++ b) (length a) k (omega (arith, length-append a b)) front))
