@@ -17,13 +17,17 @@ pub fn answer(alloc: Global, call: &str, inputs: &[&str]) -> Option<String> {
 // The replies that exchanges give, and the log behind them.
 fn exchanged(alloc: Global, replies: &str, exchanges: &str) -> Option<String> {
     let mut wire = ScriptWire::new(alloc, script(alloc, replies)?).ok()?;
+    exchanged_over(alloc, &mut wire, exchanges)
+}
+
+fn exchanged_over(alloc: Global, wire: &mut ScriptWire, exchanges: &str) -> Option<String> {
     let mut text = String::new(alloc);
     for exchange in exchanges.split(' ') {
-        let reply = exchange_reply(alloc, &mut wire, exchange)?;
+        let reply = exchange_reply(alloc, wire, exchange)?;
         text.push_str(reply.as_str()).ok()?;
         text.push(' ').ok()?;
     }
-    push_log(&mut text, &wire)?;
+    push_log(&mut text, wire)?;
     Some(text)
 }
 
