@@ -7,7 +7,7 @@ use fx_algebra::{
 };
 use fx_notation::{fields, notation, shown};
 use fx_print::print;
-use fx_terms::{Iri, Items, Name, Pattern, Term};
+use fx_terms::{Iri, Items, Memory, Name, Pattern, Term};
 use std::alloc::Global;
 
 /// What a call gives.
@@ -168,11 +168,25 @@ fn copy_query(alloc: Global, text: &str) -> Option<String> {
 
 // The scope, the services and the last columns of the copy of a query, which is printed as the query is.
 fn copied_query(alloc: Global, query: &Query) -> Option<String> {
-    let copy = query.copy(alloc).ok()?;
-    if print(alloc, &copy).ok()?.as_str() != print(alloc, query).ok()?.as_str() {
-        return shown::word(alloc, "another");
+    match query.copy(alloc) {
+        Ok(copy) => copy_text(alloc, query, &copy),
+        Err(Memory) => None,
     }
-    query_text(alloc, &copy)
+}
+
+fn copy_text(alloc: Global, query: &Query, copy: &Query) -> Option<String> {
+    if has_text_of(alloc, query, copy)? {
+        query_text(alloc, copy)
+    } else {
+        shown::word(alloc, "another")
+    }
+}
+
+// Whether a query is printed as another is.
+fn has_text_of(alloc: Global, query: &Query, other: &Query) -> Option<bool> {
+    let text = print(alloc, query).ok()?;
+    let other = print(alloc, other).ok()?;
+    Some(text.as_str() == other.as_str())
 }
 
 fn query_text(alloc: Global, query: &Query) -> Option<String> {
