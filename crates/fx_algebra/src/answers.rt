@@ -7,7 +7,7 @@ use fx_terms::{Items, Memory, Name};
 use std::alloc::Global;
 
 /// The answer of a query.
-#[derive(Debug, Drop)]
+#[derive(Drop)]
 pub enum Answer {
     /// Rows, each of which binds columns alone.
     Table {

@@ -5,7 +5,7 @@ use fx_terms::{Boxed, Items, Memory, Name, Term};
 use std::alloc::Global;
 
 /// A comparison.
-#[derive(Clone, Copy, Debug, PartialEq, Eq)]
+#[derive(Clone, Copy, PartialEq, Eq)]
 pub enum Compare {
     Equal,
     NotEqual,
@@ -16,14 +16,14 @@ pub enum Compare {
 }
 
 /// The sign before a part of a sum.
-#[derive(Clone, Copy, Debug, PartialEq, Eq)]
+#[derive(Clone, Copy, PartialEq, Eq)]
 pub enum Sign {
     Plus,
     Minus,
 }
 
 /// A function that an expression may call.
-#[derive(Clone, Copy, Debug, PartialEq, Eq)]
+#[derive(Clone, Copy, PartialEq, Eq)]
 pub enum Function {
     Bound,
     Coalesce,
@@ -44,7 +44,7 @@ pub enum Function {
 }
 
 /// An expression.
-#[derive(Debug, Drop)]
+#[derive(Drop)]
 pub enum Expr {
     Variable(Name),
     Constant(Term),

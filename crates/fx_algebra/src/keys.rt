@@ -4,7 +4,7 @@ use crate::solutions::Solution;
 use fx_terms::{Items, Term};
 
 /// The keys of a row, and the projected row.
-#[derive(Debug, Drop)]
+#[derive(Drop)]
 pub struct Keyed {
     pub keys: Items<Option<Term>>,
     pub row: Solution,

@@ -6,7 +6,7 @@ use fx_terms::{Iri, Items, Memory, Name, Pattern, Term};
 use std::alloc::Global;
 
 /// A block of solutions written out (section 10.2): each row is as wide as the columns, and `None` stands for UNDEF.
-#[derive(Debug, Drop)]
+#[derive(Drop)]
 pub struct Inline {
     pub columns: Items<Name>,
     pub rows: Items<Items<Option<Term>>>,
@@ -14,14 +14,14 @@ pub struct Inline {
 
 /// A group of elements between braces (section 5.2), in text order.
 #[cycle(algebra)]
-#[derive(Debug, Drop)]
+#[derive(Drop)]
 pub struct Group {
     pub elements: Items<Element>,
 }
 
 /// An element of a group.
 #[cycle(algebra)]
-#[derive(Debug, Drop)]
+#[derive(Drop)]
 pub enum Element {
     Triple(Pattern),
     Filter(Expr),
@@ -43,7 +43,7 @@ pub enum Element {
 }
 
 /// What a query answers.
-#[derive(Debug, Drop)]
+#[derive(Drop)]
 pub enum Form {
     /// A table of these columns, each named once.
     Select {
@@ -55,14 +55,14 @@ pub enum Form {
 }
 
 /// A key of ORDER BY (section 15.1).
-#[derive(Debug, Drop)]
+#[derive(Drop)]
 pub struct Order {
     pub descending: bool,
     pub expr: Expr,
 }
 
 /// A query.
-#[derive(Debug, Drop)]
+#[derive(Drop)]
 pub struct Query {
     pub form: Form,
     pub group: Group,

@@ -14,7 +14,7 @@ use std::marker::Model;
 
 /// A solution: finitely many names, each with a term (SPARQL 1.1 section 18.1.8). Contracts see the list of its pairs by
 /// rising name, in which no name stands twice.
-#[derive(Debug, Drop)]
+#[derive(Drop)]
 pub struct Solution {
     pairs: Vec<(Name, Term)>,
 }

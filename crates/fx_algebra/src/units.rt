@@ -8,7 +8,7 @@ use std::alloc::Global;
 
 /// Triple patterns that are asked for by one text, with the filters that go along, and the members that are asked, by their
 /// numbers. It is a group where its patterns are all that this one member alone has.
-#[derive(Debug, Drop)]
+#[derive(Drop)]
 pub struct Unit {
     pub patterns: Items<Pattern>,
     pub filters: Items<Expr>,
@@ -17,7 +17,7 @@ pub struct Unit {
 }
 
 /// A row between two units: a solution, and the number of the input row of the run that it comes from.
-#[derive(Debug, Drop)]
+#[derive(Drop)]
 pub struct Row {
     pub origin: u64,
     pub solution: Solution,

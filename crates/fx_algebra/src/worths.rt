@@ -1,7 +1,7 @@
 //! What literals are worth (SPARQL 1.1 section 17), as far as the definitions speak of it.
 
 /// What the datatype of a literal says of it.
-#[derive(Clone, Copy, Debug, PartialEq, Eq)]
+#[derive(Clone, Copy, PartialEq, Eq)]
 pub enum Kind {
     Integer,
     Boolean,
@@ -13,7 +13,7 @@ pub enum Kind {
 }
 
 /// What a term is worth.
-#[derive(Clone, Copy, Debug, PartialEq, Eq)]
+#[derive(Clone, Copy, PartialEq, Eq)]
 pub enum Worth {
     Integer(i64),
     Boolean(bool),

@@ -55,10 +55,11 @@ fn ask_one<W: Wire>(
     ensures counted { IsTrue W.counts_alone → CountsFaults endpoints.now (W.faults wire.old) (W.faults wire.new) result }
     ensures after { IsAfter (seen W.tells_log W.log W.graph W.faults wire.old) (seen W.tells_log W.log W.graph W.faults wire.new) }
 {
-    if is_literal(&probe.key.pattern.predicate) {
+    let pattern = probe.key.pattern.get();
+    if is_literal(&pattern.predicate) {
         return Ok(false);
     }
-    known_pattern(&probe.key.pattern);
+    known_pattern(pattern);
     let at = probe.at as usize;
     match ask_fit(alloc, wire, &endpoints[at], &probe.key) {
         Ok(truth) => Ok(truth),

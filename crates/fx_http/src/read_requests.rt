@@ -104,7 +104,7 @@ impl RequestError {
 }
 
 /// The text that a request asks. Contracts see its bytes.
-#[derive(Debug, Drop)]
+#[derive(Drop)]
 pub struct Asked {
     pub(crate) text: Vec<u8>,
 }

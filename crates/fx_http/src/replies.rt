@@ -57,7 +57,7 @@ impl From<AllocError> for ReplyError {
 }
 
 /// The body of a reply with results. Contracts see its bytes.
-#[derive(Debug, Drop)]
+#[derive(Drop)]
 pub struct Reply {
     body: Vec<u8>,
 }

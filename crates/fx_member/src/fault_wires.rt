@@ -15,7 +15,7 @@ use std::alloc::{AllocError, Global};
 
 /// A wire that answers by graphs, but fails at the exchanges that are to fail. An exchange is named by its number on the
 /// wire, or by its address and its number there, from 1.
-#[derive(Debug, Drop)]
+#[derive(Drop)]
 pub struct FaultWire {
     wire: GraphWire,
     fails: Vec<u64>,

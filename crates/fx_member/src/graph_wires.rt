@@ -16,7 +16,7 @@ use std::alloc::Global;
 
 /// A wire in memory that answers each address by the SPARQL algebra over its graph, and tells its graphs and its log. An
 /// address without a graph is a fault, and there is no other.
-#[derive(Debug, Drop)]
+#[derive(Drop)]
 pub struct GraphWire {
     stores: Vec<(Iri, Store)>,
     log: Vec<Answered>,

@@ -25,7 +25,7 @@ use fx_terms::Memory;
 use std::alloc::Global;
 
 /// What was served: the status of the reply.
-#[derive(Clone, Copy, Debug, PartialEq, Eq)]
+#[derive(Clone, Copy, PartialEq, Eq)]
 pub struct Served {
     pub status: u16,
 }
@@ -53,7 +53,7 @@ impl From<Memory> for ServeError {
 }
 
 // A reply that is ready to be written, with its status.
-#[derive(Debug, Drop)]
+#[derive(Drop)]
 pub struct Reply {
     pub status: u16,
     pub bytes: Vec<u8>,

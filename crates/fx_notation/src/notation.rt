@@ -4,45 +4,66 @@ use crate::escapes::bytes;
 use fx_algebra::{Answer, Element, Expr, Group, Inline, Query, Solution};
 use fx_solutions::inline_rows;
 use fx_syntax::parse;
-use fx_terms::{Graph, Iri, Items, Name, Pattern, PatternTerm, Term, Triple};
+use fx_terms::{Boxed, Graph, Iri, Items, Name, Pattern, PatternTerm, Term, Triple};
 use std::alloc::Global;
 
 const PREFIXES: &str =
     "PREFIX e: <http://e/> PREFIX x: <x:> PREFIX rdf: <http://www.w3.org/1999/02/22-rdf-syntax-ns#> PREFIX xsd: <http://www.w3.org/2001/XMLSchema#> ";
 
 /// A query.
-pub fn query(alloc: Global, text: &str) -> Option<Query> {
+pub fn query(alloc: Global, text: &str) -> Option<Boxed<Query>> {
     let text = format!(in alloc; "{PREFIXES}{text}").ok()?;
-    parse(alloc, text.as_bytes()).ok()
+    parsed(alloc, text.as_bytes())
+}
+
+fn parsed(alloc: Global, text: &[u8]) -> Option<Boxed<Query>> {
+    match parse(alloc, text) {
+        Ok(query) => Boxed::new(alloc, query).ok(),
+        Err(_) => None,
+    }
 }
 
 /// A group, with its braces.
 pub fn group(alloc: Global, text: &str) -> Option<Group> {
     let text = format!(in alloc; "ASK {text}").ok()?;
-    Some(query(alloc, text.as_str())?.group)
+    Some(query(alloc, text.as_str())?.into_inner().group)
 }
 
 /// An element of a group.
-pub fn element(alloc: Global, text: &str) -> Option<Element> {
-    let text = format!(in alloc; "{{ {text} }}").ok()?;
-    let mut group = group(alloc, text.as_str())?;
-    group.elements.pop()
+pub fn element(alloc: Global, text: &str) -> Option<Boxed<Element>> {
+    let mut group = braced(alloc, text)?;
+    match group.elements.pop() {
+        Some(element) => Boxed::new(alloc, element).ok(),
+        None => None,
+    }
 }
 
 /// An expression.
-pub fn expression(alloc: Global, text: &str) -> Option<Expr> {
-    let text = format!(in alloc; "{{ FILTER ( {text} ) }}").ok()?;
-    let group = group(alloc, text.as_str())?;
+pub fn expression(alloc: Global, text: &str) -> Option<Boxed<Expr>> {
+    let group = condition(alloc, text)?;
     match group.elements.as_slice() {
-        [Element::Filter(expr)] => expr.copy(alloc).ok(),
+        [Element::Filter(expr)] => copied(alloc, expr),
         _ => None,
+    }
+}
+
+// The group that has one condition.
+fn condition(alloc: Global, text: &str) -> Option<Group> {
+    let text = format!(in alloc; "{{ FILTER ( {text} ) }}").ok()?;
+    group(alloc, text.as_str())
+}
+
+fn copied(alloc: Global, expr: &Expr) -> Option<Boxed<Expr>> {
+    match expr.copy(alloc) {
+        Ok(copy) => Boxed::new(alloc, copy).ok(),
+        Err(_) => None,
     }
 }
 
 /// A block of solutions that are written out, as it stands behind VALUES: `( ?x ?y ) { ( 1 UNDEF ) }`.
 pub fn inline(alloc: Global, text: &str) -> Option<Inline> {
-    let text = format!(in alloc; "{{ VALUES {text} }}").ok()?;
-    let group = group(alloc, text.as_str())?;
+    let text = format!(in alloc; "VALUES {text}").ok()?;
+    let group = braced(alloc, text.as_str())?;
     match group.elements.as_slice() {
         [Element::Values(inline)] => inline.copy(alloc).ok(),
         _ => None,
@@ -56,8 +77,7 @@ pub fn solutions(alloc: Global, text: &str) -> Option<Vec<Solution>> {
 
 /// A term.
 pub fn term(alloc: Global, text: &str) -> Option<Term> {
-    let text = format!(in alloc; "{{ FILTER ( {text} ) }}").ok()?;
-    let group = group(alloc, text.as_str())?;
+    let group = condition(alloc, text)?;
     match group.elements.as_slice() {
         [Element::Filter(Expr::Constant(term))] => term.copy().ok(),
         _ => None,
@@ -66,16 +86,25 @@ pub fn term(alloc: Global, text: &str) -> Option<Term> {
 
 /// A graph, as triple patterns without variables: `e:a e:p e:b . e:a e:q 1`.
 pub fn graph(alloc: Global, text: &str) -> Option<Graph> {
-    let text = format!(in alloc; "{{ {text} }}").ok()?;
-    let group = group(alloc, text.as_str())?;
+    let group = braced(alloc, text)?;
     let mut triples = Vec::new(alloc);
     for element in group.elements.as_slice() {
-        match element {
-            Element::Triple(pattern) => triples.push(triple(pattern)?).ok()?,
-            _ => return None,
-        }
+        push_triple(&mut triples, element)?;
     }
     Graph::of(triples).ok()
+}
+
+// The group that has these elements.
+fn braced(alloc: Global, text: &str) -> Option<Group> {
+    let text = format!(in alloc; "{{ {text} }}").ok()?;
+    group(alloc, text.as_str())
+}
+
+fn push_triple(triples: &mut Vec<Triple>, element: &Element) -> Option<()> {
+    match element {
+        Element::Triple(pattern) => triples.push(triple(pattern)?).ok(),
+        _ => None,
+    }
 }
 
 /// The triple that a pattern without variables is.
@@ -102,12 +131,18 @@ fn constant(part: &PatternTerm) -> Option<Term> {
 }
 
 /// A triple pattern: `?s x:p ?o`.
-pub fn pattern(alloc: Global, text: &str) -> Option<Pattern> {
-    let text = format!(in alloc; "{{ {text} }}").ok()?;
-    let group = group(alloc, text.as_str())?;
+pub fn pattern(alloc: Global, text: &str) -> Option<Boxed<Pattern>> {
+    let group = braced(alloc, text)?;
     match group.elements.as_slice() {
-        [Element::Triple(pattern)] => pattern.copy().ok(),
+        [Element::Triple(pattern)] => copied_pattern(alloc, pattern),
         _ => None,
+    }
+}
+
+fn copied_pattern(alloc: Global, pattern: &Pattern) -> Option<Boxed<Pattern>> {
+    match pattern.copy() {
+        Ok(copy) => Boxed::new(alloc, copy).ok(),
+        Err(_) => None,
     }
 }
 
@@ -127,14 +162,20 @@ pub fn names(alloc: Global, text: &str) -> Option<Vec<Name>> {
 }
 
 /// Expressions, with ` ; ` between; an empty text is none.
-pub fn expressions(alloc: Global, text: &str) -> Option<Vec<Expr>> {
-    let mut expressions = Vec::new(alloc);
+pub fn expressions(alloc: Global, text: &str) -> Option<Items<Expr>> {
+    let mut expressions = Items::new(alloc);
     if !text.is_empty() {
         for part in text.split(" ; ") {
-            expressions.push(expression(alloc, part)?).ok()?;
+            push_expression(alloc, &mut expressions, part)?;
         }
     }
     Some(expressions)
+}
+
+/// One expression more.
+pub fn push_expression(alloc: Global, expressions: &mut Items<Expr>, text: &str) -> Option<()> {
+    let expr = expression(alloc, text)?;
+    expressions.push(expr.into_inner()).ok()
 }
 
 /// An answer: `true`, `false`, or a table, as its columns and rows stand behind VALUES.
@@ -171,7 +212,7 @@ pub fn nested(alloc: Global, parts: &[&str]) -> Option<Vec<u8>> {
 }
 
 /// A query with the keys that stand behind ORDER BY; an empty text is none.
-pub fn query_by(alloc: Global, keys: &str) -> Option<Query> {
+pub fn query_by(alloc: Global, keys: &str) -> Option<Boxed<Query>> {
     if keys.is_empty() {
         return query(alloc, "ASK {}");
     }

@@ -6,6 +6,25 @@ use Rattle.std.proofs.lemmas.Slice.Eq.{bytes_eq-Decides}
 use Rattle.fx_outside.specs.Faults.{HaveStayed, IsOneMoreAt}
 use Rattle.fx_outside.specs.NameCounts.{count_in, has_name}
 
+-- ---- numbers, and an entry that is told
+
+same_entry : (x entry : String Global × ℕ) → Some x ≡ Some entry → x ≡ entry
+same_entry x entry e = cc
+
+no_suc : (i : ℕ) → 0 ≡ suc i → ⊥
+no_suc i e = cc
+
+no_zero : (n : ℕ) → 1 + n ≡ 0 → ⊥
+no_zero n e = omega arith
+
+one_less : (n i : ℕ) → 1 + n ≡ suc i → n ≡ i
+one_less n i e = omega arith
+
+one_further : (n i : ℕ) → n ≡ i → 1 + n ≡ suc i
+one_further n i e = omega arith
+
+-- ---- one more for a name
+
 one_more : (b : Bool) (n rest : ℕ) → cond b (n + 1) rest ≡ cond b n rest + cond b 1 0
 one_more true n rest = refl
 one_more false n rest = omega arith
@@ -35,13 +54,13 @@ raised_by : (b : Bool) (x : String Global × ℕ) (xs : List (String Global × �
     → cond (not b) (1 + position_or_len (has_name name) xs) 0 ≡ i → slice_get (x ∷ xs) i ≡ Some entry
     → count_in (set (x ∷ xs) i (entry.0, entry.1 + 1)) other ≡ count_in (x ∷ xs) other + cond {A = ℕ} (bytes_eq name other) 1 0
 raised_by true x xs zero entry name other is rest at here =
-    let same : x ≡ entry = cc in
+    let same : x ≡ entry = same_entry x entry here in
     let P : String Global × ℕ → Type 0 = λ e. count_in ((e.0, e.1 + 1) ∷ xs) other ≡ count_in (x ∷ xs) other + cond {A = ℕ} (bytes_eq name other) 1 0 in
     subst P same (raised_here x xs name other is)
-raised_by true x xs (suc i) entry name other is rest at here = absurd (omega arith)
-raised_by false x xs zero entry name other is rest at here = absurd (omega arith)
+raised_by true x xs (suc i) entry name other is rest at here = absurd (no_suc i at)
+raised_by false x xs zero entry name other is rest at here = absurd (no_zero (position_or_len (has_name name) xs) at)
 raised_by false x xs (suc i) entry name other is rest at here =
-    later (bytes_eq (string_bytes x.0) other) x.1 (count_in xs other) _ _ (other_name (bytes_eq name other) (string_bytes x.0) name other refl is) (rest i (omega arith) here)
+    later (bytes_eq (string_bytes x.0) other) x.1 (count_in xs other) _ _ (other_name (bytes_eq name other) (string_bytes x.0) name other refl is) (rest i (one_less (position_or_len (has_name name) xs) i at) here)
 
 pub raised : (xs : List (String Global × ℕ)) (i : ℕ) (entry : String Global × ℕ) (name other : List ℕ) → position_or_len (has_name name) xs ≡ i → slice_get xs i ≡ Some entry
     → count_in (set xs i (entry.0, entry.1 + 1)) other ≡ count_in xs other + cond {A = ℕ} (bytes_eq name other) 1 0
@@ -51,10 +70,10 @@ raised (x ∷ xs) i entry name other at here = raised_by (bytes_eq (string_bytes
 counted_by : (b : Bool) (x : String Global × ℕ) (xs : List (String Global × ℕ)) (i : ℕ) (entry : String Global × ℕ) (name : List ℕ)
     → ((j : ℕ) → position_or_len (has_name name) xs ≡ j → slice_get xs j ≡ Some entry → entry.1 ≡ count_in xs name)
     → cond (not b) (1 + position_or_len (has_name name) xs) 0 ≡ i → slice_get (x ∷ xs) i ≡ Some entry → entry.1 ≡ cond b x.1 (count_in xs name)
-counted_by true x xs zero entry name rest at here = let same : x ≡ entry = cc in ap (λ (e : String Global × ℕ). e.1) (sym same)
-counted_by true x xs (suc i) entry name rest at here = absurd (omega arith)
-counted_by false x xs zero entry name rest at here = absurd (omega arith)
-counted_by false x xs (suc i) entry name rest at here = rest i (omega arith) here
+counted_by true x xs zero entry name rest at here = ap (λ (e : String Global × ℕ). e.1) (sym (same_entry x entry here))
+counted_by true x xs (suc i) entry name rest at here = absurd (no_suc i at)
+counted_by false x xs zero entry name rest at here = absurd (no_zero (position_or_len (has_name name) xs) at)
+counted_by false x xs (suc i) entry name rest at here = rest i (one_less (position_or_len (has_name name) xs) i at) here
 
 -- the entry at the first place of a name counts it
 pub counted : (xs : List (String Global × ℕ)) (i : ℕ) (entry : String Global × ℕ) (name : List ℕ) → position_or_len (has_name name) xs ≡ i → slice_get xs i ≡ Some entry → entry.1 ≡ count_in xs name
@@ -71,8 +90,8 @@ count_in-push [] key other = none_yet (bytes_eq (string_bytes key) other)
 count_in-push (x ∷ xs) key other = ap (λ (n : ℕ). cond {A = ℕ} (bytes_eq (string_bytes x.0) other) x.1 n) (count_in-push xs key other)
 
 pushed_by : (b : Bool) (n m k : ℕ) → (n ≡ m → k ≡ m) → cond (not b) (1 + n) 0 ≡ suc m → cond (not b) (1 + k) 0 ≡ suc m
-pushed_by true n m k rest e = absurd (omega arith)
-pushed_by false n m k rest e = let z = rest (omega arith) in omega arith
+pushed_by true n m k rest e = absurd (no_suc m e)
+pushed_by false n m k rest e = one_further k m (rest (one_less n m e))
 
 push_here : (b : Bool) → b ≡ true → cond {A = ℕ} (not b) (1 + 0) 0 ≡ 0
 push_here true e = refl

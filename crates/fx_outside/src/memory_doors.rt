@@ -11,7 +11,7 @@ use std::alloc::Global;
 ///
 /// A call is a fault where its number is among those that are to fail: calls of the door are numbered together, from 1. So is an
 /// `accept` where no input is left. Connections are numbered from 1, and each has reads and writes that are to fail.
-#[derive(Debug, Drop)]
+#[derive(Drop)]
 pub struct MemoryDoor {
     inputs: Vec<Vec<u8>>,
     taken: usize,
@@ -29,7 +29,9 @@ pub struct MemoryDoor {
 }
 
 impl MemoryDoor {
-    ghost use Rattle.fx_outside.specs.MemoryDoors.{IsAfterCall, IsFreshDoor, finished_in, is_failing};
+    ghost use Rattle.std.specs.Prelude.{◌∷◌, drop};
+    ghost use Rattle.fx_outside.specs.MemoryDoors.{IsAfterCall, IsFreshConnection, IsFreshDoor, contents, finished_in, inputs_in, is_failing};
+    ghost use Rattle.fx_outside.specs.MemoryLinks.{left_in};
 
     /// A door that isn't started, for connections with these inputs in order. Each connection has room for `room` bytes, and one
     /// read or write of it moves at most `step`. The calls of the door whose numbers stand in `fails` fail. A pair of `read_fails`
@@ -82,6 +84,19 @@ impl MemoryDoor {
     {
         self.calls = self.calls.saturating_add(1);
         self.fails.contains(&self.calls)
+    }
+
+    // The connection with the first of the inputs left.
+    fn next_link(&self, alloc: Global) -> Result<MemoryLink, Memory>
+        requires { self.now.taken < vec_len self.now.inputs }
+        ensures first { IfOk result (λ link. inputs_in self.now ≡ left_in link ∷ contents (drop (self.now.taken + 1) self.now.inputs.items)) }
+        ensures fresh { IfOk result (λ link. IsFreshConnection self.now link) }
+    {
+        let number = self.taken as u64 + 1;
+        let input = Vec::from_slice(alloc, self.inputs[self.taken].as_slice())?;
+        let reads = numbers_of(alloc, self.read_fails.as_slice(), number)?;
+        let writes = numbers_of(alloc, self.write_fails.as_slice(), number)?;
+        MemoryLink::new(alloc, input, self.room, self.step, reads, writes)
     }
 
     // The fault of a call, which is counted.
@@ -175,11 +190,7 @@ impl Door for MemoryDoor {
         if self.counts_a_failure() || self.taken == self.inputs.len() {
             return Err(self.fault());
         }
-        let number = self.taken as u64 + 1;
-        let input = Vec::from_slice(alloc, self.inputs[self.taken].as_slice())?;
-        let reads = numbers_of(alloc, self.read_fails.as_slice(), number)?;
-        let writes = numbers_of(alloc, self.write_fails.as_slice(), number)?;
-        let link = MemoryLink::new(alloc, input, self.room, self.step, reads, writes)?;
+        let link = self.next_link(alloc)?;
         self.taken += 1;
         Ok(link)
     }

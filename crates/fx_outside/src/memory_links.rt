@@ -11,7 +11,7 @@ use std::alloc::Global;
 /// A read or write moves at most `step` bytes, and a write no more than the room still has. Reads and writes are numbered
 /// from 1, each for themselves. A read or write whose number is among those that are to fail is a fault, and so is a write of a
 /// non-empty piece where no room is left.
-#[derive(Debug, Drop)]
+#[derive(Drop)]
 pub struct MemoryLink {
     input: Vec<u8>,
     at: usize,

@@ -12,7 +12,7 @@ use std::alloc::Global;
 /// Files in memory, which tell the content of each name that they hold.
 ///
 /// A name that isn't held is a fault. So is each call that is to fail: the calls of a name are numbered from 1.
-#[derive(Debug, Drop)]
+#[derive(Drop)]
 pub struct MemoryFiles {
     files: Vec<(String, Vec<u8>)>,
     fails: Vec<(String, u64)>,

@@ -9,7 +9,7 @@ use std::alloc::Global;
 ///
 /// A write moves at most `step` bytes, and no more than the room still has. Writes are numbered from 1. A write whose
 /// number is among those that are to fail is a fault, and so is one of a non-empty piece where no room is left.
-#[derive(Debug, Drop)]
+#[derive(Drop)]
 pub struct MemorySink {
     bytes: Vec<u8>,
     room: u64,

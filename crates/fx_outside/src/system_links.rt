@@ -7,7 +7,7 @@ use crate::system_streams::write_some;
 use std::io::{Read, Write};
 
 /// A stream, as a connection, with counts of its faults. It tells nothing of what is left and what it holds.
-#[derive(Debug, Drop)]
+#[derive(Drop)]
 pub struct StdLink<S> {
     stream: S,
     read_faults: u64,

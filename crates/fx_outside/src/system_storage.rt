@@ -13,7 +13,7 @@ use std::{fs, io, rt};
 /// The files that a runtime reaches, with a count of the faults of each name. It tells nothing of their content.
 ///
 /// A name is a path, as the system reads it.
-#[derive(Debug, Drop)]
+#[derive(Drop)]
 pub struct Folder<R> {
     runtime: R,
     faults: NameCounts,
@@ -70,7 +70,16 @@ fn read_front<R: rt::Files>(
 ) -> Result<Vec<u8>, FileError>
     ensures { IfOk result (λ bytes. vec_len bytes ≤ most) }
 {
-    let mut file = fs::open(runtime, name).map_err(|error| file_error(&error))?;
+    match fs::open(runtime, name) {
+        Ok(mut file) => read_file(&mut file, alloc, most),
+        Err(error) => Err(file_error(&error)),
+    }
+}
+
+// The first `most` bytes that are read, or all.
+fn read_file<F: Read>(file: &mut F, alloc: Global, most: usize) -> Result<Vec<u8>, FileError>
+    ensures { IfOk result (λ bytes. vec_len bytes ≤ most) }
+{
     let mut bytes = Vec::new(alloc);
     let mut buffer = [0u8; 4096];
     for _ in 0..u64::MAX {
@@ -78,13 +87,23 @@ fn read_front<R: rt::Files>(
         if room == 0 {
             return Ok(bytes);
         }
-        let count = read_some(&mut file, &mut buffer[..room]).map_err(|error| file_error(&error))?;
+        let count = read_piece(file, &mut buffer[..room])?;
         if count == 0 {
             return Ok(bytes);
         }
         bytes.extend_from_slice(&buffer[..count])?;
     }
     Err(FileError::Failed)
+}
+
+// Reads some bytes.
+fn read_piece<F: Read>(file: &mut F, into: &mut [u8]) -> Result<usize, FileError>
+    ensures { IfOk result (λ n. n ≤ length into.old) }
+{
+    match read_some(file, into) {
+        Ok(count) => Ok(count),
+        Err(error) => Err(file_error(&error)),
+    }
 }
 
 // Reads some bytes. A read that was interrupted is tried again, but not for ever.

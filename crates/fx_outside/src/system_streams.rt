@@ -9,7 +9,7 @@ use std::io::{ErrorKind, Write};
 pub(crate) const TRIES: u64 = 1000;
 
 /// A writer, as standard output or a file, with a count of its faults. It tells nothing of what it holds.
-#[derive(Debug, Drop)]
+#[derive(Drop)]
 pub struct StdSink<W> {
     writer: W,
     faults: u64,

@@ -16,7 +16,7 @@ use itoa::Buffer;
 use std::alloc::Global;
 
 /// A part of a query that requests are sent for.
-#[derive(Debug, Drop)]
+#[derive(Drop)]
 pub enum Part {
     /// A run of triple patterns: its plan, and the names that are bound before it.
     Run {

@@ -1,6 +1,6 @@
 //! The calls of `fx_plan`. A run is its patterns with ` ; ` between, each with ` @ ` and the numbers of its members behind it, and
 //! filters are expressions with ` ; ` between.
-ghost use Rattle.std.specs.Prelude.{All, IsTrue};
+ghost use Rattle.std.specs.Prelude.{◌≡◌, All, IsTrue, length};
 ghost use Rattle.fx_plan.specs.Explained.{HasMembers, IsWithin};
 
 use fx_algebra::{Expr, Unit};
@@ -50,15 +50,33 @@ fn nested_text(alloc: Global, run: &str, depth: &str) -> Option<String> {
 fn plan_of(alloc: Global, run: &str, filters: &str, bound: &str) -> Option<Vec<Unit>> {
     let patterns = patterns(alloc, run)?;
     let sources = sources(alloc, run)?;
-    let filters = filters_of(alloc, filters)?;
-    let bound = names(alloc, bound)?;
     if patterns.len() != sources.len() {
         return None;
     }
-    units(
+    plan_over(
         alloc,
         patterns.as_slice(),
         sources.as_slice(),
+        filters,
+        bound,
+    )
+}
+
+fn plan_over(
+    alloc: Global,
+    patterns: &[Pattern],
+    sources: &[Items<u32>],
+    filters: &str,
+    bound: &str,
+) -> Option<Vec<Unit>>
+    requires { length patterns.now ≡ length sources.now }
+{
+    let filters = filters_of(alloc, filters)?;
+    let bound = names(alloc, bound)?;
+    units(
+        alloc,
+        patterns,
+        sources,
         filters.as_slice(),
         bound.as_slice(),
     )
@@ -188,21 +206,26 @@ fn unit_of(alloc: Global, text: &str) -> Option<Unit> {
     let (kind, rest) = text.split_once(' ')?;
     let (run, filters) = rest.split_once(" with ").unwrap_or((rest, ""));
     Some(Unit {
-        patterns: Items::from_vec(patterns(alloc, run)?),
-        filters: Items::from_vec(filters_of(alloc, filters)?),
+        patterns: patterns(alloc, run)?,
+        filters: filters_of(alloc, filters)?,
         members: members(alloc, run)?,
         group: kind == "group",
     })
 }
 
-fn patterns(alloc: Global, run: &str) -> Option<Vec<Pattern>> {
-    let mut patterns = Vec::new(alloc);
+fn patterns(alloc: Global, run: &str) -> Option<Items<Pattern>> {
+    let mut patterns = Items::new(alloc);
     for text in run.split(" ; ") {
         if let Some((text, _)) = text.split_once(" @") {
-            patterns.push(notation::pattern(alloc, text)?).ok()?;
+            push_pattern(alloc, &mut patterns, text)?;
         }
     }
     Some(patterns)
+}
+
+fn push_pattern(alloc: Global, patterns: &mut Items<Pattern>, text: &str) -> Option<()> {
+    let pattern = notation::pattern(alloc, text)?;
+    patterns.push(pattern.into_inner()).ok()
 }
 
 fn sources(alloc: Global, run: &str) -> Option<Vec<Items<u32>>> {
@@ -233,11 +256,11 @@ fn names(alloc: Global, texts: &str) -> Option<Vec<Name>> {
     Some(names)
 }
 
-fn filters_of(alloc: Global, texts: &str) -> Option<Vec<Expr>> {
-    let mut filters = Vec::new(alloc);
+fn filters_of(alloc: Global, texts: &str) -> Option<Items<Expr>> {
+    let mut filters = Items::new(alloc);
     for text in texts.split(" ; ") {
         if !text.is_empty() {
-            filters.push(notation::expression(alloc, text)?).ok()?;
+            notation::push_expression(alloc, &mut filters, text)?;
         }
     }
     Some(filters)

@@ -4,7 +4,7 @@ use crate::registries;
 use fx_algebra::Query;
 use fx_notation::notation;
 use fx_sources::{AskCache, AskKey, Probe, Registry, Sources, ask_text, choose, missing};
-use fx_terms::Items;
+use fx_terms::{Boxed, Items};
 use std::alloc::Global;
 use std::fmt::Write;
 
@@ -21,7 +21,7 @@ pub fn answer(alloc: Global, call: &str, inputs: &[&str]) -> Option<String> {
 // The text that asks for a pattern, by its key.
 fn asked_text(alloc: Global, text: &str) -> Option<String> {
     let pattern = notation::pattern(alloc, text)?;
-    let key = AskKey::of(alloc, &pattern).ok()?;
+    let key = AskKey::of(alloc, pattern.get()).ok()?;
     ask_text(alloc, &key).ok()
 }
 
@@ -40,12 +40,12 @@ fn choose_of_many(alloc: Global, members: &str, queries: &[&str]) -> Option<Stri
 fn learn_many(alloc: Global, cache: &mut AskCache) -> Option<()> {
     let registry = registries::numbered(alloc, 64)?;
     let query = many_patterns(alloc)?;
-    chosen(alloc, &registry, cache, &query, "")?;
+    chosen(alloc, &registry, cache, query.get(), "")?;
     Some(())
 }
 
 // The query of 64 patterns, `?x <p:0> ?y` and so on.
-fn many_patterns(alloc: Global) -> Option<Query> {
+fn many_patterns(alloc: Global) -> Option<Boxed<Query>> {
     let mut text = String::from_str(alloc, "ASK {").ok()?;
     for number in 0..64u8 {
         write!(text, " ?x <p:{number}> ?y .").ok()?;
@@ -99,7 +99,7 @@ fn told(
     yes: &str,
 ) -> Option<String> {
     let query = notation::query(alloc, text)?;
-    chosen(alloc, registry, cache, &query, yes)
+    chosen(alloc, registry, cache, query.get(), yes)
 }
 
 // What is asked, and the members that each pattern has. The cache learns the answers.

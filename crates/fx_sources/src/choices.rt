@@ -15,7 +15,7 @@ use indexmap::{IndexMap, IndexSet};
 use std::alloc::Global;
 
 /// The members, by number, that each pattern of a query outside SERVICE is asked of, in text order.
-#[derive(Debug, Drop)]
+#[derive(Drop)]
 pub struct Sources {
     pub members: Items<Items<u32>>,
 }
@@ -50,7 +50,7 @@ fn missing_probes(
     let keys = keys_once(alloc, patterns.as_slice())?;
     let mut probes = Vec::new(alloc);
     for at in 0..members {
-        add_missing(&mut probes, cache, keys.as_slice(), at)?;
+        add_missing(alloc, &mut probes, cache, keys.as_slice(), at)?;
     }
     Ok(probes)
 }
@@ -91,6 +91,7 @@ fn keys_once(alloc: Global, patterns: &[Pattern]) -> Result<Vec<AskKey>, Memory>
 
 // The probes of a member that the cache doesn't hold, behind those that were there.
 fn add_missing(
+    alloc: Global,
     probes: &mut Vec<Probe>,
     cache: &AskCache,
     keys: &[AskKey],
@@ -101,7 +102,7 @@ fn add_missing(
     for key in keys {
         let probe = Probe {
             at,
-            key: key.copy()?,
+            key: key.copy(alloc)?,
         };
         if cache.known(&probe).is_none() {
             probes.push(probe)?;
@@ -120,7 +121,7 @@ fn answers(
 {
     let mut answers = IndexMap::new(alloc);
     for (probe, truth) in probes.iter().zip(truths) {
-        answers.insert(probe.copy()?, *truth)?;
+        answers.insert(probe.copy(alloc)?, *truth)?;
     }
     Ok(answers)
 }

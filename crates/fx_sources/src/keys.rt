@@ -9,14 +9,14 @@ ghost use Rattle.fx_sources.specs.Sources as sources;
 use fx_algebra::scopes::once;
 use fx_algebra::{Element, Form, Group, Query};
 use fx_print::print;
-use fx_terms::{Items, Memory, Name, Pattern, PatternTerm, Term};
+use fx_terms::{Boxed, Items, Memory, Name, Pattern, PatternTerm, Term};
 use std::alloc::Global;
 use std::hash::{Hash, Hasher};
 
 /// A pattern as it is asked for: patterns that differ in the names of their variables alone have one key.
-#[derive(Debug, Drop)]
+#[derive(Drop)]
 pub struct AskKey {
-    pub pattern: Pattern,
+    pub pattern: Boxed<Pattern>,
 }
 
 impl AskKey {
@@ -26,21 +26,27 @@ impl AskKey {
     {
         let names = variables(alloc, pattern)?;
         Ok(AskKey {
-            pattern: Pattern {
-                subject: renamed_part(alloc, names.as_slice(), &pattern.subject)?,
-                predicate: renamed_part(alloc, names.as_slice(), &pattern.predicate)?,
-                object: renamed_part(alloc, names.as_slice(), &pattern.object)?,
-            },
+            pattern: renamed(alloc, names.as_slice(), pattern)?,
         })
     }
 
     /// An equal key, which shares the texts.
-    pub fn copy(&self) -> Result<AskKey, Memory>
+    pub fn copy(&self, alloc: Global) -> Result<AskKey, Memory>
         ensures { IfOk result (λ copy. copy ≡ self.now) }
     {
         Ok(AskKey {
-            pattern: self.pattern.copy()?,
+            pattern: boxed(alloc, self.pattern.get().copy())?,
         })
+    }
+}
+
+// A pattern in a box, where there is one.
+fn boxed(alloc: Global, pattern: Result<Pattern, Memory>) -> Result<Boxed<Pattern>, Memory>
+    ensures { IfOk result (λ boxed. pattern ≡ Ok boxed) }
+{
+    match pattern {
+        Ok(pattern) => Ok(Boxed::new(alloc, pattern)?),
+        Err(memory) => Err(memory),
     }
 }
 
@@ -48,7 +54,7 @@ impl AskKey {
 pub fn ask_text(alloc: Global, key: &AskKey) -> Result<String, Memory>
     ensures { IfOk result (λ text. string_bytes text ≡ sources.ask_text key.now.pattern) }
 {
-    let query = ask_query(alloc, &key.pattern)?;
+    let query = ask_query(alloc, key.pattern.get())?;
     print(alloc, &query)
 }
 
@@ -85,6 +91,18 @@ fn push_name(names: &mut Vec<Name>, part: &PatternTerm) -> Result<(), Memory>
         names.push(name.copy()?)?;
     }
     Ok(())
+}
+
+// The pattern with its variables numbered by their places among names.
+fn renamed(alloc: Global, names: &[Name], pattern: &Pattern) -> Result<Boxed<Pattern>, Memory>
+    ensures { IfOk result (λ renamed. renamed ≡ spec.renamed (spec.name_among names.now) pattern.now) }
+{
+    let renamed = Pattern {
+        subject: renamed_part(alloc, names, &pattern.subject)?,
+        predicate: renamed_part(alloc, names, &pattern.predicate)?,
+        object: renamed_part(alloc, names, &pattern.object)?,
+    };
+    Ok(Boxed::new(alloc, renamed)?)
 }
 
 fn renamed_part(alloc: Global, names: &[Name], part: &PatternTerm) -> Result<PatternTerm, Memory>
@@ -153,9 +171,10 @@ impl PartialEq for AskKey {
     ghost laws = { partial_equiv_from_equiv (decided same_key keys_decide) };
 
     fn eq(&self, other: &AskKey) -> bool {
-        same_part(&self.pattern.subject, &other.pattern.subject)
-            && same_part(&self.pattern.predicate, &other.pattern.predicate)
-            && same_part(&self.pattern.object, &other.pattern.object)
+        let (pattern, another) = (self.pattern.get(), other.pattern.get());
+        same_part(&pattern.subject, &another.subject)
+            && same_part(&pattern.predicate, &another.predicate)
+            && same_part(&pattern.object, &another.object)
     }
 }
 
@@ -186,8 +205,9 @@ impl Hash for AskKey {
     ghost respects_eq = { λ x y h. ap key_writes ((keys_decide x y).0 h) };
 
     fn hash<H: Hasher>(&self, state: &mut H) {
-        text_of(&self.pattern.subject).hash(state);
-        text_of(&self.pattern.predicate).hash(state);
-        text_of(&self.pattern.object).hash(state);
+        let pattern = self.pattern.get();
+        text_of(&pattern.subject).hash(state);
+        text_of(&pattern.predicate).hash(state);
+        text_of(&pattern.object).hash(state);
     }
 }

@@ -3,10 +3,11 @@ ghost use Rattle.std.specs.Prelude.{◌≡◌, IfOk};
 
 use crate::keys::AskKey;
 use fx_terms::Memory;
+use std::alloc::Global;
 use std::hash::{Hash, Hasher};
 
 /// A question to a member, by its number: whether a key fits its graph.
-#[derive(Debug, Drop)]
+#[derive(Drop)]
 pub struct Probe {
     pub at: u32,
     pub key: AskKey,
@@ -14,12 +15,12 @@ pub struct Probe {
 
 impl Probe {
     /// An equal probe, which shares the texts.
-    pub fn copy(&self) -> Result<Probe, Memory>
+    pub fn copy(&self, alloc: Global) -> Result<Probe, Memory>
         ensures { IfOk result (λ copy. copy ≡ self.now) }
     {
         Ok(Probe {
             at: self.at,
-            key: self.key.copy()?,
+            key: self.key.copy(alloc)?,
         })
     }
 }

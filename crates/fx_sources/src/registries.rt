@@ -14,7 +14,7 @@ use std::marker::Model;
 
 /// The endpoints that a query is answered over, at most 64, with distinct names and addresses. Contracts see the list of
 /// their parts in the order of their lines.
-#[derive(Debug, Drop)]
+#[derive(Drop)]
 pub struct Registry {
     endpoints: Vec<Endpoint>,
     // What the addresses read to, in the same order.

@@ -16,7 +16,7 @@ use std::marker::Model;
 /// A graph, in which the triples that fit a pattern are found. Contracts see the list of its triples.
 ///
 /// It is kept as that list, and looked up through its order where a pattern's subject is known.
-#[derive(Debug, Drop)]
+#[derive(Drop)]
 pub struct Store {
     graph: Graph,
 }

@@ -11,7 +11,7 @@ use std::marker::Model;
 
 /// A graph: a set of triples (RDF 1.1 Concepts 3). Contracts see the list of its triples in the order of subject,
 /// predicate, object, each once.
-#[derive(Debug, Drop)]
+#[derive(Drop)]
 pub struct Graph {
     triples: Vec<Triple>,
 }

@@ -53,7 +53,7 @@ const LANG_STRING: &str = "http://www.w3.org/1999/02/22-rdf-syntax-ns#langString
 
 /// A literal (RDF 1.1 Concepts 3.3): a lexical form, a datatype, and a language tag exactly where the datatype is
 /// rdf:langString. Contracts see the bytes of these parts, and a literal without a tag as one with the empty tag.
-#[derive(Debug, Drop)]
+#[derive(Drop)]
 pub struct Literal {
     form: ArcStr,
     datatype: Iri,

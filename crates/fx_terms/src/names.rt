@@ -33,7 +33,7 @@ impl From<AllocError> for NameError {
 }
 
 /// A variable's name, without its `?` or `$` (VARNAME of SPARQL 1.1 section 19.8). Contracts see the bytes of its text.
-#[derive(Debug, Drop)]
+#[derive(Drop)]
 pub struct Name {
     text: ArcStr,
 }

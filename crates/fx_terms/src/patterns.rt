@@ -6,7 +6,7 @@ use crate::names::Name;
 use crate::terms::Term;
 
 /// A part of a triple pattern.
-#[derive(Debug, Drop, PartialEq, Eq)]
+#[derive(Drop, PartialEq, Eq)]
 pub enum PatternTerm {
     Variable(Name),
     Constant(Term),
@@ -25,7 +25,7 @@ impl PatternTerm {
 }
 
 /// A triple pattern (SPARQL 1.1 section 18.1.5). A literal may stand in any place; as a subject or predicate it fits nothing.
-#[derive(Debug, Drop, PartialEq, Eq)]
+#[derive(Drop, PartialEq, Eq)]
 pub struct Pattern {
     pub subject: PatternTerm,
     pub predicate: PatternTerm,

@@ -8,7 +8,7 @@ use crate::literals::Literal;
 use std::cmp::Ordering;
 
 /// A term of a graph: an IRI or a literal. Blank nodes are none of this project's terms.
-#[derive(Debug, Drop)]
+#[derive(Drop)]
 pub enum Term {
     Iri(Iri),
     Literal(Literal),

@@ -8,7 +8,7 @@ use crate::terms::Term;
 use std::cmp::Ordering;
 
 /// A triple of a graph (RDF 1.1 Concepts 3.1).
-#[derive(Debug, Drop)]
+#[derive(Drop)]
 pub struct Triple {
     pub subject: Iri,
     pub predicate: Iri,

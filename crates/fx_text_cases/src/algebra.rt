@@ -7,7 +7,7 @@ use fx_algebra::{
 };
 use fx_notation::{fields, notation, shown};
 use fx_print::print;
-use fx_terms::{Items, Name, Term};
+use fx_terms::{Iri, Items, Memory, Name, Pattern, Term};
 use std::alloc::Global;
 
 /// What a call gives.
@@ -121,13 +121,18 @@ fn shown_scope(alloc: Global, group: &Group) -> Option<String> {
 
 fn services_of(alloc: Global, text: &str) -> Option<String> {
     let query = notation::query(alloc, text)?;
-    shown_services(alloc, &query)
+    shown_services(alloc, query.get())
 }
 
 // The services of a query, one after another.
 fn shown_services(alloc: Global, query: &Query) -> Option<String> {
+    let services = services(alloc, query).ok()?;
+    services_text(alloc, services.as_slice())
+}
+
+fn services_text(alloc: Global, services: &[(Iri, bool)]) -> Option<String> {
     let mut text = String::new(alloc);
-    for (iri, silent) in services(alloc, query).ok()?.as_slice() {
+    for (iri, silent) in services {
         fields::add(&mut text, if *silent { "SILENT " } else { "" })?;
         text.push_str(iri.text()).ok()?;
     }
@@ -140,29 +145,48 @@ fn patterns(alloc: Global, text: &str) -> Option<String> {
 }
 
 fn shown_patterns(alloc: Global, group: &Group) -> Option<String> {
+    let patterns = patterns_of(alloc, group).ok()?;
+    patterns_text(alloc, patterns.as_slice())
+}
+
+fn patterns_text(alloc: Global, patterns: &[Pattern]) -> Option<String> {
     let mut text = String::new(alloc);
-    for pattern in patterns_of(alloc, group).ok()?.as_slice() {
+    for pattern in patterns {
         fields::add(&mut text, shown::pattern(alloc, pattern)?.as_str())?;
     }
     Some(text)
 }
 
 fn plain(alloc: Global, text: &str) -> Option<String> {
-    shown::truth(alloc, is_plain(&notation::query(alloc, text)?))
+    shown::truth(alloc, is_plain(notation::query(alloc, text)?.get()))
 }
 
 fn copy_query(alloc: Global, text: &str) -> Option<String> {
     let query = notation::query(alloc, text)?;
-    copied_query(alloc, &query)
+    copied_query(alloc, query.get())
 }
 
 // The scope, the services and the last columns of the copy of a query, which is printed as the query is.
 fn copied_query(alloc: Global, query: &Query) -> Option<String> {
-    let copy = query.copy(alloc).ok()?;
-    if print(alloc, &copy).ok()?.as_str() != print(alloc, query).ok()?.as_str() {
-        return shown::word(alloc, "another");
+    match query.copy(alloc) {
+        Ok(copy) => copy_text(alloc, query, &copy),
+        Err(Memory) => None,
     }
-    query_text(alloc, &copy)
+}
+
+fn copy_text(alloc: Global, query: &Query, copy: &Query) -> Option<String> {
+    if has_text_of(alloc, query, copy)? {
+        query_text(alloc, copy)
+    } else {
+        shown::word(alloc, "another")
+    }
+}
+
+// Whether a query is printed as another is.
+fn has_text_of(alloc: Global, query: &Query, other: &Query) -> Option<bool> {
+    let text = print(alloc, query).ok()?;
+    let other = print(alloc, other).ok()?;
+    Some(text.as_str() == other.as_str())
 }
 
 fn query_text(alloc: Global, query: &Query) -> Option<String> {
@@ -201,42 +225,64 @@ fn copy_unit(alloc: Global, text: &str, members: &str, kind: &str) -> Option<Str
 }
 
 fn unit(alloc: Global, parts: &Group, members: &str, group: bool) -> Option<Unit> {
-    let mut filters = Items::new(alloc);
-    for element in parts.elements.as_slice() {
-        if let Element::Filter(expr) = element {
-            filters.push(expr.copy(alloc).ok()?).ok()?;
-        }
-    }
-    let mut numbers = Items::new(alloc);
-    for member in members.split_whitespace() {
-        numbers.push(member.parse::<u32>().ok()?).ok()?;
-    }
+    let members = numbers(alloc, members)?;
+    let filters = filters(alloc, parts)?;
     Some(Unit {
         patterns: Items::from_vec(patterns_of(alloc, parts).ok()?),
         filters,
-        members: numbers,
+        members,
         group,
     })
 }
 
-// The patterns, the filters, which are variables, and the members.
-fn unit_text(alloc: Global, unit: &Unit) -> Option<String> {
-    let mut text = String::new(alloc);
-    for pattern in unit.patterns.as_slice() {
-        fields::add(&mut text, shown::pattern(alloc, pattern)?.as_str())?;
+fn numbers(alloc: Global, field: &str) -> Option<Items<u32>> {
+    let mut numbers = Items::new(alloc);
+    for member in field.split_whitespace() {
+        numbers.push(member.parse::<u32>().ok()?).ok()?;
     }
-    for filter in unit.filters.as_slice() {
-        match filter {
-            Expr::Variable(name) => fields::add(&mut text, name.text())?,
-            _ => return None,
+    Some(numbers)
+}
+
+fn filters(alloc: Global, parts: &Group) -> Option<Items<Expr>> {
+    let mut filters = Items::new(alloc);
+    for element in parts.elements.as_slice() {
+        if let Element::Filter(expr) = element {
+            push_copy(alloc, &mut filters, expr)?;
         }
     }
+    Some(filters)
+}
+
+fn push_copy(alloc: Global, filters: &mut Items<Expr>, expr: &Expr) -> Option<()> {
+    match expr.copy(alloc) {
+        Ok(copy) => filters.push(copy).ok(),
+        Err(_) => None,
+    }
+}
+
+// The patterns, the filters, which are variables, and the members.
+fn unit_text(alloc: Global, unit: &Unit) -> Option<String> {
+    let mut text = patterns_text(alloc, unit.patterns.as_slice())?;
+    for filter in unit.filters.as_slice() {
+        add_filter(&mut text, filter)?;
+    }
     for member in unit.members.as_slice() {
-        let number = format!(in alloc; "{member}").ok()?;
-        fields::add(&mut text, number.as_str())?;
+        add_number(alloc, &mut text, *member)?;
     }
     fields::add(&mut text, if unit.group { "group" } else { "no group" })?;
     Some(text)
+}
+
+fn add_filter(text: &mut String, filter: &Expr) -> Option<()> {
+    match filter {
+        Expr::Variable(name) => fields::add(text, name.text()),
+        _ => None,
+    }
+}
+
+fn add_number(alloc: Global, text: &mut String, number: u32) -> Option<()> {
+    let number = format!(in alloc; "{number}").ok()?;
+    fields::add(text, number.as_str())
 }
 
 fn copy_row(alloc: Global, origin: &str, text: &str) -> Option<String> {

@@ -3,7 +3,7 @@
 use fx_algebra::{Expr, Solution};
 use fx_expr::{compare_keys, holds, truth, value};
 use fx_notation::{escapes, notation, shown};
-use fx_terms::{Name, Term};
+use fx_terms::{Items, Name, Term};
 use std::alloc::Global;
 use std::cmp::Ordering;
 
@@ -24,7 +24,11 @@ pub fn answer(alloc: Global, call: &str, inputs: &[&str]) -> Option<String> {
 fn value_text(alloc: Global, field: &str) -> Option<String> {
     let text = escapes::text(alloc, field)?;
     let expr = notation::expression(alloc, text.as_str())?;
-    match value_of(alloc, &expr)? {
+    shown_value(alloc, expr.get())
+}
+
+fn shown_value(alloc: Global, expr: &Expr) -> Option<String> {
+    match value_of(alloc, expr)? {
         Some(term) => shown::term(alloc, &term),
         None => shown::word(alloc, "error"),
     }
@@ -32,10 +36,14 @@ fn value_text(alloc: Global, field: &str) -> Option<String> {
 
 // The variable i has a value, and the others have none.
 fn value_of(alloc: Global, expr: &Expr) -> Option<Option<Term>> {
+    let solution = solution(alloc)?;
+    value(alloc, expr, &solution).ok()
+}
+
+fn solution(alloc: Global) -> Option<Solution> {
     let name = Name::read(alloc, "i").ok()?;
     let seven = notation::term(alloc, "7")?;
-    let solution = bound(alloc, &Solution::empty(alloc), &name, &seven)?;
-    value(alloc, expr, &solution).ok()
+    bound(alloc, &Solution::empty(alloc), &name, &seven)
 }
 
 fn bound(alloc: Global, solution: &Solution, name: &Name, term: &Term) -> Option<Solution> {
@@ -50,11 +58,21 @@ fn value_letters(alloc: Global, expression: &str, operands: &str) -> Option<Stri
     let (before, behind) = expression.split_once('#')?;
     let mut letters = String::new(alloc);
     for operand in operands.split(" ; ") {
-        let text = format!(in alloc; "{before}{operand}{behind}").ok()?;
-        let found = value_text(alloc, text.as_str())?;
-        letters.push(letter(found.as_str())).ok()?;
+        letters
+            .push(value_letter(alloc, before, operand, behind)?)
+            .ok()?;
     }
     Some(letters)
+}
+
+fn value_letter(alloc: Global, before: &str, operand: &str, behind: &str) -> Option<char> {
+    let text = format!(in alloc; "{before}{operand}{behind}").ok()?;
+    found_letter(alloc, text.as_str())
+}
+
+fn found_letter(alloc: Global, field: &str) -> Option<char> {
+    let found = value_text(alloc, field)?;
+    Some(letter(found.as_str()))
 }
 
 fn letter(value: &str) -> char {
@@ -83,11 +101,19 @@ fn held(alloc: Global, field: &str) -> Option<String> {
 
 fn order_text(alloc: Global, left: &str, right: &str) -> Option<String> {
     let left = key(alloc, left)?;
+    order_beside(alloc, left.as_ref(), right)
+}
+
+fn order_beside(alloc: Global, left: Option<&Term>, right: &str) -> Option<String> {
     let right = key(alloc, right)?;
-    match compare_keys(left.as_ref(), right.as_ref()) {
-        Ordering::Less => shown::word(alloc, "Less"),
-        Ordering::Equal => shown::word(alloc, "Equal"),
-        Ordering::Greater => shown::word(alloc, "Greater"),
+    shown::word(alloc, order_name(compare_keys(left, right.as_ref())))
+}
+
+fn order_name(order: Ordering) -> &'static str {
+    match order {
+        Ordering::Less => "Less",
+        Ordering::Equal => "Equal",
+        Ordering::Greater => "Greater",
     }
 }
 
@@ -101,12 +127,21 @@ fn key(alloc: Global, text: &str) -> Option<Option<Term>> {
 
 // Whether each key of a list is less than those behind it, greater than those before it, and equal to itself.
 fn rising(alloc: Global, field: &str) -> Option<String> {
-    let mut keys = Vec::new(alloc);
+    let keys = keys(alloc, field)?;
+    rising_text(alloc, keys.as_slice())
+}
+
+fn keys(alloc: Global, field: &str) -> Option<Items<Option<Term>>> {
+    let mut keys = Items::new(alloc);
     for text in field.split(" ; ") {
         keys.push(key(alloc, text)?).ok()?;
     }
+    Some(keys)
+}
+
+fn rising_text(alloc: Global, keys: &[Option<Term>]) -> Option<String> {
     for (key, place) in keys.iter().zip(0u64..) {
-        if let Some(other) = first_amiss(keys.as_slice(), key.as_ref(), place) {
+        if let Some(other) = first_amiss(keys, key.as_ref(), place) {
             return format!(in alloc; "{place} and {other} are out of order").ok();
         }
     }

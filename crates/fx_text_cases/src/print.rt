@@ -17,11 +17,11 @@ pub fn answer(alloc: Global, call: &str, inputs: &[&str]) -> Option<String> {
 
 fn print(alloc: Global, query: &str) -> Option<String> {
     let query = notation::query(alloc, query)?;
-    fx_print::print(alloc, &query).ok()
+    fx_print::print(alloc, query.get()).ok()
 }
 
 fn print_without_columns(alloc: Global, query: &str) -> Option<String> {
-    let mut query = notation::query(alloc, query)?;
+    let mut query = notation::query(alloc, query)?.into_inner();
     drop_columns(alloc, &mut query);
     fx_print::print(alloc, &query).ok()
 }
@@ -35,5 +35,5 @@ fn drop_columns(alloc: Global, query: &mut Query) {
 
 fn print_element(alloc: Global, element: &str) -> Option<String> {
     let element = notation::element(alloc, element)?;
-    fx_print::print_element(alloc, &element).ok()
+    fx_print::print_element(alloc, element.get()).ok()
 }

@@ -39,7 +39,10 @@ fn extended(alloc: Global, rows: &str, name: &str, expression: &str) -> Option<S
     let rows = notation::solutions(alloc, rows)?;
     let name = Name::read(alloc, name).ok()?;
     let expression = notation::expression(alloc, expression)?;
-    text(alloc, extend(alloc, rows.as_slice(), &name, &expression))
+    text(
+        alloc,
+        extend(alloc, rows.as_slice(), &name, expression.get()),
+    )
 }
 
 fn ordered_text(alloc: Global, columns: &str, rows: &str) -> Option<String> {
@@ -52,7 +55,7 @@ fn by_keys(alloc: Global, keys: &str, columns: &str, rows: &str) -> Option<Strin
     let query = notation::query_by(alloc, keys)?;
     let columns = notation::names(alloc, columns)?;
     let rows = notation::solutions(alloc, rows)?;
-    let keys = query.order.as_slice();
+    let keys = query.get().order.as_slice();
     text(
         alloc,
         in_order(alloc, keys, columns.as_slice(), rows.as_slice()),
@@ -62,7 +65,7 @@ fn by_keys(alloc: Global, keys: &str, columns: &str, rows: &str) -> Option<Strin
 fn answered(alloc: Global, query: &str, rows: &str) -> Option<String> {
     let query = notation::query(alloc, query)?;
     let rows = notation::solutions(alloc, rows)?;
-    let answer = answer_of_rows(alloc, &query, rows.as_slice()).ok()?;
+    let answer = answer_of_rows(alloc, query.get(), rows.as_slice()).ok()?;
     shown::answer(alloc, &answer)
 }
 
@@ -104,13 +107,24 @@ fn text(alloc: Global, rows: Result<Vec<Solution>, Memory>) -> Option<String> {
 
 // The texts of rows in their own order.
 fn sorted(alloc: Global, rows: Result<Vec<Solution>, Memory>) -> Option<String> {
+    let rows = rows.ok()?;
+    let mut texts = texts_of(alloc, rows.as_slice())?;
+    texts.sort().ok()?;
+    joined(alloc, texts.as_slice())
+}
+
+fn texts_of(alloc: Global, rows: &[Solution]) -> Option<Vec<String>> {
     let mut texts = Vec::new(alloc);
-    for row in rows.ok()?.as_slice() {
+    for row in rows {
         texts.push(shown::solution(alloc, row)?).ok()?;
     }
-    texts.sort().ok()?;
+    Some(texts)
+}
+
+// The texts, each with a `;` behind it.
+fn joined(alloc: Global, rows: &[String]) -> Option<String> {
     let mut text = String::new(alloc);
-    for row in texts.as_slice() {
+    for row in rows {
         text.push_str(row.as_str()).ok()?;
         text.push(';').ok()?;
     }

@@ -2,6 +2,7 @@
 
 use fx_algebra::is_plain;
 use fx_notation::{escapes, notation};
+use fx_print::print;
 use fx_syntax::{SyntaxError, parse};
 use std::alloc::Global;
 
@@ -44,15 +45,15 @@ fn compared(alloc: Global, text: &str, other: &str) -> Option<String> {
     String::from_str(alloc, if is_same { "same" } else { "different" }).ok()
 }
 
-// The parts of the query that a field is, as a text.
+// The printed text of the query that a field is, which no other query has (`fx_spelling`).
 fn tree(alloc: Global, field: &str) -> Option<String> {
     let text = escapes::bytes(alloc, field)?;
     let query = parse(alloc, text.as_slice()).ok()?;
-    format!(in alloc; "{query:?}").ok()
+    print(alloc, &query).ok()
 }
 
 fn plain(alloc: Global, query: &str) -> Option<String> {
     let query = notation::query(alloc, query)?;
-    let is_plain = is_plain(&query);
+    let is_plain = is_plain(query.get());
     format!(in alloc; "{is_plain}").ok()
 }

@@ -2,8 +2,8 @@
 
 use fx_notation::{escapes, notation, shown};
 use fx_terms::{
-    Graph, Iri, Literal, LiteralError, Name, NameError, Pattern, Term, TermError, is_tag,
-    write_iri, write_term,
+    Graph, Iri, Items, Literal, LiteralError, Memory, Name, NameError, Pattern, Term, TermError,
+    is_tag, write_iri, write_term,
 };
 use std::alloc::Global;
 
@@ -78,12 +78,21 @@ fn parts(alloc: Global, literal: &Literal) -> Option<String> {
 
 // Whether each term of a list is less than those behind it, greater than those before it, and equal to itself.
 fn compare(alloc: Global, field: &str) -> Option<String> {
-    let mut terms = Vec::new(alloc);
+    let terms = terms(alloc, field)?;
+    rising_text(alloc, terms.as_slice())
+}
+
+fn terms(alloc: Global, field: &str) -> Option<Items<Term>> {
+    let mut terms = Items::new(alloc);
     for text in field.split(" ; ") {
         terms.push(notation::term(alloc, text)?).ok()?;
     }
+    Some(terms)
+}
+
+fn rising_text(alloc: Global, terms: &[Term]) -> Option<String> {
     for (term, place) in terms.iter().zip(0u64..) {
-        if let Some(other) = first_amiss(terms.as_slice(), term, place) {
+        if let Some(other) = first_amiss(terms, term, place) {
             return format!(in alloc; "{place} and {other} are out of order").ok();
         }
     }
@@ -114,13 +123,19 @@ fn copied_graph(alloc: Global, graph: &Graph) -> Option<String> {
 }
 
 fn copy_pattern(alloc: Global, text: &str) -> Option<String> {
-    copied_pattern(alloc, &notation::pattern(alloc, text)?)
+    copied_pattern(alloc, notation::pattern(alloc, text)?.get())
 }
 
 fn copied_pattern(alloc: Global, pattern: &Pattern) -> Option<String> {
-    let copy = pattern.copy().ok()?;
-    if copy == *pattern {
-        shown::pattern(alloc, &copy)
+    match pattern.copy() {
+        Ok(copy) => copy_text(alloc, pattern, &copy),
+        Err(Memory) => None,
+    }
+}
+
+fn copy_text(alloc: Global, pattern: &Pattern, copy: &Pattern) -> Option<String> {
+    if *copy == *pattern {
+        shown::pattern(alloc, copy)
     } else {
         shown::word(alloc, "another")
     }
@@ -136,7 +151,11 @@ fn written_iri(alloc: Global, text: &str) -> Option<String> {
 fn written_term(alloc: Global, field: &str) -> Option<String> {
     let text = escapes::text(alloc, field)?;
     let term = notation::term(alloc, text.as_str())?;
+    written(alloc, &term)
+}
+
+fn written(alloc: Global, term: &Term) -> Option<String> {
     let mut written = String::new(alloc);
-    write_term(&mut written, &term).ok()?;
+    write_term(&mut written, term).ok()?;
     Some(written)
 }

@@ -3,6 +3,7 @@
 use fx_notation::{escapes, fields, shown};
 use fx_tokens::{Token, TokenError, TokenFault, TokenKind, four, split_first, tokens};
 use std::alloc::Global;
+use std::fmt::Write;
 
 /// What a call gives.
 pub fn answer(alloc: Global, call: &str, inputs: &[&str]) -> Option<String> {
@@ -31,14 +32,17 @@ fn read(alloc: Global, field: &str) -> Option<String> {
 fn listed(alloc: Global, tokens: &[Token]) -> Option<String> {
     let mut text = String::new(alloc);
     for token in tokens {
-        if !text.is_empty() {
-            text.push(' ').ok()?;
-        }
-        let (kind, start, end) = (kind_name(token.kind), token.start, token.end);
-        let one = format!(in alloc; "{kind} {start} {end}").ok()?;
-        text.push_str(one.as_str()).ok()?;
+        push_token(&mut text, *token)?;
     }
     Some(text)
+}
+
+fn push_token(text: &mut String, token: Token) -> Option<()> {
+    if !text.is_empty() {
+        text.push(' ').ok()?;
+    }
+    let (kind, start, end) = (kind_name(token.kind), token.start, token.end);
+    write!(text, "{kind} {start} {end}").ok()
 }
 
 fn kind_name(kind: TokenKind) -> &'static str {
@@ -69,7 +73,11 @@ fn fault_name(fault: TokenFault) -> &'static str {
 fn count(alloc: Global, piece: &str, times: &str) -> Option<String> {
     let piece = escapes::text(alloc, piece)?;
     let text = fields::repeated(alloc, piece.as_str(), times)?;
-    let count = tokens(alloc, text.as_str()).ok()?.len();
+    count_text(alloc, text.as_str())
+}
+
+fn count_text(alloc: Global, text: &str) -> Option<String> {
+    let count = tokens(alloc, text).ok()?.len();
     format!(in alloc; "{count} tokens").ok()
 }
 

@@ -24,7 +24,7 @@ pub use parts::{four, split_first};
 use std::alloc::{AllocError, AllocFailed, Global};
 
 /// What a token is.
-#[derive(Clone, Copy, Debug, PartialEq, Eq)]
+#[derive(Clone, Copy, PartialEq, Eq)]
 pub enum TokenKind {
     /// An IRI between `<` and `>`.
     Iri,
@@ -51,7 +51,7 @@ pub enum TokenKind {
 }
 
 /// A token of a text: its kind, and the byte places in the text where it begins and behind its end.
-#[derive(Clone, Copy, Debug, PartialEq, Eq)]
+#[derive(Clone, Copy, PartialEq, Eq)]
 pub struct Token {
     pub kind: TokenKind,
     pub start: u64,

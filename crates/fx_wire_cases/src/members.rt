@@ -37,7 +37,7 @@ fn answered(alloc: Global, graph: &str, query: &str, down: &str) -> Option<Strin
 
 fn answered_by(alloc: Global, store: &Store, query: &str, down: &str) -> Option<String> {
     let query = notation::query(alloc, query)?;
-    answered_with(alloc, store, &query, down)
+    answered_with(alloc, store, query.get(), down)
 }
 
 fn answered_with(alloc: Global, store: &Store, query: &Query, down: &str) -> Option<String> {

@@ -1,11 +1,12 @@
 //! The calls of `fx_outside` that reach no system.
 
+use crate::wires::endpoint_of;
 use fx_notation::{fields, shown};
 use fx_outside::{
     Door, DoorError, Endpoint, FileError, Files, MemoryDoor, MemoryFiles, MemoryLink, MemorySink,
     ReadFailed, Sink, Source, WriteFailed, write_all,
 };
-use fx_terms::{Iri, Memory};
+use fx_terms::Memory;
 use std::alloc::Global;
 
 /// What a call gives.
@@ -132,22 +133,30 @@ fn write(alloc: Global, link: &mut MemoryLink, piece: &str) -> Option<String> {
 fn files(alloc: Global, held: &str, fails: &str) -> Option<MemoryFiles> {
     let mut contents = Vec::new(alloc);
     for word in held.split_whitespace() {
-        let (name, content) = word.split_once('=')?;
-        let name = shown::word(alloc, name)?;
-        let content = Vec::from_slice(alloc, content.as_bytes()).ok()?;
-        contents.push((name, content)).ok()?;
+        contents.push(file(alloc, word)?).ok()?;
     }
     MemoryFiles::new(alloc, contents, name_numbers(alloc, fails)?).ok()
+}
+
+fn file(alloc: Global, word: &str) -> Option<(String, Vec<u8>)> {
+    let (name, content) = word.split_once('=')?;
+    let name = shown::word(alloc, name)?;
+    let content = Vec::from_slice(alloc, content.as_bytes()).ok()?;
+    Some((name, content))
 }
 
 fn name_numbers(alloc: Global, field: &str) -> Option<Vec<(String, u64)>> {
     let mut pairs = Vec::new(alloc);
     for word in field.split_whitespace() {
-        let (name, number) = word.split_once(':')?;
-        let number = number.parse::<u64>().ok()?;
-        pairs.push((shown::word(alloc, name)?, number)).ok()?;
+        pairs.push(name_number(alloc, word)?).ok()?;
     }
     Some(pairs)
+}
+
+fn name_number(alloc: Global, word: &str) -> Option<(String, u64)> {
+    let (name, number) = word.split_once(':')?;
+    let number = number.parse::<u64>().ok()?;
+    Some((shown::word(alloc, name)?, number))
 }
 
 // What each call gives, which is written `name:limit`.
@@ -278,11 +287,7 @@ fn is_long_sendable(alloc: Global, host: &str, piece: &str, times: &str) -> Opti
 }
 
 fn endpoint(alloc: Global, host: &str, target: &str) -> Option<Endpoint> {
-    let name = shown::word(alloc, "A")?;
-    let iri = Iri::read(alloc, "http://h:8001/t").ok()?;
-    let host = shown::word(alloc, host)?;
-    let target = shown::word(alloc, target)?;
-    Some(Endpoint::new(name, iri, host, 8001, target))
+    endpoint_of(alloc, "A", "http://h:8001/t", host, 8001, target)
 }
 
 fn copy_endpoint(alloc: Global, parts: &[&str]) -> Option<String> {
@@ -290,11 +295,8 @@ fn copy_endpoint(alloc: Global, parts: &[&str]) -> Option<String> {
         return None;
     };
     let port = port.parse::<u16>().ok()?;
-    let name = shown::word(alloc, name)?;
-    let iri = Iri::read(alloc, iri).ok()?;
-    let host = shown::word(alloc, host)?;
-    let target = shown::word(alloc, target)?;
-    copied(alloc, &Endpoint::new(name, iri, host, port, target))
+    let at = endpoint_of(alloc, name, iri, host, port, target)?;
+    copied(alloc, &at)
 }
 
 fn copied(alloc: Global, at: &Endpoint) -> Option<String> {

@@ -2,12 +2,12 @@
 ghost use Rattle.std.specs.Prelude.{◌<◌, ◌≡◌, true, IfSome};
 ghost use Rattle.fx_http.specs.WrittenReplies.{is_written_status};
 
+use crate::wires::endpoint_of;
 use fx_http::{
     Asked, Reply, ReplyError, RequestError, read_reply, read_request, reply_bytes, request_bytes,
 };
 use fx_notation::{escapes, fields, shown};
 use fx_outside::{Endpoint, MemoryLink, Source};
-use fx_terms::Iri;
 use std::alloc::Global;
 
 // More bytes than any request of a case has.
@@ -42,11 +42,8 @@ fn posted(alloc: Global, port: &str, text: &str) -> Option<String> {
 }
 
 fn endpoint(alloc: Global, port: u16) -> Option<Endpoint> {
-    let name = shown::word(alloc, "A")?;
-    let iri = Iri::read(alloc, "http://127.0.0.1:8001/sparql").ok()?;
-    let host = shown::word(alloc, "127.0.0.1")?;
-    let target = shown::word(alloc, "/sparql")?;
-    Some(Endpoint::new(name, iri, host, port, target))
+    let iri = "http://127.0.0.1:8001/sparql";
+    endpoint_of(alloc, "A", iri, "127.0.0.1", port, "/sparql")
 }
 
 fn replied(alloc: Global, status: &str, field: &str) -> Option<String> {

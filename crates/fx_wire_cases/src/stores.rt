@@ -49,7 +49,7 @@ fn matches(alloc: Global, graph: &str, pattern: &str, solution: &str) -> Option<
 
 fn matches_in(alloc: Global, store: &Store, pattern: &str, solution: &str) -> Option<String> {
     let pattern = notation::pattern(alloc, pattern)?;
-    matches_of(alloc, store, &pattern, solution)
+    matches_of(alloc, store, pattern.get(), solution)
 }
 
 fn matches_of(alloc: Global, store: &Store, pattern: &Pattern, solution: &str) -> Option<String> {
@@ -82,7 +82,7 @@ fn extend_in(
     count: usize,
 ) -> Option<String> {
     let pattern = notation::pattern(alloc, pattern)?;
-    extend_of(alloc, store, &pattern, row, count)
+    extend_of(alloc, store, pattern.get(), row, count)
 }
 
 fn extend_of(
@@ -138,5 +138,5 @@ fn has_in(alloc: Global, store: &Store, triple: &str) -> Option<String> {
 }
 
 fn triple_of(alloc: Global, text: &str) -> Option<Triple> {
-    notation::triple(&notation::pattern(alloc, text)?)
+    notation::triple(notation::pattern(alloc, text)?.get())
 }

@@ -4,6 +4,7 @@ use fx_outside::Endpoint;
 use fx_terms::Iri;
 use fx_wire::{ScriptWire, Wire, WireError};
 use std::alloc::Global;
+use std::fmt::Write;
 
 /// What a call gives.
 pub fn answer(alloc: Global, call: &str, inputs: &[&str]) -> Option<String> {
@@ -16,13 +17,17 @@ pub fn answer(alloc: Global, call: &str, inputs: &[&str]) -> Option<String> {
 // The replies that exchanges give, and the log behind them.
 fn exchanged(alloc: Global, replies: &str, exchanges: &str) -> Option<String> {
     let mut wire = ScriptWire::new(alloc, script(alloc, replies)?).ok()?;
+    exchanged_over(alloc, &mut wire, exchanges)
+}
+
+fn exchanged_over(alloc: Global, wire: &mut ScriptWire, exchanges: &str) -> Option<String> {
     let mut text = String::new(alloc);
     for exchange in exchanges.split(' ') {
-        let reply = exchange_reply(alloc, &mut wire, exchange)?;
+        let reply = exchange_reply(alloc, wire, exchange)?;
         text.push_str(reply.as_str()).ok()?;
         text.push(' ').ok()?;
     }
-    push_log(alloc, &mut text, &wire)?;
+    push_log(&mut text, wire)?;
     Some(text)
 }
 
@@ -30,12 +35,15 @@ fn exchanged(alloc: Global, replies: &str, exchanges: &str) -> Option<String> {
 fn script(alloc: Global, replies: &str) -> Option<Vec<(Iri, Vec<u8>)>> {
     let mut script = Vec::new(alloc);
     for word in replies.split(' ') {
-        let (port, reply) = word.split_once('=')?;
-        let address = address(alloc, port)?;
-        let reply = Vec::from_slice(alloc, reply.as_bytes()).ok()?;
-        script.push((address, reply)).ok()?;
+        script.push(script_entry(alloc, word)?).ok()?;
     }
     Some(script)
+}
+
+fn script_entry(alloc: Global, word: &str) -> Option<(Iri, Vec<u8>)> {
+    let (port, reply) = word.split_once('=')?;
+    let reply = Vec::from_slice(alloc, reply.as_bytes()).ok()?;
+    Some((address(alloc, port)?, reply))
 }
 
 // The reply to an exchange, `PORT:REQUEST:LIMIT`, between quotes, or `Failed`.
@@ -63,29 +71,45 @@ pub fn reply_text(alloc: Global, reply: Result<Vec<u8>, WireError>) -> Option<St
     }
 }
 
-fn push_log(alloc: Global, text: &mut String, wire: &ScriptWire) -> Option<()> {
+fn push_log(text: &mut String, wire: &ScriptWire) -> Option<()> {
     text.push_str("log").ok()?;
     for answered in wire.log() {
         let port = answered.at.port();
         let request = str::from_utf8(answered.request.as_slice()).ok()?;
         let reply = str::from_utf8(answered.reply.as_slice()).ok()?;
-        let entry = format!(in alloc; " {port}:{request}:{reply}").ok()?;
-        text.push_str(entry.as_str()).ok()?;
+        write!(text, " {port}:{request}:{reply}").ok()?;
     }
     Some(())
 }
 
 fn address(alloc: Global, port: &str) -> Option<Iri> {
-    let text = format!(in alloc; "http://127.0.0.1:{port}/sparql").ok()?;
+    let text = address_text(alloc, port)?;
     Iri::read(alloc, text.as_str()).ok()
+}
+
+fn address_text(alloc: Global, port: &str) -> Option<String> {
+    format!(in alloc; "http://127.0.0.1:{port}/sparql").ok()
 }
 
 /// The endpoint at a port of this machine.
 pub fn endpoint(alloc: Global, port: &str) -> Option<Endpoint> {
-    let iri = address(alloc, port)?;
-    let name = String::from_str(alloc, "A").ok()?;
-    let host = String::from_str(alloc, "127.0.0.1").ok()?;
-    let target = String::from_str(alloc, "/sparql").ok()?;
-    let port = port.parse::<u16>().ok()?;
+    let number = port.parse::<u16>().ok()?;
+    let iri = address_text(alloc, port)?;
+    endpoint_of(alloc, "A", iri.as_str(), "127.0.0.1", number, "/sparql")
+}
+
+/// The endpoint of these parts.
+pub fn endpoint_of(
+    alloc: Global,
+    name: &str,
+    iri: &str,
+    host: &str,
+    port: u16,
+    target: &str,
+) -> Option<Endpoint> {
+    let iri = Iri::read(alloc, iri).ok()?;
+    let name = String::from_str(alloc, name).ok()?;
+    let host = String::from_str(alloc, host).ok()?;
+    let target = String::from_str(alloc, target).ok()?;
     Some(Endpoint::new(name, iri, host, port, target))
 }

@@ -26,7 +26,7 @@ returns-then-is_literal-clause-alone g c =
     let see = seen g.W.Wire.tells_log g.W.Wire.log g.W.Wire.graph g.W.Wire.faults in
     let es = c.args.endpoints.now in
     let p = c.args.probe.now in
-    gained_none (AreSent es (probe_questions (p ∷ []))) (see c.args.wire.now) (probe_literal es p (sym c.is_literal.ensures ∙ c.if-is_literal.true))
+    gained_none (AreSent es (probe_questions (p ∷ []))) (see c.args.wire.now) (probe_literal es p (sym (rw c.get-pattern.ensures at c.is_literal.ensures) ∙ c.if-is_literal.true))
 
 pub returns-in-Ok-clause-alone : goal.returns-in-Ok-clause-alone
 returns-in-Ok-clause-alone g c =
@@ -35,7 +35,7 @@ returns-in-Ok-clause-alone g c =
     let p = c.args.probe.now in
     let e = c.index-endpoints-at.result in
     let stands : slice_get es p.at ≡ Some e = search (rules, slice_get_read) in
-    gained_as (IsPostedOnce e (ask_text p.key.pattern)) (AreSent es (probe_questions (p ∷ []))) (probe_sent es p e (sym c.is_literal.ensures ∙ c.if-is_literal.false) stands c.known_pattern.ensures) (see c.args.wire.now) (see c.ask_fit.new.wire) c.in-Ok.ensures.alone
+    gained_as (IsPostedOnce e (ask_text p.key.pattern)) (AreSent es (probe_questions (p ∷ []))) (probe_sent es p e (sym (rw c.get-pattern.ensures at c.is_literal.ensures) ∙ c.if-is_literal.false) stands (rw c.get-pattern.ensures at c.known_pattern.ensures)) (see c.args.wire.now) (see c.ask_fit.new.wire) c.in-Ok.ensures.alone
 
 pub returns-in-Err-clause-alone : goal.returns-in-Err-clause-alone
 returns-in-Err-clause-alone g c =
@@ -44,7 +44,7 @@ returns-in-Err-clause-alone g c =
     let p = c.args.probe.now in
     let e = c.index-endpoints-at.result in
     let stands : slice_get es p.at ≡ Some e = search (rules, slice_get_read) in
-    gained_as (IsPostedAtMost e (ask_text p.key.pattern)) (AreBegun es (probe_questions (p ∷ []))) (probe_begun es p e (sym c.is_literal.ensures ∙ c.if-is_literal.false) stands c.known_pattern.ensures) (see c.args.wire.now) (see c.ask_fit.new.wire) c.in-Err.ensures.alone
+    gained_as (IsPostedAtMost e (ask_text p.key.pattern)) (AreBegun es (probe_questions (p ∷ []))) (probe_begun es p e (sym (rw c.get-pattern.ensures at c.is_literal.ensures) ∙ c.if-is_literal.false) stands (rw c.get-pattern.ensures at c.known_pattern.ensures)) (see c.args.wire.now) (see c.ask_fit.new.wire) c.in-Err.ensures.alone
 
 pub returns-in-Err-clause-counted : goal.returns-in-Err-clause-counted
 returns-in-Err-clause-counted g c =
