@@ -6,8 +6,8 @@ ghost use Rattle.fx_grammar.specs.Accepted.{Accepted};
 ghost use Rattle.fx_spelling.specs.Units.{IsFit};
 ghost use Rattle.fx_bound.specs.Made.{IsMade};
 ghost use Rattle.fx_bound.specs.Parts as spec;
-ghost use Rattle.fx_bound.specs.Reading.{unit_names};
-ghost use Rattle.fx_bound.specs.Sent.{all_words};
+ghost use Rattle.fx_bound.specs.Reading.{all_columns};
+ghost use Rattle.fx_bound.specs.Sent.{all_words, columns_of_all};
 ghost use Rattle.fx_bound.specs.Texts.{HasTerms, IsSpelled};
 
 use crate::branches::{Branch, branches_of};
@@ -60,9 +60,11 @@ impl Batch {
         }
     }
 
-    /// The branches of the text, by number. It takes no memory.
+    /// The branches of the text, by number. The columns of the text are the names that they have sent, or the one that they have checked.
+    /// It takes no memory.
     pub fn branches(&self) -> &[Branch]
         ensures all { result.now ≡ spec.branches_of self.now }
+        ensures columns { columns_of_all result.now ≡ all_columns self.now.unit (spec.places self.now) }
         ensures known { spec.IsBatch self.now }
     {
         self.branches.as_slice()

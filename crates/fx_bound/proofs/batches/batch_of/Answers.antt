@@ -1,5 +1,3 @@
-use Rattle.std.proofs.Common.{String, Global, List, ℕ, string_bytes}
-use Rattle.std.specs.Option.{option_map}
 use Rattle.fx_bound.proofs.BatchTextLemmas.{made_of_copies}
 use Rattle.fx_bound.proofs.batches.batch_of.Goals as goal
 
