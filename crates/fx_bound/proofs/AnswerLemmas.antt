@@ -16,7 +16,7 @@ use Rattle.fx_algebra.specs.declared.units.Row.{Row}
 use Rattle.fx_algebra.specs.declared.units.Unit as unit
 use Rattle.fx_algebra.proofs.MemberLemmas.{among_from_map, among_map}
 use Rattle.fx_spelling.specs.Units.{IsSound}
-use Rattle.fx_bound.specs.Answers.{Answers, AreReadOf, IsAnswered, Tells, behind, in_front, numbered, numbers, read_answer, read_rows}
+use Rattle.fx_bound.specs.Answers.{AnswersBatch, AreReadOf, IsAnswered, Tells, behind, in_front, numbered, numbers, read_answer, read_rows}
 use Rattle.fx_bound.specs.Batches.{AreAnswered}
 use Rattle.fx_bound.specs.Parts.{IsBatch, IsKnown, Parts, places}
 use Rattle.fx_bound.specs.Reading.{AreRead, all_columns, binds_all, binds_one, columns_of, read_bound, read_row}
@@ -121,7 +121,7 @@ no_fault p graph (Table columns rows) e known h k =
 no_fault p graph (Truth truth) e known h k = absurd h
 
 -- an answer over a graph has no fault, and tells what the graph has
-pub tells_graph : (p : Parts) (answer : Answer) (result : Result (List Found) BatchError) → IsBatch p → Answers result (read_answer p answer) → (graph : List Triple) → IsAnswered graph p answer → Tells graph p result
+pub tells_graph : (p : Parts) (answer : Answer) (result : Result (List Found) BatchError) → IsBatch p → AnswersBatch result (read_answer p answer) → (graph : List Triple) → IsAnswered graph p answer → Tells graph p result
 tells_graph p answer (Ok founds) known h graph k = told_is p graph answer founds known k h
 tells_graph p answer (Err error.Memory) known h graph k = tt
 tells_graph p answer (Err error.NotTable) known h graph k = no_fault p graph answer error.NotTable known k h
@@ -153,11 +153,11 @@ pub stepped : {V E : Type 0} (items : V → List Row) (result : Result V E) (row
 stepped items (Ok v) rows others e h = subst (λ (w : List Row). IsPermutation w others) (sym e) h
 stepped items (Err e) rows others h k = tt
 
-pub all_of_branches : (p : Parts) (answer : Answer) (result : Result (List Found) BatchError) → Answers result (read_answer p answer) → IfOk result (λ founds. All (λ (f : Found). Contains (numbers p) f.branch) founds)
+pub all_of_branches : (p : Parts) (answer : Answer) (result : Result (List Found) BatchError) → AnswersBatch result (read_answer p answer) → IfOk result (λ founds. All (λ (f : Found). Contains (numbers p) f.branch) founds)
 all_of_branches p answer (Ok founds) h = numbers_known p answer founds h
 all_of_branches p answer (Err e) h = tt
 
 pub table_read : (p : Parts) (columns : List (List ℕ)) (slice rows : List Bindings) (answer : Answer) (result : Result (List Found) BatchError)
-    → Answers result (read_rows (read_row p.unit (places p)) 0 slice) → slice ≡ rows → answer ≡ Table columns rows → Answers result (read_answer p answer)
+    → AnswersBatch result (read_rows (read_row p.unit (places p)) 0 slice) → slice ≡ rows → answer ≡ Table columns rows → AnswersBatch result (read_answer p answer)
 table_read p columns slice rows answer result h same is =
-    subst (λ (v : Answer). Answers result (read_answer p v)) (sym is) (subst (λ (v : List Bindings). Answers result (read_rows (read_row p.unit (places p)) 0 v)) same h)
+    subst (λ (v : Answer). AnswersBatch result (read_answer p v)) (sym is) (subst (λ (v : List Bindings). AnswersBatch result (read_rows (read_row p.unit (places p)) 0 v)) same h)

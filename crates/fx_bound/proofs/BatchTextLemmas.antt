@@ -35,18 +35,18 @@ text_accepted p text known e = by (places p) (λ h. h) e
         let same : text ≡ printed_query (query_of p) = cc in
         subst (λ (v : List ℕ). Accepted v (query_of p)) (sym same) (batch_is_accepted p.unit p.rows known.fit known.spelled terms known.few known.named (f (omega arith)))
 
-pub made : (u copy : unit.Unit) (rows copies : List Row) (names : List (List ℕ)) (slice bs : List Branch) (text : Option (List ℕ))
-    → copy ≡ u → copies ≡ rows → IsFit u → IsSpelled u → length rows ≤ 64 → AreKnown rows → names ≡ unit_names u → length names < 2 ^ 64
-    → bs ≡ map (branch_of u) (branches u rows) → slice ≡ bs → text ≡ printed_words (all_words u names slice) slice → IsMade (record { unit = copy; rows = copies }) bs text
-made u copy rows copies names slice bs text e f fit spelled few known named short bs_are slice_is printed =
-    let same : names ≡ unit_names u = named in
+pub made : (u : unit.Unit) (rows : List Row) (names : List (List ℕ)) (slice bs : List Branch) (text : Option (List ℕ)) → IsFit u → IsSpelled u → length rows ≤ 64 → AreKnown rows
+    → names ≡ unit_names u → length names < 2 ^ 64 → bs ≡ map (branch_of u) (branches u rows) → slice ≡ bs → text ≡ printed_words (all_words u names slice) slice → IsMade (record { unit = u; rows = rows }) bs text
+made u rows names slice bs text fit spelled few known named short bs_are slice_is printed =
     let all : slice ≡ map (branch_of u) (branches u rows) = slice_is ∙ bs_are in
-    subst (λ (p : Parts). IsMade p bs text) (λ i. record { unit = sym e i; rows = sym f i })
-    (record {
-      known = record { fit = fit; spelled = spelled; named = subst (λ (v : List (List ℕ)). length v < 2 ^ 64) same short; few = few; known = known };
+    record {
+      known = record { fit = fit; spelled = spelled; named = subst (λ (v : List (List ℕ)). length v < 2 ^ 64) named short; few = few; known = known };
       branches_are = bs_are;
-      text_is = printed ∙ (λ i. printed_words (all_words u (same i) (all i)) (all i)) ∙ text_is u (branches u rows);
-    })
+      text_is = printed ∙ (λ i. printed_words (all_words u (named i) (all i)) (all i)) ∙ text_is u (branches u rows);
+    }
+
+pub made_of_copies : (u copy : unit.Unit) (rows copies : List Row) (bs : List Branch) (text : Option (List ℕ)) → copy ≡ u → copies ≡ rows → IsMade (record { unit = u; rows = rows }) bs text → IsMade (record { unit = copy; rows = copies }) bs text
+made_of_copies u copy rows copies bs text e f made = subst (λ (p : Parts). IsMade p bs text) (λ i. record { unit = sym e i; rows = sym f i }) made
 
 -- three parts of a text, one after another
 pub three : (old first second : List ℕ) (a b c : List Word) → first ≡ old ++ spaced a → second ≡ first ++ spaced b → second ++ spaced c ≡ old ++ spaced (a ++ (b ++ c))

@@ -56,6 +56,9 @@ pub all_columns_are : (u : unit.Unit) (bs : List Place) → columns_of_all (map 
 all_columns_are u [] = refl
 all_columns_are u (b ∷ bs) = λ i. columns_are u b i ++ all_columns_are u bs i
 
+pub columns_sent_are : (p : Parts) (bs : List Branch) → bs ≡ branches_of p → columns_of_all bs ≡ reading.all_columns p.unit (places p)
+columns_sent_are p bs e = ap columns_of_all e ∙ all_columns_are p.unit (places p)
+
 -- ---- what a row tells
 
 told_sent : (rename : List ℕ → List ℕ) (free : List (List ℕ)) (row t : Bindings) → with_told (map (λ n. (rename n, n)) free) row t ≡ told rename free row t

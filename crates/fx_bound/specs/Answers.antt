@@ -49,10 +49,10 @@ read_answer p (Table columns rows) = read_rows (read_row p.unit (places p)) 0 ro
 read_answer p (Truth truth) = Err error.NotTable
 
 -- unless memory ran out, the answer is the wanted one
-abbrev pub Answers : {X : Type 0} → Result X BatchError → Result X BatchError → Type 0
-Answers (Ok x) wanted = wanted ≡ Ok x
-Answers (Err error.Memory) wanted = Unit {0}
-Answers (Err e) wanted = wanted ≡ Err e
+abbrev pub AnswersBatch : {X : Type 0} → Result X BatchError → Result X BatchError → Type 0
+AnswersBatch (Ok x) wanted = wanted ≡ Ok x
+AnswersBatch (Err error.Memory) wanted = Unit {0}
+AnswersBatch (Err e) wanted = wanted ≡ Err e
 
 -- ---- an answer of the batch over a graph
 

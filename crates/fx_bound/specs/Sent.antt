@@ -34,8 +34,11 @@ columns_of_all bs = flat_map columns bs
 abbrev pub column_words : List Branch → List Word
 column_words bs = flat_map (λ b. map (λ n. variable n) (columns b)) bs
 
+abbrev pub bound_words : (List ℕ → List ℕ) → Bindings → Expr → List Word
+bound_words rename row e = fixed (codes "FILTER") ∷ condition (printed (bound_expr rename row e))
+
 abbrev pub filter_words : (List ℕ → List ℕ) → Bindings → List Expr → List Word
-filter_words rename row es = flat_map (λ e. fixed (codes "FILTER") ∷ condition (printed (bound_expr rename row e))) es
+filter_words rename row es = flat_map (bound_words rename row) es
 
 abbrev pub check_words : Option (List ℕ) → List Word
 check_words None = []

@@ -4,9 +4,10 @@ ghost use Rattle.std.specs.Option.{option_copied};
 ghost use Rattle.fx_algebra.specs.Printed.{joined};
 ghost use Rattle.fx_grammar.specs.Accepted.{Accepted};
 ghost use Rattle.fx_spelling.specs.Units.{IsFit};
+ghost use Rattle.fx_bound.specs.Made.{IsMade};
 ghost use Rattle.fx_bound.specs.Parts as spec;
-ghost use Rattle.fx_bound.specs.Reading.{unit_names};
-ghost use Rattle.fx_bound.specs.Sent.{all_words};
+ghost use Rattle.fx_bound.specs.Reading.{all_columns};
+ghost use Rattle.fx_bound.specs.Sent.{all_words, columns_of_all};
 ghost use Rattle.fx_bound.specs.Texts.{HasTerms, IsSpelled};
 
 use crate::branches::{Branch, branches_of};
@@ -59,9 +60,11 @@ impl Batch {
         }
     }
 
-    /// The branches of the text, by number. It takes no memory.
+    /// The branches of the text, by number. The columns of the text are the names that they have sent, or the one that they have checked.
+    /// It takes no memory.
     pub fn branches(&self) -> &[Branch]
         ensures all { result.now ≡ spec.branches_of self.now }
+        ensures columns { columns_of_all result.now ≡ all_columns self.now.unit (spec.places self.now) }
         ensures known { spec.IsBatch self.now }
     {
         self.branches.as_slice()
@@ -94,10 +97,25 @@ pub fn batch_text(alloc: Global, unit: &Unit, rows: &[Row]) -> Result<Batch, Mem
     let _count = names.len();
     let branches = branches_of(alloc, unit, &names, rows)?;
     let text = text_of(alloc, unit, &names, branches.as_slice())?;
+    batch_of(alloc, unit, rows, branches, text)
+}
+
+fn batch_of(
+    alloc: Global,
+    unit: &Unit,
+    rows: &[Row],
+    branches: Items<Branch>,
+    text: Option<String>,
+) -> Result<Batch, Memory>
+    requires { IsMade (record { unit = unit.now; rows = rows.now }) branches (option_map (λ t. string_bytes t) text) }
+    ensures { IfOk result (λ batch. batch ≡ record { unit = unit.now; rows = rows.now }) }
+{
     let columns = Columns::of(alloc, branches.as_slice())?;
+    let rows = copy_rows(alloc, rows)?;
+    let unit = unit.copy(alloc)?;
     Ok(Batch {
-        unit: unit.copy(alloc)?,
-        rows: copy_rows(alloc, rows)?,
+        unit,
+        rows,
         branches,
         text,
         columns,

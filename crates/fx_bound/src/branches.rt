@@ -69,11 +69,17 @@ fn sent_names(
     let mut sent = Items::new(alloc);
     for name in names.as_slice() {
         if row.get(name).is_none() {
-            let other = sent_name(alloc, names.place(name), number)?;
-            sent.push((other, name.copy()?))?;
+            sent.push(sent_pair(alloc, names, number, name)?)?;
         }
     }
     Ok(sent)
+}
+
+// The other name of a variable, beside its own.
+fn sent_pair(alloc: Global, names: &Names, number: u32, name: &Name) -> Result<(Name, Name), Memory>
+    ensures { IfOk result (λ pair. pair ≡ (reading.named names.now number name.now, name.now)) }
+{
+    Ok((sent_name(alloc, names.place(name), number)?, name.copy()?))
 }
 
 fn checked_name(alloc: Global, number: u32, sent: &[(Name, Name)]) -> Result<Option<Name>, Memory>

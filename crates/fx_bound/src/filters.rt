@@ -9,9 +9,21 @@ use fx_algebra::{Expr, Sign, Solution};
 use fx_terms::{Boxed, Items, Memory, Name, Term};
 use std::alloc::Global;
 
-/// An expression with a row's terms in the places of the variables that the row binds, and the other name of each other variable.
+/// A filter with a row's terms in the places of the variables that the row binds, and the other name of each other variable.
+pub(crate) fn bound_filter(
+    alloc: Global,
+    names: &Names,
+    number: u32,
+    row: &Solution,
+    filter: &Expr,
+) -> Result<Boxed<Expr>, Memory>
+    ensures { IfOk result (λ e. e ≡ bound_expr (named names.now number) row.now filter.now) }
+{
+    Ok(Boxed::new(alloc, bound(alloc, names, number, row, filter)?)?)
+}
+
 #[cycle(bound)]
-pub(crate) fn bound(
+fn bound(
     alloc: Global,
     names: &Names,
     number: u32,

@@ -24,7 +24,7 @@ use std::alloc::Global;
 /// binds a name that is no column of the batch, else `Mixed` where it binds columns of two branches, else `Partial` where it binds
 /// none or misses one of its branch.
 pub fn read_batch(alloc: Global, batch: &Batch, answer: &Answer) -> Result<Items<Found>, BatchError>
-    ensures exact { spec.Answers result (spec.read_answer batch.now answer.now) }
+    ensures exact { spec.AnswersBatch result (spec.read_answer batch.now answer.now) }
     ensures tells { (graph : List TripleParts) → spec.IsAnswered graph batch.now answer.now → spec.Tells graph batch.now result }
     ensures branches { IfOk result (λ founds. All (λ f. Contains (spec.numbers batch.now) f.branch) founds) }
 {
@@ -36,7 +36,7 @@ pub fn read_batch(alloc: Global, batch: &Batch, answer: &Answer) -> Result<Items
 }
 
 fn read_rows(alloc: Global, batch: &Batch, rows: &[Solution]) -> Result<Items<Found>, BatchError>
-    ensures { spec.Answers result (spec.read_rows (reading.read_row batch.now.unit (places batch.now)) 0 rows.now) }
+    ensures { spec.AnswersBatch result (spec.read_rows (reading.read_row batch.now.unit (places batch.now)) 0 rows.now) }
 {
     let mut founds = Items::new(alloc);
     for (number, row) in rows.iter().enumerate() {
@@ -51,7 +51,7 @@ fn read_row(
     number: usize,
     row: &Solution,
 ) -> Result<Found, BatchError>
-    ensures { spec.Answers result (spec.numbered number (reading.read_row batch.now.unit (places batch.now) row.now)) }
+    ensures { spec.AnswersBatch result (spec.numbered number (reading.read_row batch.now.unit (places batch.now) row.now)) }
 {
     match branch_of(batch, row) {
         Ok(branch) => Ok(found(alloc, branch, row)?),

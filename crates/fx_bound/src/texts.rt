@@ -2,14 +2,14 @@
 ghost use Rattle.std.specs.Prelude.{◌≡◌, ◌++◌, ◌∷◌, [], codes, IfOk, map, OnOk, pos, string_bytes};
 ghost use Rattle.std.specs.List.{flat_map};
 ghost use Rattle.std.specs.Option.{option_copied};
-ghost use Rattle.fx_algebra.specs.Printed.{condition, fixed, joined, part_word, pattern_words, printed, separated, spaced, spelling, term, variable};
+ghost use Rattle.fx_algebra.specs.Printed.{condition, fixed, in_brackets, joined, part_word, pattern_words, printed, separated, spaced, spelling, term, variable};
 ghost use Rattle.fx_algebra.specs.Values.{integer};
 ghost use Rattle.fx_bound.specs.Branches.{bound_expr, bound_part, bound_pattern};
 ghost use Rattle.fx_bound.specs.Reading.{named, sent_name};
 ghost use Rattle.fx_bound.specs.Sent as spec;
 
 use crate::branches::Branch;
-use crate::filters::bound;
+use crate::filters::bound_filter;
 use crate::names::{Names, push_sent};
 use fx_algebra::{Expr, Unit};
 use fx_print::expressions::{is_call, push_bracketed, push_expr};
@@ -189,10 +189,23 @@ fn push_filters(
     ensures { OnOk result (string_bytes text.new ≡ string_bytes text.old ++ spaced (spec.filter_words (named names.now branch.now.number) branch.now.row.solution filters.now)) }
 {
     for filter in filters {
-        let expr = bound(alloc, names, branch.number, &branch.row.solution, filter)?;
-        push_filter(text, &expr)?;
+        push_bound(alloc, text, names, branch, filter)?;
     }
     Ok(())
+}
+
+// A filter with the terms of the branch's row in it.
+fn push_bound(
+    alloc: Global,
+    text: &mut String,
+    names: &Names,
+    branch: &Branch,
+    filter: &Expr,
+) -> Result<(), Memory>
+    ensures { OnOk result (string_bytes text.new ≡ string_bytes text.old ++ spaced (spec.bound_words (named names.now branch.now.number) branch.now.row.solution filter.now)) }
+{
+    let filter = bound_filter(alloc, names, branch.number, &branch.row.solution, filter)?;
+    push_filter(text, filter.get())
 }
 
 fn push_filter(text: &mut String, filter: &Expr) -> Result<(), Memory>
@@ -227,11 +240,17 @@ fn push_check(text: &mut String, checked: &Option<Name>) -> Result<(), Memory>
         None => Ok(()),
         Some(name) => {
             push_fixed(text, "BIND")?;
-            push_fixed(text, "(")?;
-            push_one(text)?;
-            push_fixed(text, "AS")?;
-            push_variable(text, name)?;
-            push_fixed(text, ")")
+            push_one_as(text, name)
         }
     }
+}
+
+fn push_one_as(text: &mut String, name: &Name) -> Result<(), Memory>
+    ensures { OnOk result (string_bytes text.new ≡ string_bytes text.old ++ spaced (in_brackets (term (integer (pos 1)) ∷ fixed (codes "AS") ∷ variable name.now ∷ []))) }
+{
+    push_fixed(text, "(")?;
+    push_one(text)?;
+    push_fixed(text, "AS")?;
+    push_variable(text, name)?;
+    push_fixed(text, ")")
 }

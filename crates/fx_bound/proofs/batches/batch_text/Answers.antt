@@ -5,8 +5,7 @@ use Rattle.fx_algebra.specs.Scopes.{once}
 use Rattle.fx_bound.proofs.BatchTextLemmas.{made}
 use Rattle.fx_bound.proofs.batches.batch_text.Goals as goal
 
-pub invariant_of-result : goal.invariant_of-result
-invariant_of-result c =
-    made c.args.unit.now c.in_ok-copy.field-0 c.args.rows.now c.in_ok-copy_rows.field-0 c.in_ok-names.names c.as_slice-2.result.now c.in_ok-branches.branches _
-    c.in_ok-copy.ensures c.in_ok-copy_rows.ensures c.requires.fit c.requires.spelled c.requires.few c.known_rows.ensures
+pub batch_of-requires : goal.batch_of-requires
+batch_of-requires c =
+    made c.args.unit.now c.args.rows.now c.in_ok-names.names c.as_slice-2.result.now c.in_ok-branches.branches _ c.requires.fit c.requires.spelled c.requires.few c.known_rows.ensures
     (c.in_ok-names.ensures ∙ ap (λ (ps : List Pattern). once (variables ps)) c.as_slice.ensures) c.len-count.ensures.few c.in_ok-branches.ensures c.as_slice-2.ensures c.in_ok-text.ensures
