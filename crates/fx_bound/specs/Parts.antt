@@ -4,7 +4,7 @@ use Rattle.fx_algebra.specs.Printed.{Word, joined, printed_query}
 use Rattle.fx_algebra.specs.Solutions.{Bindings, rises}
 use Rattle.fx_algebra.specs.declared.queries.Query.{Query}
 use Rattle.fx_algebra.specs.declared.units.Row.{Row}
-use Rattle.fx_algebra.specs.declared.units.Unit as the
+use Rattle.fx_algebra.specs.declared.units.Unit as units
 use Rattle.fx_spelling.specs.Units.{IsFit}
 use Rattle.fx_bound.specs.Batches.{batch_query}
 use Rattle.fx_bound.specs.Reading.{check_name, free_among, named, unit_names}
@@ -14,7 +14,7 @@ use Rattle.fx_bound.specs.declared.branches.Branch.{Branch}
 
 -- what a batch is made of
 pub record Parts : Type 0 where
-  pub unit : the.Unit
+  pub unit : units.Unit
   pub rows : List Row
 
 -- the rows that it asks for
@@ -40,7 +40,7 @@ branch_by names b = record {
   checked = checked_when b.number (sent_by names b.number b.row.solution);
 }
 
-abbrev pub branch_of : the.Unit → Place → Branch
+abbrev pub branch_of : units.Unit → Place → Branch
 branch_of u = branch_by (unit_names u)
 
 abbrev pub branches_of : Parts → List Branch
