@@ -15,7 +15,7 @@ use std::alloc::Global;
 
 /// A row as a text asks for it: its number among the rows that were handed in, the names in the text beside the unit's own, and the
 /// name in the text that says that there is a solution, where no variable is left.
-#[derive(Debug, Drop)]
+#[derive(Drop)]
 pub struct Branch {
     pub number: u32,
     pub row: Row,

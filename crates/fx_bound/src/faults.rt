@@ -5,7 +5,7 @@ use std::alloc::{AllocError, AllocFailed};
 
 /// Why nothing is read of an answer to a batch. Of its rows the first that has a fault is named, by its number from 0, and of the
 /// faults of a row the first in this order.
-#[derive(Clone, Copy, Debug, PartialEq, Eq)]
+#[derive(Clone, Copy, PartialEq, Eq)]
 pub enum BatchError {
     /// The answer is a truth value. It comes exactly there.
     NotTable,

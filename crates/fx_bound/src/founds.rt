@@ -7,7 +7,7 @@ use std::alloc::Global;
 use std::cmp::Ordering;
 
 /// A solution that a member has for a branch: the number of the branch, and the solution merged with the branch's row.
-#[derive(Debug, Drop)]
+#[derive(Drop)]
 pub struct Found {
     pub branch: u32,
     pub solution: Solution,

@@ -5,7 +5,7 @@ use fx_http::ReplyError;
 use fx_results::ResultsError;
 
 /// Why a reply is bad: the first of these that applies.
-#[derive(Clone, Copy, Debug, PartialEq, Eq)]
+#[derive(Clone, Copy, PartialEq, Eq)]
 pub enum ReplyFault {
     /// It is no reply with results, for this reason, which is never want of memory.
     Http(ReplyError),

@@ -8,7 +8,7 @@ use fx_terms::{Items, Name};
 use std::marker::Model;
 
 /// The text of a request. Contracts see its bytes.
-#[derive(Debug, Drop)]
+#[derive(Drop)]
 pub struct RequestText {
     text: String,
 }
@@ -63,7 +63,7 @@ pub enum Work {
 }
 
 /// Which kind of job a reply answers.
-#[derive(Clone, Copy, Debug, PartialEq, Eq)]
+#[derive(Clone, Copy, PartialEq, Eq)]
 pub enum JobKind {
     Ask,
     Batch,
@@ -71,7 +71,7 @@ pub enum JobKind {
 }
 
 /// A reply that is bad, with the request that it answers.
-#[derive(Debug, Drop)]
+#[derive(Drop)]
 pub struct BadReply {
     pub kind: JobKind,
     pub request: Items<u8>,
@@ -81,7 +81,7 @@ pub struct BadReply {
 }
 
 /// What came of a job.
-#[derive(Debug, Drop)]
+#[derive(Drop)]
 pub enum JobReply {
     /// The truth value of an ASK.
     Truth(bool),
