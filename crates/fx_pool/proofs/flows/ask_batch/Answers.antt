@@ -37,7 +37,7 @@ returns g c =
     let p : Parts = record { unit = c.args.unit.now; rows = c.args.rows.now } in
     let lists = c.in-Ok-ask_members.lists.items in
     let asked : AskedMembers s t es p p.unit.members (Ok lists) =
-        subst (λ (ms : List ℕ). AskedMembers s t es p ms (Ok lists)) c.as_slice.ensures (subst (λ (b : Parts). AskedMembers s t es b c.as_slice.result.now (Ok lists)) c.in-Ok.ensures c.in-Ok-ask_members.ensures) in
+    subst (λ (ms : List ℕ). AskedMembers s t es p ms (Ok lists)) c.as_slice.ensures (subst (λ (b : Parts). AskedMembers s t es b c.as_slice.result.now (Ok lists)) c.in-Ok.ensures c.in-Ok-ask_members.ensures) in
     let unites : Unites c.united.result p lists =
-        subst (λ (b : Parts). Unites c.united.result b lists) c.in-Ok.ensures (subst (λ (v : List (List Found)). Unites c.united.result c.in-Ok.batch v) c.as_slice-in-Ok-ask_members.ensures.value c.united.ensures.step) in
+    subst (λ (b : Parts). Unites c.united.result b lists) c.in-Ok.ensures (subst (λ (v : List (List Found)). Unites c.united.result c.in-Ok.batch v) c.as_slice-in-Ok-ask_members.ensures.value c.united.ensures.step) in
     given s t es p lists c.united.result asked unites c.united.ensures.memory
