@@ -1,6 +1,5 @@
 -- What asking the members of a unit for a batch gives.
-use Rattle.std.proofs.Common.{◌≡◌, refl, sym, subst, ℕ, List, [], Option, IfOk, IfErr, Result, Ok, Err, IsPermutation, slice_get, length, ◌<◌, All, Contains, ◌∷◌}
-use Rattle.std.specs.List.{flat_map}
+use Rattle.std.proofs.Common.{◌≡◌, sym, subst, arith, Bool, List, [], IfOk, IfErr, Result, Ok, Err, IsPermutation}
 use Rattle.std.specs.declared.alloc.Global.{Global}
 use Rattle.std.specs.declared.vec.Vec.{Vec}
 use Rattle.fx_terms.specs.declared.triples.Triple.{Triple}
@@ -13,22 +12,25 @@ use Rattle.fx_bound.specs.Answers.{AreReadOf}
 use Rattle.fx_bound.specs.Parts.{Parts}
 use Rattle.fx_bound.specs.declared.founds.Found.{Found}
 use Rattle.fx_wire.specs.Exchanges.{Seen}
-use Rattle.fx_pool.specs.Flows.{AreTold, AskedBatch, AskedMembers, HasMemberCause, rows_in}
+use Rattle.fx_pool.specs.Flows.{AskedBatch, AskedMembers, HasMemberCause, rows_in}
 use Rattle.fx_pool.specs.declared.flows.FlowError.{FlowError}
 use Rattle.fx_pool.specs.declared.flows.FlowError.TheVariants as flow
 use Rattle.fx_pool.proofs.MembersLemmas.{passed_none}
 use Rattle.fx_traffic.specs.Batches.{unit_sent}
 use Rattle.std.proofs.lemmas.List.Sorted.{IsPermutation-refl}
 
-module _ (s t : Seen) (es : List EndpointParts) (p : Parts) where
-  pub refused : (why : FlowError) → AskedMembers s t es p p.unit.members (Err why) → AskedBatch s t es p (Err why)
-  refused why h = record { exchanges = h.exchanges; passed = h.passed; left = h.left; sent = h.sent; done = tt; cause = h.cause }
+module _ (alone : Bool) (s t : Seen) (es : List EndpointParts) (p : Parts) where
+  pub refused : (why : FlowError) → AskedMembers alone s t es p p.unit.members (Err why) → AskedBatch alone s t es p (Err why)
+  refused why h = record { exchanges = h.exchanges; failed = h.failed; once = h.once; unfailed = tt; passed = h.passed; left = h.left; sent = h.sent; done = tt; cause = h.cause }
 
-  pub given : (lists : List (List Found)) (result : Result (Vec Row Global) FlowError) → AskedMembers s t es p p.unit.members (Ok lists)
+  pub given : (lists : List (List Found)) (result : Result (Vec Row Global) FlowError) → AskedMembers alone s t es p p.unit.members (Ok lists)
       → ((graphs : List (List Triple)) → IsSound graphs p.unit → AreReadOf graphs p p.unit.members lists → IfOk result (λ rows. IsPermutation rows.items (step (union graphs) p.unit p.rows)))
-      → IfErr result (λ e. e ≡ flow.Memory) → AskedBatch s t es p (rows_in result)
+      → IfErr result (λ e. e ≡ flow.Memory) → AskedBatch alone s t es p (rows_in result)
   given lists (Ok rows) h f m = record {
     exchanges = h.exchanges;
+    failed = h.failed;
+    once = h.once;
+    unfailed = h.unfailed;
     passed = h.passed;
     left = h.left;
     sent = h.sent;
@@ -37,6 +39,9 @@ module _ (s t : Seen) (es : List EndpointParts) (p : Parts) where
   }
   given lists (Err why) h f m = record {
     exchanges = h.exchanges;
+    failed = h.failed;
+    once = h.once;
+    unfailed = tt;
     passed = h.passed;
     left = h.left;
     sent = h.sent;
@@ -44,10 +49,13 @@ module _ (s t : Seen) (es : List EndpointParts) (p : Parts) where
     cause = subst (HasMemberCause s t es p p.unit.members h.exchanges) (sym m) tt;
   }
 
-  pub unasked : s ≡ t → AskedBatch s t es p (Err flow.Memory)
-  unasked same = subst (λ (v : Seen). AskedBatch s v es p (Err flow.Memory)) same (record {
+  pub unasked : s ≡ t → AskedBatch alone s t es p (Err flow.Memory)
+  unasked same = subst (λ (v : Seen). AskedBatch alone s v es p (Err flow.Memory)) same (record {
     exchanges = [];
-    passed = passed_none s;
+    failed = 0;
+    once = omega arith;
+    unfailed = tt;
+    passed = passed_none alone s;
     left = unit_sent es p.unit p.rows;
     sent = IsPermutation-refl (unit_sent es p.unit p.rows);
     done = tt;

@@ -1,9 +1,7 @@
 -- What an honest reply to the text of a batch tells.
-use Rattle.std.proofs.Common.{◌≡◌, ◌∙◌, ap, sym, subst, refl, ◌<◌, ◌≤◌, ltb, Bool, true, false, ◌⊎◌, inl, inr, length, List, [], ◌∷◌, ◌++◌, map, ℕ, Option, Some, None, IfSome, Ok, Err, arith, IsPermutation}
+use Rattle.std.proofs.Common.{◌≡◌, ◌∙◌, ap, sym, subst, refl, ◌≤◌, length, List, [], ◌∷◌, ◌++◌, map, ℕ, IsPermutation}
 use Rattle.std.specs.List.{flat_map}
-use Rattle.std.proofs.lemmas.List.Sorted.{IsPermutation-refl, IsPermutation-sym, IsPermutation-trans}
-use borrow.Author.Tests.{ltb-false, ltb-true}
-use Rattle.fx_terms.specs.Graphs.{IsGraph}
+use Rattle.std.proofs.lemmas.List.Sorted.{IsPermutation-sym}
 use Rattle.fx_terms.specs.declared.patterns.Pattern.{Pattern}
 use Rattle.fx_terms.specs.declared.triples.Triple.{Triple}
 use Rattle.fx_algebra.specs.Answers.{answer_alone}
@@ -14,26 +12,21 @@ use Rattle.fx_algebra.specs.declared.answers.Answer.TheVariants.{Table, Truth}
 use Rattle.fx_algebra.specs.declared.expressions.Expr.{Expr}
 use Rattle.fx_algebra.specs.declared.queries.Element.{Element, Element-F, fold-roll-Element}
 use Rattle.fx_algebra.specs.declared.queries.Element.TheVariants as element
-use Rattle.fx_algebra.specs.declared.queries.Group.{Group, fold-roll-Group, roll-Group}
+use Rattle.fx_algebra.specs.declared.queries.Group.{fold-roll-Group}
 use Rattle.fx_algebra.specs.declared.units.Unit as unit
 use Rattle.fx_grammar.specs.Accepted.{Accepted}
-use Rattle.fx_http.specs.Replies.{Replies}
 use Rattle.fx_http.specs.Requests.{IsRequest}
-use Rattle.fx_http.specs.declared.replies.ReplyError.TheVariants.{TooLong}
 use Rattle.fx_results.specs.Meanings.{SameAnswer}
 use Rattle.fx_wire.specs.Honest.{IsHonest}
-use Rattle.fx_bound.specs.Answers.{IsAnswered, IsRead, read_answer}
-use Rattle.fx_bound.specs.Batches.{batch_query, branch_elements, branch_group, check_elements}
+use Rattle.fx_bound.specs.Answers.{IsAnswered, IsRead}
+use Rattle.fx_bound.specs.Batches.{branch_elements, branch_group, check_elements}
 use Rattle.fx_bound.specs.Branches.{bound_expr, bound_pattern}
 use Rattle.fx_bound.specs.Parts.{IsBatch, Parts, places, query_of}
 use Rattle.fx_bound.specs.Reading.{all_columns, branch_rows, free_names, renamed}
 use Rattle.fx_bound.specs.Uniting.{Place}
 use Rattle.fx_bound.specs.declared.founds.Found.{Found}
 use Rattle.fx_bound.proofs.BatchLemmas.{batch_has_the_rows}
-use Rattle.fx_pool.specs.Reading.{a_batch, HasFault, HasFound, HasResults}
-use Rattle.fx_pool.specs.declared.faults.ReplyFault.{ReplyFault}
-use Rattle.fx_pool.specs.declared.faults.ReplyFault.TheVariants.{Http}
-use Rattle.fx_pool.proofs.FaultLemmas.{faultless, long_fault}
+use Rattle.fx_pool.specs.Reading.{HasFound, HasResults}
 use Rattle.fx_pool.proofs.HonestLemmas.{honest_results}
 
 -- ---- a batch has no SERVICE

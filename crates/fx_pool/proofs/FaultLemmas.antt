@@ -7,13 +7,13 @@ use Rattle.fx_bound.specs.Parts.{IsBatch, Parts}
 use Rattle.fx_bound.specs.declared.faults.BatchError.{BatchError}
 use Rattle.fx_bound.specs.declared.faults.BatchError.TheVariants as batch
 use Rattle.fx_bound.proofs.AnswerLemmas.{tells_graph}
-use Rattle.fx_http.specs.Answers.{Gives, IsOrMemory}
+use Rattle.fx_http.specs.Answers.{IsOrMemory}
 use Rattle.fx_http.specs.Replies.{Replies}
 use Rattle.fx_http.specs.declared.replies.ReplyError.{ReplyError}
 use Rattle.fx_http.specs.declared.replies.ReplyError.TheVariants as reply
 use Rattle.fx_http.proofs.ReplyLaws.{only_answer, reply_unique}
 use Rattle.fx_results.specs.Reading.{read_results}
-use Rattle.fx_pool.specs.Reading.{Carried, a_batch, HasFault, HasResults, IsBatchFault}
+use Rattle.fx_pool.specs.Reading.{a_batch, HasFault, HasResults, IsBatchFault}
 use Rattle.fx_pool.specs.declared.faults.ReplyFault.{ReplyFault}
 use Rattle.fx_pool.specs.declared.faults.ReplyFault.TheVariants.{Batch, Foreign, Http, NotTable, NotTruth, Results}
 

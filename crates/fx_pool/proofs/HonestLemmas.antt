@@ -1,5 +1,5 @@
 -- The results of an honest reply are the answer over the graph.
-use Rattle.std.proofs.Common.{◌≡◌, ◌∙◌, ap, sym, subst, refl, Ok}
+use Rattle.std.proofs.Common.{◌≡◌, ◌∙◌, ap, sym, subst, Ok}
 use Rattle.fx_algebra.specs.Answers.{answer_alone}
 use Rattle.fx_algebra.specs.declared.answers.Answer.{Answer}
 use Rattle.fx_http.proofs.ReplyLaws.{reply_unique}

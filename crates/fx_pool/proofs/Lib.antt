@@ -8,3 +8,5 @@ pub mod MemberLemmas
 pub mod MembersLemmas
 pub mod AskLemmas
 pub mod StepLemmas
+pub mod UnitsLemmas
+pub mod FlowLemmas

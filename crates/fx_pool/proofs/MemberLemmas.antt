@@ -1,17 +1,17 @@
 -- What asking one member for a batch leaves of a wire, and what it gives.
-use Rattle.std.proofs.Common.{◌≡◌, ◌∙◌, ap, sym, subst, refl, ◌+◌, ◌<◌, ◌≤◌, ltb, Bool, true, false, ◌⊎◌, inl, inr, length, List, [], ◌∷◌, ◌++◌, ℕ, Option, Some, None, IfSome, IfOk, IfErr, IsTrue, Result, Ok, Err, All, Contains, slice_get, arith, append-nil}
+use Rattle.std.proofs.Common.{◌≡◌, ◌∙◌, ap, sym, subst, refl, ◌+◌, ◌<◌, ◌≤◌, ltb, Bool, true, false, ◌⊎◌, inl, inr, length, List, [], ◌∷◌, ℕ, Option, Some, None, IfSome, IfOk, IfErr, IsTrue, Result, Ok, Err, All, Contains, slice_get, bytes_eq, ◌≢◌, arith, append-nil}
 use Rattle.std.proofs.lemmas.List.Elements.{All-from_recursion, recursion_from_All}
 use Rattle.std.proofs.lemmas.List.Sorted.{IsPermutation-refl}
+use Rattle.std.proofs.lemmas.Slice.Eq.{bytes_eq-Decides}
 use borrow.Author.Tests.{ltb-false, ltb-true}
 use Rattle.fx_terms.specs.Graphs.{IsGraph}
-use Rattle.fx_terms.specs.declared.allocation.Memory.{Memory}
 use Rattle.fx_terms.specs.declared.triples.Triple.{Triple}
 use Rattle.fx_terms.proofs.SetLemmas.{contains_from}
 use Rattle.fx_outside.specs.Endpoints.{EndpointParts}
 use Rattle.fx_algebra.specs.Printed.{printed_query}
 use Rattle.fx_algebra.specs.declared.units.Unit as unit
 use Rattle.fx_grammar.specs.Accepted.{Accepted}
-use Rattle.fx_http.specs.Requests.{IsRequest, request_of}
+use Rattle.fx_http.specs.Requests.{request_of}
 use Rattle.fx_http.specs.declared.replies.ReplyError.TheVariants.{TooLong}
 use Rattle.fx_wire.specs.Exchanges.{Exchange, Seen, exchanged}
 use Rattle.fx_wire.specs.Honest.{IsHonest}
@@ -22,10 +22,9 @@ use Rattle.fx_bound.specs.Uniting.{Place}
 use Rattle.fx_bound.specs.declared.founds.Found.{Found}
 use Rattle.fx_traffic.specs.Batches.{member_sent, text_sent, to_endpoint}
 use Rattle.fx_traffic.specs.Sent.{Sent, Sends}
-use Rattle.fx_pool.specs.Flows.{AskedMember, FoundBy, FoundIn, IsBadBatch, IsBadReplyTo, IsBatchCause, Names, Passed}
-use Rattle.fx_pool.specs.Posting.{AreHonest, IsHonestAt, IsPosted, IsSent, exchanges_of, failures_of}
-use Rattle.fx_pool.specs.Reading.{a_batch, HasFault, HasFound, HasResults}
-use Rattle.fx_pool.specs.declared.faults.ReplyFault.{ReplyFault}
+use Rattle.fx_pool.specs.Flows.{AskedMember, FoundBy, FoundIn, IsBadReplyTo, IsBatchCause, Names, Passed}
+use Rattle.fx_pool.specs.Posting.{IsHonestAt, IsPosted, IsSent, exchanges_of, failures_of}
+use Rattle.fx_pool.specs.Reading.{a_batch, HasFault, HasResults}
 use Rattle.fx_pool.specs.declared.faults.ReplyFault.TheVariants.{Http}
 use Rattle.fx_pool.specs.declared.flows.FlowError.{FlowError}
 use Rattle.fx_pool.specs.declared.flows.FlowError.TheVariants as flow
@@ -49,19 +48,31 @@ long_or_short : (n : ℕ) (b : Bool) → ltb 67108864 n ≡ b → (67108864 < n)
 long_or_short n true h = inl (ltb-true 67108864 n h)
 long_or_short n false h = inr (ltb-false 67108864 n h)
 
-module _ (es : List EndpointParts) (p : Parts) (at : ℕ) (e : EndpointParts) (found : slice_get es at ≡ Some e) (known : IsBatch p) where
+-- what is counted at one address, where others stay
+pub counted_at_most : (alone : Bool) (s t : Seen) (iri : List ℕ) (n : ℕ) → t.faults iri ≡ s.faults iri + n → (IsTrue alone → (address : List ℕ) → address ≢ iri → t.faults address ≡ s.faults address)
+    → IsTrue alone → (address : List ℕ) → t.faults address ≤ s.faults address + n
+counted_at_most alone s t iri n counted others is address = by (bytes_eq iri address) refl
+  where
+    by : (b : Bool) → bytes_eq iri address ≡ b → t.faults address ≤ s.faults address + n
+    by true e = let here : t.faults address ≡ s.faults address + n = subst (λ (a : List ℕ). t.faults a ≡ s.faults a + n) ((bytes_eq-Decides iri address).0 e) counted in omega (arith, here)
+    by false e = let there : t.faults address ≡ s.faults address = others is address (λ same. let yes : bytes_eq iri address ≡ true = (bytes_eq-Decides iri address).1 (sym same) in cc) in omega (arith, there)
+
+module _ (alone : Bool) (es : List EndpointParts) (p : Parts) (at : ℕ) (e : EndpointParts) (found : slice_get es at ≡ Some e) (known : IsBatch p) where
   member_text : (text : List ℕ) → text_of p ≡ Some text → member_sent es p.unit p.rows at ≡ record { at = e; request = request_of e text } ∷ []
   member_text text h = ap (to_endpoint p.unit p.rows) found ∙ texts_by e p.unit (places p) text h
 
   -- ---- a batch without a text
 
-  pub asked_nothing : (s : Seen) → text_of p ≡ None → AskedMember s s es p at (Ok [])
+  pub asked_nothing : (s : Seen) → text_of p ≡ None → AskedMember alone s s es p at (Ok [])
   asked_nothing s none =
       let empty : places p ≡ [] = no_places p.unit (places p) none in
       let silent : member_sent es p.unit p.rows at ≡ [] = ap (to_endpoint p.unit p.rows) found ∙ ap (text_sent e p.unit) empty in
       record {
         exchanges = [];
-        passed = record { logged = λ told. sym (append-nil s.log); honest = All-from_recursion (IsHonestAt s.graph) [] tt; same = λ address. refl; tells = refl; kept = λ address. omega arith };
+        failed = 0;
+        once = omega arith;
+        unfailed = refl;
+        passed = record { logged = λ told. sym (append-nil s.log); honest = All-from_recursion (IsHonestAt s.graph) [] tt; same = λ address. refl; tells = refl; kept = λ address. omega arith; counted = λ is address. omega arith };
         left = [];
         sent = subst (λ (v : List Sent). Sends v [] []) (sym silent) (IsPermutation-refl []);
         endpoint = e;
@@ -81,9 +92,12 @@ module _ (es : List EndpointParts) (p : Parts) (at : ℕ) (e : EndpointParts) (f
 
     -- ---- one that lacked memory
 
-    pub asked_in_vain : Passed s t [] → AskedMember s t es p at (Err flow.Memory)
+    pub asked_in_vain : Passed alone 0 s t [] → AskedMember alone s t es p at (Err flow.Memory)
     asked_in_vain passed = record {
       exchanges = [];
+      failed = 0;
+      once = omega arith;
+      unfailed = tt;
       passed = passed;
       left = wanted ∷ [];
       sent = sent_by [] (wanted ∷ []) (IsPermutation-refl (wanted ∷ []));
@@ -97,7 +111,7 @@ module _ (es : List EndpointParts) (p : Parts) (at : ℕ) (e : EndpointParts) (f
 
     -- ---- one that was posted
 
-    module _ (request bytes : List ℕ) (posts : IsSent e text request) (passed : Passed s t (exchanged e request bytes ∷ [])) where
+    module _ (request bytes : List ℕ) (posts : IsSent e text request) (passed : Passed alone 0 s t (exchanged e request bytes ∷ [])) where
       abbrev x : Exchange
       x = exchanged e request bytes
 
@@ -118,9 +132,12 @@ module _ (es : List EndpointParts) (p : Parts) (at : ℕ) (e : EndpointParts) (f
                   let results : HasResults bytes y.denotes.told = record { body = y.body; replied = (short, y.replied); read = y.denotes.read } in
                   faultless p g bytes y.denotes.told bad.why known (told_answered p g request bytes text y.denotes.told known honest posts.whole posts.short accepted results) results h.fault
 
-      replied : (result : Result (List Found) FlowError) → FoundIn p at request bytes result → AskedMember s t es p at result
+      replied : (result : Result (List Found) FlowError) → FoundIn p at request bytes result → AskedMember alone s t es p at result
       replied result h = record {
         exchanges = x ∷ [];
+        failed = 0;
+        once = omega arith;
+        unfailed = unfailed result;
         passed = passed;
         left = [];
         sent = sent_by (x ∷ []) [] (subst (λ (v : List ℕ). Sends (wanted ∷ []) [] (exchanged e v bytes ∷ [])) (sym posts.exact) (IsPermutation-refl (wanted ∷ [])));
@@ -132,6 +149,10 @@ module _ (es : List EndpointParts) (p : Parts) (at : ℕ) (e : EndpointParts) (f
         cause = cause result h;
       }
         where
+          unfailed : (r : Result (List Found) FlowError) → IfOk r (λ _. ◌≡◌ {A = ℕ} 0 0)
+          unfailed (Ok founds) = refl
+          unfailed (Err why) = tt
+
           numbered : (r : Result (List Found) FlowError) → FoundIn p at request bytes r → IfOk r (λ founds. All (λ f. Contains (numbers p) f.branch) founds)
           numbered (Ok founds) k = k.1
           numbered (Err why) k = tt
@@ -162,10 +183,13 @@ module _ (es : List EndpointParts) (p : Parts) (at : ℕ) (e : EndpointParts) (f
           cause (Err (flow.Member it)) k = absurd k
           cause (Err (flow.RequestTooLong it size)) k = absurd k
 
-    pub asked_member : (r : Posted) (result : Result (List Found) FlowError) → IsPosted e text r → Passed s t (exchanges_of e r) → t.faults e.iri ≡ s.faults e.iri + failures_of r → FoundBy p at r result → AskedMember s t es p at result
+    pub asked_member : (r : Posted) (result : Result (List Found) FlowError) → IsPosted e text r → Passed alone (failures_of r) s t (exchanges_of e r) → t.faults e.iri ≡ s.faults e.iri + failures_of r → FoundBy p at r result → AskedMember alone s t es p at result
     asked_member (posted.Replied request bytes) result posts passed counted h = replied request bytes posts passed result h
-    asked_member posted.Failed result posts passed counted h = subst (AskedMember s t es p at) (sym h) (record {
+    asked_member posted.Failed result posts passed counted h = subst (AskedMember alone s t es p at) (sym h) (record {
       exchanges = [];
+      failed = 1;
+      once = omega arith;
+      unfailed = tt;
       passed = passed;
       left = wanted ∷ [];
       sent = sent_by [] (wanted ∷ []) (IsPermutation-refl (wanted ∷ []));
@@ -176,8 +200,11 @@ module _ (es : List EndpointParts) (p : Parts) (at : ℕ) (e : EndpointParts) (f
       named = refl;
       cause = let more : t.faults e.iri ≡ s.faults e.iri + 1 = counted in omega (arith, more);
     })
-    asked_member (posted.TooLong size) result posts passed counted h = subst (AskedMember s t es p at) (sym h) (record {
+    asked_member (posted.TooLong size) result posts passed counted h = subst (AskedMember alone s t es p at) (sym h) (record {
       exchanges = [];
+      failed = 0;
+      once = omega arith;
+      unfailed = tt;
       passed = passed;
       left = wanted ∷ [];
       sent = sent_by [] (wanted ∷ []) (IsPermutation-refl (wanted ∷ []));

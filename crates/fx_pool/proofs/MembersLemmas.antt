@@ -1,6 +1,6 @@
 -- What asking members one after another leaves of a wire.
-use Rattle.std.proofs.Common.{◌≡◌, ◌∙◌, ap, sym, subst, refl, ◌+◌, ◌<◌, ◌≤◌, ℕ, zero, suc, List, [], ◌∷◌, ◌++◌, Option, Some, None, IfOk, IfErr, IsTrue, Result, Ok, Err, All, Contains, slice_get, take, drop, take-append-drop, arith, append-nil, append_assoc, inl, inr}
-use Rattle.std.specs.List.{AllByRecursion, flat_map}
+use Rattle.std.proofs.Common.{◌≡◌, ◌∙◌, ap, sym, subst, refl, ◌+◌, ◌<◌, ◌≤◌, Bool, ℕ, zero, suc, List, [], ◌∷◌, ◌++◌, Option, Some, IsTrue, Ok, Err, All, Contains, slice_get, arith, append-nil, append_assoc, inl}
+use Rattle.std.specs.List.{flat_map}
 use Rattle.std.proofs.lemmas.Grind.{flat_map-append}
 use Rattle.std.proofs.lemmas.List.Elements.{All-append, All-from_recursion}
 use Rattle.std.proofs.lemmas.List.Sorted.{IsPermutation-refl}
@@ -16,24 +16,41 @@ use Rattle.fx_traffic.specs.Batches.{member_sent}
 use Rattle.fx_traffic.specs.Sent.{Sent, Sends}
 use Rattle.fx_traffic.proofs.SentLemmas.{sent_laws}
 use Rattle.fx_wire.specs.Exchanges.{Exchange, Seen, exchanged}
-use Rattle.fx_pool.specs.Flows.{AreTold, AskedMember, AskedMembers, HasMemberCause, IsBadBatch, IsBatchCause, IsMemberCause, Names, Passed}
+use Rattle.fx_pool.specs.Flows.{AreTold, AskedMember, AskedMembers, HasMemberCause, IsBatchCause, IsMemberCause, Passed}
 use Rattle.fx_pool.specs.Posting.{AreHonest, IsHonestAt}
 use Rattle.fx_pool.specs.declared.flows.FlowError.{FlowError}
 use Rattle.fx_pool.specs.declared.flows.FlowError.TheVariants as flow
 
 -- ---- exchanges
 
-pub passed_none : (s : Seen) → Passed s s []
-passed_none s = record { logged = λ told. sym (append-nil s.log); honest = All-from_recursion (IsHonestAt s.graph) [] tt; same = λ address. refl; tells = refl; kept = λ address. omega arith }
+pub passed_none : (alone : Bool) (s : Seen) → Passed alone 0 s s []
+passed_none alone s = record {
+  logged = λ told. sym (append-nil s.log);
+  honest = All-from_recursion (IsHonestAt s.graph) [] tt;
+  same = λ address. refl;
+  tells = refl;
+  kept = λ address. omega arith;
+  counted = λ is address. omega arith;
+}
 
-pub passed_both : (s t u : Seen) (xs ys : List Exchange) → Passed s t xs → Passed t u ys → Passed s u (xs ++ ys)
-passed_both s t u xs ys h k = record {
+pub passed_both : (alone : Bool) (m n : ℕ) (s t u : Seen) (xs ys : List Exchange) → Passed alone m s t xs → Passed alone n t u ys → Passed alone (m + n) s u (xs ++ ys)
+passed_both alone m n s t u xs ys h k = record {
   logged = λ told. k.logged (subst IsTrue (sym h.tells) told) ∙ ap (λ (v : List Exchange). v ++ ys) (h.logged told) ∙ append_assoc s.log xs ys;
   honest = All-append (IsHonestAt s.graph) xs ys h.honest (subst (λ (g : List ℕ → Option (List Triple)). AreHonest g ys) (λ i address. h.same address i) k.honest);
   same = λ address. k.same address ∙ h.same address;
   tells = k.tells ∙ h.tells;
   kept = λ address. let one : s.faults address ≤ t.faults address = h.kept address in let two : t.faults address ≤ u.faults address = k.kept address in omega (arith, one, two);
+  counted = λ is address.
+      let one : t.faults address ≤ s.faults address + m = h.counted is address in
+      let two : u.faults address ≤ t.faults address + n = k.counted is address in
+      omega (arith, one, two);
 }
+
+-- exchanges without a fault, and others behind them
+pub passed_behind : (alone : Bool) (n : ℕ) (s t u : Seen) (xs ys : List Exchange) → Passed alone 0 s t xs → Passed alone n t u ys → Passed alone n s u (xs ++ ys)
+passed_behind alone n s t u xs ys h k =
+    let same : 0 + n ≡ n = omega arith in
+    subst (λ (m : ℕ). Passed alone m s u (xs ++ ys)) same (passed_both alone 0 n s t u xs ys h k)
 
 -- ---- causes
 
@@ -44,9 +61,9 @@ front_contains : (xs ys : List Exchange) (x : Exchange) → Contains xs x → Co
 front_contains xs ys x h = contains_from (xs ++ ys) x (among_left x xs ys (among_from xs x h))
 
 -- a cause that came behind other exchanges is one of all of them
-pub cause_behind : (s t u : Seen) (e : EndpointParts) (p : Parts) (xs ys : List Exchange) (why : FlowError) → Passed s t xs → IsBatchCause t u e p ys why → IsBatchCause s u e p (xs ++ ys) why
-cause_behind s t u e p xs ys (flow.Member at) h k = let low : s.faults e.iri ≤ t.faults e.iri = h.kept e.iri in let high : t.faults e.iri < u.faults e.iri = k in omega (arith, low, high)
-cause_behind s t u e p xs ys (flow.BadReply at bad) h k = record {
+pub cause_behind : (s t u : Seen) (e : EndpointParts) (p : Parts) (xs ys : List Exchange) (why : FlowError) (alone : Bool) (m : ℕ) → Passed alone m s t xs → IsBatchCause t u e p ys why → IsBatchCause s u e p (xs ++ ys) why
+cause_behind s t u e p xs ys (flow.Member at) alone m h k = let low : s.faults e.iri ≤ t.faults e.iri = h.kept e.iri in let high : t.faults e.iri < u.faults e.iri = k in omega (arith, low, high)
+cause_behind s t u e p xs ys (flow.BadReply at bad) alone m h k = record {
   of_kind = k.of_kind;
   text = k.text;
   of_batch = k.of_batch;
@@ -55,8 +72,8 @@ cause_behind s t u e p xs ys (flow.BadReply at bad) h k = record {
   fault = k.fault;
   long = λ g told. k.long g (h.same e.iri ∙ told);
 }
-cause_behind s t u e p xs ys (flow.RequestTooLong at size) h k = k
-cause_behind s t u e p xs ys flow.Memory h k = tt
+cause_behind s t u e p xs ys (flow.RequestTooLong at size) alone m h k = k
+cause_behind s t u e p xs ys flow.Memory alone m h k = tt
 
 -- ---- what members give
 
@@ -76,10 +93,13 @@ read_more graphs p [] (l ∷ lists) at founds h k = absurd h
 read_more graphs p (m ∷ members) [] at founds h k = absurd h
 read_more graphs p (m ∷ members) (l ∷ lists) at founds h k = (h.0, read_more graphs p members lists at founds h.1 k)
 
-pub asked_none : (s : Seen) (es : List EndpointParts) (p : Parts) → AskedMembers s s es p [] (Ok [])
-asked_none s es p = record {
+pub asked_none : (alone : Bool) (s : Seen) (es : List EndpointParts) (p : Parts) → AskedMembers alone s s es p [] (Ok [])
+asked_none alone s es p = record {
   exchanges = [];
-  passed = passed_none s;
+  failed = 0;
+  once = omega arith;
+  unfailed = refl;
+  passed = passed_none alone s;
   left = [];
   sent = IsPermutation-refl [];
   numbered = All-from_recursion (λ list. All (λ (f : Found). Contains (numbers p) f.branch) list) [] tt;
@@ -87,17 +107,20 @@ asked_none s es p = record {
   cause = tt;
 }
 
-module _ (s t u : Seen) (es : List EndpointParts) (p : Parts) (members : List ℕ) (lists : List (List Found)) (at : ℕ) (h : AskedMembers s t es p members (Ok lists)) where
+module _ (alone : Bool) (s t u : Seen) (es : List EndpointParts) (p : Parts) (members : List ℕ) (lists : List (List Found)) (at : ℕ) (h : AskedMembers alone s t es p members (Ok lists)) where
   both_sent : (left : List Sent) (ys : List Exchange) → Sends (member_sent es p.unit p.rows at) left ys → Sends (flat_map (member_sent es p.unit p.rows) (members ++ at ∷ [])) (h.left ++ left) (h.exchanges ++ ys)
   both_sent left ys k =
       subst (λ (v : List Sent). Sends v (h.left ++ left) (h.exchanges ++ ys))
       (sym (flat_map-append (member_sent es p.unit p.rows) members (at ∷ []) ∙ ap (λ (v : List Sent). flat_map (member_sent es p.unit p.rows) members ++ v) (append-nil (member_sent es p.unit p.rows at))))
       (sent_laws.together (flat_map (member_sent es p.unit p.rows) members) h.left (member_sent es p.unit p.rows at) left h.exchanges ys h.sent k)
 
-  pub one_more : (founds : List Found) → AskedMember t u es p at (Ok founds) → AskedMembers s u es p (members ++ at ∷ []) (Ok (lists ++ founds ∷ []))
+  pub one_more : (founds : List Found) → AskedMember alone t u es p at (Ok founds) → AskedMembers alone s u es p (members ++ at ∷ []) (Ok (lists ++ founds ∷ []))
   one_more founds k = record {
     exchanges = h.exchanges ++ k.exchanges;
-    passed = passed_both s t u h.exchanges k.exchanges h.passed k.passed;
+    failed = h.failed + k.failed;
+    once = let m : h.failed ≡ 0 = h.unfailed in let n : k.failed ≡ 0 = k.unfailed in omega (arith, m, n);
+    unfailed = let m : h.failed ≡ 0 = h.unfailed in let n : k.failed ≡ 0 = k.unfailed in omega (arith, m, n);
+    passed = passed_both alone h.failed k.failed s t u h.exchanges k.exchanges h.passed k.passed;
     left = h.left ++ k.left;
     sent = both_sent k.left k.exchanges k.sent;
     numbered = All-append (λ list. All (λ (f : Found). Contains (numbers p) f.branch) list) lists (founds ∷ []) h.numbered (All-from_recursion (λ list. All (λ (f : Found). Contains (numbers p) f.branch) list) (founds ∷ []) (k.numbered, tt));
@@ -123,23 +146,29 @@ module _ (s t u : Seen) (es : List EndpointParts) (p : Parts) (members : List �
     as_cause xs (flow.RequestTooLong it size) k = k
     as_cause xs flow.Memory k = tt
 
-    pub stopped : (why : FlowError) → AskedMember t u es p at (Err why) → AskedMembers s u es p all (Err why)
+    pub stopped : (why : FlowError) → AskedMember alone t u es p at (Err why) → AskedMembers alone s u es p all (Err why)
     stopped why k = record {
       exchanges = h.exchanges ++ k.exchanges;
-      passed = passed_both s t u h.exchanges k.exchanges h.passed k.passed;
+      failed = h.failed + k.failed;
+      once = let m : h.failed ≡ 0 = h.unfailed in let n : k.failed ≤ 1 = k.once in omega (arith, m, n);
+      unfailed = tt;
+      passed = passed_both alone h.failed k.failed s t u h.exchanges k.exchanges h.passed k.passed;
       left = (h.left ++ k.left) ++ flat_map (member_sent es p.unit p.rows) rest;
       sent = left_over (h.left ++ k.left) (h.exchanges ++ k.exchanges) (both_sent k.left k.exchanges k.sent);
       numbered = tt;
       read = tt;
       cause =
           as_cause (h.exchanges ++ k.exchanges) why
-          (record { at = at; member = its_member; endpoint = k.endpoint; found = k.found; named = k.named; cause = cause_behind s t u k.endpoint p h.exchanges k.exchanges why h.passed k.cause });
+          (record { at = at; member = its_member; endpoint = k.endpoint; found = k.found; named = k.named; cause = cause_behind s t u k.endpoint p h.exchanges k.exchanges why alone h.failed h.passed k.cause });
     }
 
-    pub lost : (founds : List Found) → AskedMember t u es p at (Ok founds) → AskedMembers s u es p all (Err flow.Memory)
+    pub lost : (founds : List Found) → AskedMember alone t u es p at (Ok founds) → AskedMembers alone s u es p all (Err flow.Memory)
     lost founds k = record {
       exchanges = h.exchanges ++ k.exchanges;
-      passed = passed_both s t u h.exchanges k.exchanges h.passed k.passed;
+      failed = h.failed + k.failed;
+      once = let m : h.failed ≡ 0 = h.unfailed in let n : k.failed ≤ 1 = k.once in omega (arith, m, n);
+      unfailed = tt;
+      passed = passed_both alone h.failed k.failed s t u h.exchanges k.exchanges h.passed k.passed;
       left = (h.left ++ k.left) ++ flat_map (member_sent es p.unit p.rows) rest;
       sent = left_over (h.left ++ k.left) (h.exchanges ++ k.exchanges) (both_sent k.left k.exchanges k.sent);
       numbered = tt;

@@ -1,34 +1,31 @@
 -- What asking for the batches of a step leaves of a wire.
-use Rattle.std.proofs.Common.{◌≡◌, ◌∙◌, ap, sym, subst, refl, ◌+◌, ◌*◌, ◌/◌, ◌<◌, ◌≤◌, ℕ, zero, suc, List, [], ◌∷◌, ◌++◌, IfOk, IfErr, Result, Ok, Err, All, Contains, IsPermutation, length, take, drop, take-append-drop, arith, append-nil, append_assoc, inl, length-append, add-mul, one-mul, div-mul-le_self, slice_range, min, take-add, length-take-le, length-drop, ◌-◌}
-use Rattle.std.specs.List.{flat_map}
+use Rattle.std.proofs.Common.{◌≡◌, ◌∙◌, ap, sym, subst, refl, Bool, ◌+◌, ◌*◌, ◌/◌, ◌<◌, ◌≤◌, ℕ, List, [], ◌∷◌, ◌++◌, Ok, Err, All, Contains, IsPermutation, length, take, drop, take-append-drop, arith, append-nil, inl, length-append, add-mul, one-mul, div-mul-le_self, slice_range, min, take-add, length-take-le, length-drop, ◌-◌}
 use Rattle.std.proofs.lemmas.Grind.{flat_map-append}
 use Rattle.std.proofs.lemmas.List.Elements.{All-append, All-from_recursion}
 use Rattle.std.proofs.lemmas.List.Sorted.{IsPermutation-append, IsPermutation-refl}
 use Rattle.std.proofs.lemmas.Nat.{le-div}
-use Rattle.fx_terms.specs.declared.triples.Triple.{Triple}
-use Rattle.fx_terms.proofs.SetLemmas.{Among, among_from, contains_from}
+use Rattle.fx_terms.proofs.SetLemmas.{contains_from}
 use Rattle.fx_algebra.proofs.MemberLemmas.{among_right}
 use Rattle.fx_outside.specs.Endpoints.{EndpointParts}
 use Rattle.fx_algebra.specs.Graphs.{union}
 use Rattle.fx_algebra.specs.Units.{row_step, step}
 use Rattle.fx_algebra.specs.declared.units.Row.{Row}
 use Rattle.fx_algebra.specs.declared.units.Unit as unit
-use Rattle.fx_spelling.specs.Units.{IsSound}
 use Rattle.fx_bound.specs.Parts.{Parts}
 use Rattle.fx_traffic.specs.Batches.{AreBatchesOf, AreCut, IsSized, batches_sent, joined, unit_sent}
 use Rattle.fx_traffic.specs.Sent.{Sent, Sends}
 use Rattle.fx_traffic.proofs.CutLemmas.{batch_laws}
 use Rattle.fx_traffic.proofs.SentLemmas.{sent_laws}
 use Rattle.fx_wire.specs.Exchanges.{Exchange, Seen}
-use Rattle.fx_pool.specs.Flows.{AreTold, AskedBatch, AskedSoFar, AskedStep, HasMemberCause, IsMemberCause, IsStepCause, Passed}
+use Rattle.fx_pool.specs.Flows.{AskedBatch, AskedSoFar, AskedStep, HasMemberCause, IsMemberCause, Passed}
 use Rattle.fx_pool.specs.declared.flows.FlowError.{FlowError}
 use Rattle.fx_pool.specs.declared.flows.FlowError.TheVariants as flow
-use Rattle.fx_pool.proofs.MembersLemmas.{cause_behind, passed_both, passed_none, same_told}
+use Rattle.fx_pool.proofs.MembersLemmas.{cause_behind, passed_behind, passed_none, same_told}
 
-pub nothing_yet : (s : Seen) (es : List EndpointParts) (u : unit.Unit) (block all : ℕ) → 0 < block → AskedSoFar s s es u block all [] []
-nothing_yet s es u block all positive = record {
+pub nothing_yet : (alone : Bool) (s : Seen) (es : List EndpointParts) (u : unit.Unit) (block all : ℕ) → 0 < block → AskedSoFar alone s s es u block all [] []
+nothing_yet alone s es u block all positive = record {
   exchanges = [];
-  passed = passed_none s;
+  passed = passed_none alone s;
   batches = [];
   cut = record { of_rows = refl; sized = All-from_recursion (IsSized block) [] tt; few = omega (arith, positive) };
   full = λ h. omega arith;
@@ -37,16 +34,16 @@ nothing_yet s es u block all positive = record {
   done = λ graphs told sound. IsPermutation-refl [];
 }
 
-member_cause_behind : (s t v : Seen) (es : List EndpointParts) (p : Parts) (members : List ℕ) (xs ys : List Exchange) (why : FlowError) → Passed s t xs → IsMemberCause t v es p members ys why → IsMemberCause s v es p members (xs ++ ys) why
-member_cause_behind s t v es p members xs ys why h k = record { at = k.at; member = k.member; endpoint = k.endpoint; found = k.found; named = k.named; cause = cause_behind s t v k.endpoint p xs ys why h k.cause }
+member_cause_behind : (s t v : Seen) (es : List EndpointParts) (p : Parts) (members : List ℕ) (xs ys : List Exchange) (why : FlowError) (alone : Bool) (m : ℕ) → Passed alone m s t xs → IsMemberCause t v es p members ys why → IsMemberCause s v es p members (xs ++ ys) why
+member_cause_behind s t v es p members xs ys why alone m h k = record { at = k.at; member = k.member; endpoint = k.endpoint; found = k.found; named = k.named; cause = cause_behind s t v k.endpoint p xs ys why alone m h k.cause }
 
-pub has_cause_behind : (s t v : Seen) (es : List EndpointParts) (p : Parts) (members : List ℕ) (xs ys : List Exchange) (why : FlowError) → Passed s t xs → HasMemberCause t v es p members ys why → HasMemberCause s v es p members (xs ++ ys) why
-has_cause_behind s t v es p members xs ys (flow.Member at) h k = member_cause_behind s t v es p members xs ys (flow.Member at) h k
-has_cause_behind s t v es p members xs ys (flow.BadReply at bad) h k = member_cause_behind s t v es p members xs ys (flow.BadReply at bad) h k
-has_cause_behind s t v es p members xs ys (flow.RequestTooLong at size) h k = member_cause_behind s t v es p members xs ys (flow.RequestTooLong at size) h k
-has_cause_behind s t v es p members xs ys flow.Memory h k = tt
+pub has_cause_behind : (s t v : Seen) (es : List EndpointParts) (p : Parts) (members : List ℕ) (xs ys : List Exchange) (why : FlowError) (alone : Bool) (m : ℕ) → Passed alone m s t xs → HasMemberCause t v es p members ys why → HasMemberCause s v es p members (xs ++ ys) why
+has_cause_behind s t v es p members xs ys (flow.Member at) alone m h k = member_cause_behind s t v es p members xs ys (flow.Member at) alone m h k
+has_cause_behind s t v es p members xs ys (flow.BadReply at bad) alone m h k = member_cause_behind s t v es p members xs ys (flow.BadReply at bad) alone m h k
+has_cause_behind s t v es p members xs ys (flow.RequestTooLong at size) alone m h k = member_cause_behind s t v es p members xs ys (flow.RequestTooLong at size) alone m h k
+has_cause_behind s t v es p members xs ys flow.Memory alone m h k = tt
 
-module _ (s t v : Seen) (es : List EndpointParts) (u : unit.Unit) (block : ℕ) (rows front chunk : List Row) (next : List Row) (h : AskedSoFar s t es u block (length rows) front next) (some : 0 < length chunk) (most : length chunk ≤ block) (below : length front < length rows) where
+module _ (alone : Bool) (s t v : Seen) (es : List EndpointParts) (u : unit.Unit) (block : ℕ) (rows front chunk : List Row) (next : List Row) (h : AskedSoFar alone s t es u block (length rows) front next) (some : 0 < length chunk) (most : length chunk ≤ block) (below : length front < length rows) where
   abbrev batches : List (List Row)
   batches = h.batches ++ chunk ∷ []
 
@@ -72,10 +69,10 @@ module _ (s t v : Seen) (es : List EndpointParts) (u : unit.Unit) (block : ℕ) 
       (sent_laws.together (batches_sent es u h.batches) h.left (unit_sent es u chunk) left h.exchanges ys h.sent k)
 
   -- one batch more, which is full or the last
-  pub batch_more : (more : List Row) → (length (front ++ chunk) < length rows → length chunk ≡ block) → AskedBatch t v es (record { unit = u; rows = chunk }) (Ok more) → AskedSoFar s v es u block (length rows) (front ++ chunk) (next ++ more)
+  pub batch_more : (more : List Row) → (length (front ++ chunk) < length rows → length chunk ≡ block) → AskedBatch alone t v es (record { unit = u; rows = chunk }) (Ok more) → AskedSoFar alone s v es u block (length rows) (front ++ chunk) (next ++ more)
   batch_more more whole k = record {
     exchanges = h.exchanges ++ k.exchanges;
-    passed = passed_both s t v h.exchanges k.exchanges h.passed k.passed;
+    passed = subst (λ (n : ℕ). Passed alone n s v (h.exchanges ++ k.exchanges)) k.unfailed (passed_behind alone k.failed s t v h.exchanges k.exchanges h.passed k.passed);
     batches = batches;
     cut = cut_more;
     full = λ less. let long : length (front ++ chunk) ≡ length front + length chunk = length-append front chunk in let same : length chunk ≡ block = whole less in omega (arith, count, long, same);
@@ -104,22 +101,28 @@ module _ (s t v : Seen) (es : List EndpointParts) (u : unit.Unit) (block : ℕ) 
     its_batch : Contains batches chunk
     its_batch = contains_from batches chunk (among_right chunk h.batches (chunk ∷ []) (inl refl))
 
-    pub step_stopped : (why : FlowError) → AskedBatch t v es (record { unit = u; rows = chunk }) (Err why) → AskedStep s v es u block rows (Err why)
+    pub step_stopped : (why : FlowError) → AskedBatch alone t v es (record { unit = u; rows = chunk }) (Err why) → AskedStep alone s v es u block rows (Err why)
     step_stopped why k = record {
       exchanges = h.exchanges ++ k.exchanges;
-      passed = passed_both s t v h.exchanges k.exchanges h.passed k.passed;
+      failed = k.failed;
+      once = k.once;
+      unfailed = tt;
+      passed = passed_behind alone k.failed s t v h.exchanges k.exchanges h.passed k.passed;
       batches = batches;
       cut = of_some;
       left = h.left ++ k.left;
       sent = both_sent k.left k.exchanges k.sent;
       done = tt;
-      cause = record { batch = chunk; among = its_batch; cause = has_cause_behind s t v es (record { unit = u; rows = chunk }) u.members h.exchanges k.exchanges why h.passed k.cause };
+      cause = record { batch = chunk; among = its_batch; cause = has_cause_behind s t v es (record { unit = u; rows = chunk }) u.members h.exchanges k.exchanges why alone 0 h.passed k.cause };
     }
 
-    pub step_lost : (more : List Row) → AskedBatch t v es (record { unit = u; rows = chunk }) (Ok more) → AskedStep s v es u block rows (Err flow.Memory)
+    pub step_lost : (more : List Row) → AskedBatch alone t v es (record { unit = u; rows = chunk }) (Ok more) → AskedStep alone s v es u block rows (Err flow.Memory)
     step_lost more k = record {
       exchanges = h.exchanges ++ k.exchanges;
-      passed = passed_both s t v h.exchanges k.exchanges h.passed k.passed;
+      failed = k.failed;
+      once = k.once;
+      unfailed = tt;
+      passed = passed_behind alone k.failed s t v h.exchanges k.exchanges h.passed k.passed;
       batches = batches;
       cut = of_some;
       left = h.left ++ k.left;
@@ -129,9 +132,12 @@ module _ (s t v : Seen) (es : List EndpointParts) (u : unit.Unit) (block : ℕ) 
     }
 
 -- all rows were asked for
-pub step_done : (s t : Seen) (es : List EndpointParts) (u : unit.Unit) (block : ℕ) (rows next : List Row) → 0 < block → AskedSoFar s t es u block (length rows) rows next → AskedStep s t es u block rows (Ok next)
-step_done s t es u block rows next positive h = record {
+pub step_done : (alone : Bool) (s t : Seen) (es : List EndpointParts) (u : unit.Unit) (block : ℕ) (rows next : List Row) → 0 < block → AskedSoFar alone s t es u block (length rows) rows next → AskedStep alone s t es u block rows (Ok next)
+step_done alone s t es u block rows next positive h = record {
   exchanges = h.exchanges;
+  failed = 0;
+  once = omega arith;
+  unfailed = refl;
   passed = h.passed;
   batches = h.batches;
   cut = batch_laws.cut rows block h.batches positive h.cut;

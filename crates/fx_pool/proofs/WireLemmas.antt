@@ -1,22 +1,22 @@
 -- What jobs over the first of several wires leave of all of them.
-use Rattle.std.proofs.Common.{◌≡◌, ◌∙◌, ap, sym, subst, refl, ℕ, ◌+◌, ◌<◌, ◌≤◌, Bool, List, [], ◌∷◌, ◌++◌, map, Option, Some, None, IfSome, IsTrue, All, length, get_or, slice_set, arith, append-nil}
+use Rattle.std.proofs.Common.{◌≡◌, ◌∙◌, sym, subst, refl, ℕ, ◌+◌, ◌<◌, ◌≤◌, Bool, List, [], ◌∷◌, map, Option, Some, None, IfSome, IsTrue, length, get_or, slice_set, arith, append-nil}
 use Rattle.std.specs.List.{AllByRecursion}
 use Rattle.std.proofs.lemmas.List.Elements.{All-from_recursion, recursion_from_All}
 use Rattle.std.proofs.lemmas.List.Sums.{sum_by-cons}
 use Rattle.fx_terms.specs.Graphs.{IsGraph}
 use Rattle.fx_terms.specs.declared.triples.Triple.{Triple}
 use Rattle.fx_outside.specs.Endpoints.{EndpointParts}
-use Rattle.fx_traffic.specs.Gains.{AreAfter, HaveGained, Tell, faults_at}
+use Rattle.fx_traffic.specs.Gains.{AreAfter, faults_at}
 use Rattle.fx_traffic.proofs.GainLemmas.{gain_laws}
-use Rattle.fx_wire.specs.Exchanges.{Exchange, IsAfter, Seen}
+use Rattle.fx_wire.specs.Exchanges.{Exchange, Seen}
 use Rattle.fx_wire.specs.Honest.{IsHonest}
 use Rattle.fx_pool.specs.Jobs.{failures_at}
-use Rattle.fx_pool.specs.Posting.{AreHonest, IsHonestAt}
+use Rattle.fx_pool.specs.Posting.{IsHonestAt}
 use Rattle.fx_pool.specs.Runs.{IsHonestOver, WireDid, WiresDid, jobs_at}
 use Rattle.fx_pool.specs.declared.jobs.Job.{Job}
 use Rattle.fx_pool.specs.declared.jobs.JobReply.{JobReply}
 
-after_itself : (wires : List Seen) → AreAfter wires wires
+pub after_itself : (wires : List Seen) → AreAfter wires wires
 after_itself [] = tt
 after_itself (w ∷ wires) = (record { logged = λ told. ([], sym (append-nil w.log)); same = λ address. refl; kept = λ address. omega arith }, after_itself wires)
 
@@ -25,7 +25,7 @@ honest_at : (w : Seen) (x : Exchange) (graph : List Triple) (o : Option (List Tr
 honest_at w x graph o e told h =
     subst (λ (v : Option (List Triple)). IfSome v (λ g. IsGraph g × (length x.reply ≤ 67108864 → IsHonest g x.request x.reply))) (e ∙ told) h
 
-honest_over : (w : Seen) (others : List Seen) (xs : List Exchange) → AllByRecursion (IsHonestAt w.graph) xs → AllByRecursion (IsHonestOver (w ∷ others)) xs
+pub honest_over : (w : Seen) (others : List Seen) (xs : List Exchange) → AllByRecursion (IsHonestAt w.graph) xs → AllByRecursion (IsHonestOver (w ∷ others)) xs
 honest_over w others [] h = tt
 honest_over w others (x ∷ xs) h =
     (λ graph told. honest_at w x graph (w.graph x.at.iri) refl (recursion_from_All (λ (s : Seen). s.graph x.at.iri ≡ Some graph) (w ∷ others) told).0 h.0, honest_over w others xs h.1)

@@ -6,18 +6,17 @@ use Rattle.std.specs.declared.vec.Vec.{Vec}
 use Rattle.fx_terms.specs.declared.triples.Triple.{Triple}
 use Rattle.fx_outside.specs.Endpoints.{EndpointParts}
 use Rattle.fx_algebra.specs.Graphs.{union}
-use Rattle.fx_algebra.specs.Printed.{printed_query}
-use Rattle.fx_algebra.specs.Units.{graph_of, step}
+use Rattle.fx_algebra.specs.Units.{step}
 use Rattle.fx_algebra.specs.declared.units.Row.{Row}
 use Rattle.fx_algebra.specs.declared.units.Unit as unit
 use Rattle.fx_spelling.specs.Units.{IsSound}
-use Rattle.fx_http.specs.Replies.{Replies}
 use Rattle.fx_http.specs.Requests.{request_of}
 use Rattle.fx_http.specs.declared.replies.ReplyError.TheVariants.{TooLong}
 use Rattle.fx_bound.specs.Answers.{AreReadOf, IsRead, numbers}
-use Rattle.fx_bound.specs.Parts.{Parts, query_of, text_of}
+use Rattle.fx_bound.specs.Parts.{Parts, text_of}
 use Rattle.fx_bound.specs.declared.founds.Found.{Found}
-use Rattle.fx_traffic.specs.Batches.{AreBatchesOf, AreCut, batches_sent, member_sent, unit_sent}
+use Rattle.fx_traffic.specs.Batches.{AreBatchesOf, AreCut, IsRunSent, batches_sent, member_sent, unit_sent}
+use Rattle.fx_steps.specs.Steps.{stepped}
 use Rattle.fx_traffic.specs.Sent.{Sent, Sends}
 use Rattle.fx_wire.specs.Exchanges.{Exchange, Seen, exchanged}
 use Rattle.fx_pool.specs.Posting.{AreHonest}
@@ -32,13 +31,15 @@ use Rattle.fx_pool.specs.declared.posting.Posted.TheVariants as posted
 
 -- ---- exchanges on a wire
 
--- a wire went through these exchanges, which are honest where graphs are told
-pub record Passed (before after : Seen) (xs : List Exchange) : Type 0 where
+-- A wire went through these exchanges, which are honest where graphs are told; beside them so many failed, and where it counts each address
+-- alone no more is counted anywhere.
+pub record Passed (alone : Bool) (failed : ℕ) (before after : Seen) (xs : List Exchange) : Type 0 where
   pub logged : IsTrue before.tells_log → after.log ≡ before.log ++ xs
   pub honest : AreHonest before.graph xs
   pub same : (address : List ℕ) → after.graph address ≡ before.graph address
   pub tells : after.tells_log ≡ before.tells_log
   pub kept : (address : List ℕ) → before.faults address ≤ after.faults address
+  pub counted : IsTrue alone → (address : List ℕ) → after.faults address ≤ before.faults address + failed
 
 -- the graph of each endpoint is told
 abbrev pub AreTold : (List ℕ → Option (List Triple)) → List EndpointParts → List (List Triple) → Type 0
@@ -51,14 +52,14 @@ AreTold graph (e ∷ es) (g ∷ gs) = (graph e.iri ≡ Some g) × AreTold graph 
 
 -- a reply to the text of a batch has this first fault, and is the reply of one of the exchanges; where the graph is told, the fault
 -- is that the reply is too long
-pub record IsBadBatch (graph : List ℕ → Option (List Triple)) (e : EndpointParts) (p : Parts) (xs : List Exchange) (bad : BadReply) : Type 0 where
+pub record IsBadBatch (tells : List Triple → Type 0) (e : EndpointParts) (p : Parts) (xs : List Exchange) (bad : BadReply) : Type 0 where
   pub of_kind : bad.kind ≡ kind.Batch
   pub text : List ℕ
   pub of_batch : text_of p ≡ Some text
   pub posts : bad.request ≡ request_of e text
   pub exchanged_so : Contains xs (exchanged e bad.request bad.reply)
   pub fault : HasFault (a_batch p) bad.reply bad.why
-  pub long : (g : List Triple) → graph e.iri ≡ Some g → (bad.why ≡ Http TooLong) × (67108864 < length bad.reply)
+  pub long : (g : List Triple) → tells g → (bad.why ≡ Http TooLong) × (67108864 < length bad.reply)
 
 -- the text of a batch is longer than one may be
 pub record IsLongBatch (p : Parts) (size : ℕ) : Type 0 where
@@ -67,12 +68,15 @@ pub record IsLongBatch (p : Parts) (size : ℕ) : Type 0 where
   pub long : 67108864 < size
   pub size_is : size ≡ length text
 
--- why a batch has no rows from the endpoint of a number
+-- why a batch has no rows from an endpoint, by whether its faults rose and which graph is told of it
+abbrev pub IsCause : Type 0 → (List Triple → Type 0) → EndpointParts → Parts → List Exchange → FlowError → Type 0
+IsCause rose tells e p xs (flow.Member at) = rose
+IsCause rose tells e p xs (flow.BadReply at bad) = IsBadBatch tells e p xs bad
+IsCause rose tells e p xs (flow.RequestTooLong at size) = IsLongBatch p size
+IsCause rose tells e p xs flow.Memory = Unit {0}
+
 abbrev pub IsBatchCause : Seen → Seen → EndpointParts → Parts → List Exchange → FlowError → Type 0
-IsBatchCause before after e p xs (flow.Member at) = before.faults e.iri < after.faults e.iri
-IsBatchCause before after e p xs (flow.BadReply at bad) = IsBadBatch before.graph e p xs bad
-IsBatchCause before after e p xs (flow.RequestTooLong at size) = IsLongBatch p size
-IsBatchCause before after e p xs flow.Memory = Unit {0}
+IsBatchCause before after e p xs why = IsCause (before.faults e.iri < after.faults e.iri) (λ g. before.graph e.iri ≡ Some g) e p xs why
 
 -- the reply answers this request of a batch, and has this first fault
 pub record IsBadReplyTo (p : Parts) (request bytes : List ℕ) (bad : BadReply) : Type 0 where
@@ -106,9 +110,12 @@ FoundBy p at (posted.TooLong size) result = result ≡ Err (flow.RequestTooLong 
 
 -- A member was asked for a batch: its text was sent once at most, where it has one; what is found is what is read of an answer over its
 -- graph, where that is told.
-pub record AskedMember (before after : Seen) (endpoints : List EndpointParts) (p : Parts) (at : ℕ) (result : Result (List Found) FlowError) : Type 0 where
+pub record AskedMember (alone : Bool) (before after : Seen) (endpoints : List EndpointParts) (p : Parts) (at : ℕ) (result : Result (List Found) FlowError) : Type 0 where
   pub exchanges : List Exchange
-  pub passed : Passed before after exchanges
+  pub failed : ℕ
+  pub once : failed ≤ 1
+  pub unfailed : IfOk result (λ _. failed ≡ 0)
+  pub passed : Passed alone failed before after exchanges
   pub left : List Sent
   pub sent : Sends (member_sent endpoints p.unit p.rows at) left exchanges
   pub endpoint : EndpointParts
@@ -135,9 +142,12 @@ HasMemberCause before after endpoints p members xs flow.Memory = Unit {0}
 HasMemberCause before after endpoints p members xs e = IsMemberCause before after endpoints p members xs e
 
 -- members were asked for a batch, one after another
-pub record AskedMembers (before after : Seen) (endpoints : List EndpointParts) (p : Parts) (members : List ℕ) (result : Result (List (List Found)) FlowError) : Type 0 where
+pub record AskedMembers (alone : Bool) (before after : Seen) (endpoints : List EndpointParts) (p : Parts) (members : List ℕ) (result : Result (List (List Found)) FlowError) : Type 0 where
   pub exchanges : List Exchange
-  pub passed : Passed before after exchanges
+  pub failed : ℕ
+  pub once : failed ≤ 1
+  pub unfailed : IfOk result (λ _. failed ≡ 0)
+  pub passed : Passed alone failed before after exchanges
   pub left : List Sent
   pub sent : Sends (flat_map (member_sent endpoints p.unit p.rows) members) left exchanges
   pub numbered : IfOk result (λ lists. All (λ list. All (λ f. Contains (numbers p) f.branch) list) lists)
@@ -152,9 +162,12 @@ lists_in (Err e) = Err e
 -- ---- a batch
 
 -- the members of a unit were asked for a batch: the rows are what the unit makes of it, where graphs are told and the unit is sound
-pub record AskedBatch (before after : Seen) (endpoints : List EndpointParts) (p : Parts) (result : Result (List Row) FlowError) : Type 0 where
+pub record AskedBatch (alone : Bool) (before after : Seen) (endpoints : List EndpointParts) (p : Parts) (result : Result (List Row) FlowError) : Type 0 where
   pub exchanges : List Exchange
-  pub passed : Passed before after exchanges
+  pub failed : ℕ
+  pub once : failed ≤ 1
+  pub unfailed : IfOk result (λ _. failed ≡ 0)
+  pub passed : Passed alone failed before after exchanges
   pub left : List Sent
   pub sent : Sends (unit_sent endpoints p.unit p.rows) left exchanges
   pub done : IfOk result (λ rows. (graphs : List (List Triple)) → AreTold before.graph endpoints graphs → IsSound graphs p.unit → IsPermutation rows (step (union graphs) p.unit p.rows))
@@ -174,9 +187,12 @@ pub record IsStepCause (before after : Seen) (endpoints : List EndpointParts) (u
 
 -- A step was asked for in batches of the rows that enter it: its rows are what the unit makes of these, where graphs are told and the
 -- unit is sound.
-pub record AskedStep (before after : Seen) (endpoints : List EndpointParts) (u : unit.Unit) (block : ℕ) (rows : List Row) (result : Result (List Row) FlowError) : Type 0 where
+pub record AskedStep (alone : Bool) (before after : Seen) (endpoints : List EndpointParts) (u : unit.Unit) (block : ℕ) (rows : List Row) (result : Result (List Row) FlowError) : Type 0 where
   pub exchanges : List Exchange
-  pub passed : Passed before after exchanges
+  pub failed : ℕ
+  pub once : failed ≤ 1
+  pub unfailed : IfOk result (λ _. failed ≡ 0)
+  pub passed : Passed alone failed before after exchanges
   pub batches : List (List Row)
   pub cut : AreBatchesOf rows block (1 + length rows / block) batches
   pub left : List Sent
@@ -185,12 +201,53 @@ pub record AskedStep (before after : Seen) (endpoints : List EndpointParts) (u :
   pub cause : IfErr result (IsStepCause before after endpoints u batches exchanges)
 
 -- what was asked so far: all of the first rows, in as few batches as their number allows, which are full where more rows follow
-pub record AskedSoFar (before after : Seen) (endpoints : List EndpointParts) (u : unit.Unit) (block all : ℕ) (rows next : List Row) : Type 0 where
+pub record AskedSoFar (alone : Bool) (before after : Seen) (endpoints : List EndpointParts) (u : unit.Unit) (block all : ℕ) (rows next : List Row) : Type 0 where
   pub exchanges : List Exchange
-  pub passed : Passed before after exchanges
+  pub passed : Passed alone 0 before after exchanges
   pub batches : List (List Row)
   pub cut : AreCut rows block batches
   pub full : length rows < all → length batches * block ≡ length rows
   pub left : List Sent
   pub sent : Sends (batches_sent endpoints u batches) left exchanges
   pub done : (graphs : List (List Triple)) → AreTold before.graph endpoints graphs → IsSound graphs u → IsPermutation next (step (union graphs) u rows)
+
+-- ---- the units of a run
+
+-- why a run ends: the cause at a batch of one of its units, whose texts are wanted
+pub record IsRunCause (before after : Seen) (endpoints : List EndpointParts) (us : List unit.Unit) (wanted : List Sent) (xs : List Exchange) (e : FlowError) : Type 0 where
+  pub unit : unit.Unit
+  pub of_run : Contains us unit
+  pub batch : List Row
+  pub allowed : (x : Sent) → Contains (unit_sent endpoints unit batch) x → Contains wanted x
+  pub cause : HasMemberCause before after endpoints (record { unit = unit; rows = batch }) unit.members xs e
+
+-- The units of a run were asked for, one after another, from these rows on.
+pub record AskedUnits (alone : Bool) (before after : Seen) (endpoints : List EndpointParts) (us : List unit.Unit) (block : ℕ) (rows : List Row) (result : Result (List Row) FlowError) : Type 0 where
+  pub exchanges : List Exchange
+  pub failed : ℕ
+  pub once : failed ≤ 1
+  pub unfailed : IfOk result (λ _. failed ≡ 0)
+  pub passed : Passed alone failed before after exchanges
+  pub wanted : List Sent
+  pub left : List Sent
+  pub sent : Sends wanted left exchanges
+  pub of_run : (graphs : List (List Triple)) → AreTold before.graph endpoints graphs → All (IsSound graphs) us → IsRunSent endpoints (union graphs) block 1 us rows wanted
+  pub done : IfOk result (λ next. (graphs : List (List Triple)) → AreTold before.graph endpoints graphs → All (IsSound graphs) us → IsPermutation next (stepped (union graphs) us rows))
+  pub cause : IfErr result (IsRunCause before after endpoints us wanted exchanges)
+
+-- the rows that enter a unit, as the definitions have them, and what is left to be sent and to be joined from there
+pub record IsOnTheWay (endpoints : List EndpointParts) (graph : List Triple) (us behind : List unit.Unit) (block : ℕ) (rows next : List Row) (wanted : List Sent) : Type 0 where
+  pub defined : List Row
+  pub same : IsPermutation next defined
+  pub most : ℕ
+  pub one : 1 ≤ most
+  pub goes_on : (rest : List Sent) → IsRunSent endpoints graph block most behind defined rest → IsRunSent endpoints graph block 1 us rows (wanted ++ rest)
+  pub comes_out : stepped graph behind defined ≡ stepped graph us rows
+
+pub record AskedUnitsSoFar (alone : Bool) (before after : Seen) (endpoints : List EndpointParts) (us behind : List unit.Unit) (block : ℕ) (rows next : List Row) : Type 0 where
+  pub exchanges : List Exchange
+  pub passed : Passed alone 0 before after exchanges
+  pub wanted : List Sent
+  pub left : List Sent
+  pub sent : Sends wanted left exchanges
+  pub on_the_way : (graphs : List (List Triple)) → AreTold before.graph endpoints graphs → All (IsSound graphs) us → IsOnTheWay endpoints (union graphs) us behind block rows next wanted

@@ -5,3 +5,4 @@ pub mod Runs
 pub mod Telling
 pub mod Laws
 pub mod Flows
+pub mod RunFlows

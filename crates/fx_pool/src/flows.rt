@@ -1,5 +1,5 @@
 //! The units of a run, asked for in batches.
-ghost use Rattle.std.specs.Prelude.{◌≡◌, ◌<◌, ◌≤◌, All, Contains, IfErr, IfOk, IsPermutation, List, true, length};
+ghost use Rattle.std.specs.Prelude.{◌≡◌, ◌<◌, ◌≤◌, All, Contains, IfErr, IfOk, IsPermutation, IsTrue, List, [], true, length, map};
 ghost use Rattle.fx_terms.specs.declared.triples.Triple.{Triple as TripleParts};
 ghost use Rattle.fx_algebra.specs.Graphs.{union};
 ghost use Rattle.fx_algebra.specs.Units.{step};
@@ -8,14 +8,16 @@ ghost use Rattle.fx_bound.specs.Answers.{AreReadOf, numbers};
 ghost use Rattle.fx_bound.specs.Texts.{IsSpelled};
 ghost use Rattle.fx_outside.specs.Endpoints.{is_sendable};
 ghost use Rattle.fx_wire.specs.Exchanges.{seen};
-ghost use Rattle.fx_pool.specs.Flows.{AskedBatch, AskedMember, AskedMembers, AskedStep, lists_in, rows_in};
+ghost use Rattle.fx_pool.specs.Flows.{AskedBatch, AskedMember, AskedMembers, AskedStep, AskedUnits, lists_in, rows_in};
 ghost use Rattle.fx_pool.specs.Flows as spec;
+ghost use Rattle.fx_pool.specs.RunFlows.{RunFlowed};
+ghost use Rattle.fx_steps.specs.Steps.{numbered};
 
 use crate::faults::ReadError;
 use crate::jobs::{BadReply, JobKind};
 use crate::posting::{Posted, post};
 use crate::reading::read_found;
-use fx_algebra::{Row, Unit};
+use fx_algebra::{Row, Solution, Unit};
 use fx_bound::{Batch, Found, batch_text, unite};
 use fx_outside::Endpoint;
 use fx_terms::{Items, Memory};
@@ -35,6 +37,96 @@ pub enum FlowError {
     Memory,
 }
 
+/// The rows behind the units of a run that begins with these solutions, numbered from 0, asked for over wires in batches of `block` rows at
+/// most. Today the first wire does all of it, unit after unit, batch after batch, member after member.
+///
+/// Where the wires tell the graphs of all endpoints, and each unit is sound over these, the rows are those of the steps over their union, in
+/// some order: each merges a solution under its number with what the units' patterns have there. Where wires tell their logs, they gained texts
+/// of batches of the rows that enter each unit, and no batch is sent to a member twice. What ends a run early is the first of these:
+/// `Member`, an exchange with the endpoint failed, which its wire counted as a fault at its address; `BadReply`, with the first fault of what was
+/// replied; `RequestTooLong`, a text has more than 67,108,864 bytes, and wasn't sent; `Memory`.
+pub fn run_flow<W: Wire + Send>(
+    alloc: Global,
+    endpoints: &[Endpoint],
+    units: &[Unit],
+    rows: &[Solution],
+    block: u32,
+    wires: &mut [W],
+) -> Result<Vec<Row>, FlowError>
+    requires wired { (0 < length wires.old) × (length wires.old ≤ 16) }
+    requires sendable { All (λ e. is_sendable e ≡ true) endpoints.now }
+    requires some { 0 < length units.now }
+    requires fit { All IsFit units.now }
+    requires spelled { All IsSpelled units.now }
+    requires block { (0 < block) × (block ≤ 64) }
+    requires within { All (λ u. All (λ at. at < length endpoints.now) u.members) units.now }
+    ensures { RunFlowed W.tells_log W.counts_alone (map (seen W.tells_log W.log W.graph W.faults) wires.old) (map (seen W.tells_log W.log W.graph W.faults) wires.new) endpoints.now units.now block (numbered 0 rows.now) (rows_in result) }
+{
+    match number(alloc, rows) {
+        Err(Memory) => Err(FlowError::Memory),
+        Ok(first) => ask_units(
+            alloc,
+            &mut wires[0],
+            endpoints,
+            units,
+            first,
+            block as usize,
+        ),
+    }
+}
+
+// Solutions as rows, numbered from 0.
+fn number(alloc: Global, solutions: &[Solution]) -> Result<Vec<Row>, Memory>
+    ensures { IfOk result (λ rows. rows.items ≡ numbered 0 solutions.now) }
+{
+    let mut rows = Vec::new(alloc);
+    for solution in solutions {
+        let row = Row {
+            origin: rows.len() as u64,
+            solution: solution.copy(alloc)?,
+        };
+        if rows.push(row).is_err() {
+            return Err(Memory);
+        }
+    }
+    Ok(rows)
+}
+
+// The rows behind units, asked for one after another, from these rows on.
+fn ask_units<W: Wire>(
+    alloc: Global,
+    wire: &mut W,
+    endpoints: &[Endpoint],
+    units: &[Unit],
+    first: Vec<Row>,
+    block: usize,
+) -> Result<Vec<Row>, FlowError>
+    requires sendable { All (λ e. is_sendable e ≡ true) endpoints.now }
+    requires fit { All IsFit units.now }
+    requires spelled { All IsSpelled units.now }
+    requires block { (0 < block) × (block ≤ 64) }
+    requires within { All (λ u. All (λ at. at < length endpoints.now) u.members) units.now }
+    ensures { AskedUnits W.counts_alone (seen W.tells_log W.log W.graph W.faults wire.old) (seen W.tells_log W.log W.graph W.faults wire.new) endpoints.now units.now block first.items (rows_in result) }
+{
+    let mut rows = first;
+    for unit in units {
+        if is_none(rows.as_slice()) {
+            return Ok(rows);
+        }
+        match ask_step(alloc, wire, endpoints, unit, rows.as_slice(), block) {
+            Err(error) => return Err(error),
+            Ok(next) => rows = next,
+        }
+    }
+    Ok(rows)
+}
+
+fn is_none(rows: &[Row]) -> bool
+    ensures { IsTrue result → rows.now ≡ [] }
+{
+    rows.is_empty()
+}
+
 // What the members of a unit have for rows, asked for in batches of `block` rows at most.
 fn ask_step<W: Wire>(
     alloc: Global,
@@ -49,7 +141,7 @@ fn ask_step<W: Wire>(
     requires spelled { IsSpelled unit.now }
     requires block { (0 < block) × (block ≤ 64) }
     requires within { All (λ at. at < length endpoints.now) unit.now.members }
-    ensures { AskedStep (seen W.tells_log W.log W.graph W.faults wire.old) (seen W.tells_log W.log W.graph W.faults wire.new) endpoints.now unit.now block rows.now (rows_in result) }
+    ensures { AskedStep W.counts_alone (seen W.tells_log W.log W.graph W.faults wire.old) (seen W.tells_log W.log W.graph W.faults wire.new) endpoints.now unit.now block rows.now (rows_in result) }
 {
     let mut next = Vec::new(alloc);
     let mut start = 0;
@@ -81,7 +173,7 @@ fn ask_batch<W: Wire>(
     requires spelled { IsSpelled unit.now }
     requires few { length rows.now ≤ 64 }
     requires within { All (λ at. at < length endpoints.now) unit.now.members }
-    ensures { AskedBatch (seen W.tells_log W.log W.graph W.faults wire.old) (seen W.tells_log W.log W.graph W.faults wire.new) endpoints.now (record { unit = unit.now; rows = rows.now }) (rows_in result) }
+    ensures { AskedBatch W.counts_alone (seen W.tells_log W.log W.graph W.faults wire.old) (seen W.tells_log W.log W.graph W.faults wire.new) endpoints.now (record { unit = unit.now; rows = rows.now }) (rows_in result) }
 {
     match batch_text(alloc, unit, rows) {
         Err(Memory) => Err(FlowError::Memory),
@@ -114,7 +206,7 @@ fn ask_members<W: Wire>(
 ) -> Result<Vec<Items<Found>>, FlowError>
     requires sendable { All (λ e. is_sendable e ≡ true) endpoints.now }
     requires within { All (λ at. at < length endpoints.now) members.now }
-    ensures { AskedMembers (seen W.tells_log W.log W.graph W.faults wire.old) (seen W.tells_log W.log W.graph W.faults wire.new) endpoints.now batch.now members.now (lists_in result) }
+    ensures { AskedMembers W.counts_alone (seen W.tells_log W.log W.graph W.faults wire.old) (seen W.tells_log W.log W.graph W.faults wire.new) endpoints.now batch.now members.now (lists_in result) }
 {
     let mut lists = Vec::new(alloc);
     for at in members {
@@ -140,7 +232,7 @@ fn ask_member<W: Wire>(
 ) -> Result<Items<Found>, FlowError>
     requires sendable { All (λ e. is_sendable e ≡ true) endpoints.now }
     requires within { at < length endpoints.now }
-    ensures { AskedMember (seen W.tells_log W.log W.graph W.faults wire.old) (seen W.tells_log W.log W.graph W.faults wire.new) endpoints.now batch.now at result }
+    ensures { AskedMember W.counts_alone (seen W.tells_log W.log W.graph W.faults wire.old) (seen W.tells_log W.log W.graph W.faults wire.new) endpoints.now batch.now at result }
 {
     let _branches = batch.branches();
     let endpoint = &endpoints[at as usize];

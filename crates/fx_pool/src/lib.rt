@@ -10,16 +10,17 @@ mod reading;
 pub mod running;
 
 pub use faults::ReplyFault;
-pub use flows::FlowError;
+pub use flows::{FlowError, run_flow};
 use fx_terms::shareable;
 pub use jobs::{BadReply, Job, JobKind, JobReply, RequestText, Work};
 pub use running::run_jobs;
 
-/// Texts of requests and what comes of jobs may be shared between threads and sent to them.
+/// Texts of requests and what comes of jobs and runs may be shared between threads and sent to them.
 pub fn all_shareable() {
     shareable::<RequestText>();
     shareable::<JobKind>();
     shareable::<JobReply>();
     shareable::<BadReply>();
     shareable::<ReplyFault>();
+    shareable::<FlowError>();
 }

@@ -129,7 +129,7 @@ step_in_any_order graph u rows others same =
 
 -- ---- a run
 
-step_sent_any_order : (endpoints : List EndpointParts) (u : unit.Unit) (rows others : List Row) (block most more : ℕ) (wanted : List Sent) → most ≡ more → IsPermutation rows others
+pub step_sent_any_order : (endpoints : List EndpointParts) (u : unit.Unit) (rows others : List Row) (block most more : ℕ) (wanted : List Sent) → most ≡ more → IsPermutation rows others
     → IsStepSent endpoints u rows block most wanted → IsStepSent endpoints u others block more wanted
 step_sent_any_order endpoints u rows others block most more wanted same moved h = record {
   batches = h.batches;

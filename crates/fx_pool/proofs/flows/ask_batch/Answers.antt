@@ -1,4 +1,4 @@
-use Rattle.std.proofs.Common.{◌≡◌, refl, sym, subst, ℕ, List, Ok, Result, All, Contains, IfOk, IsPermutation}
+use Rattle.std.proofs.Common.{refl, sym, subst, ℕ, List, Ok, Result, All, Contains, IfOk, IsPermutation}
 use Rattle.std.specs.declared.alloc.Global.{Global}
 use Rattle.std.specs.declared.vec.Vec.{Vec}
 use Rattle.fx_terms.specs.declared.triples.Triple.{Triple}
@@ -10,15 +10,15 @@ use Rattle.fx_wire.specs.Exchanges.{seen}
 use Rattle.fx_bound.specs.Answers.{AreReadOf, numbers}
 use Rattle.fx_bound.specs.Parts.{Parts}
 use Rattle.fx_bound.specs.declared.founds.Found.{Found}
-use Rattle.fx_pool.specs.Flows.{AskedBatch, AskedMembers}
+use Rattle.fx_pool.specs.Flows.{AskedMembers}
 use Rattle.fx_pool.specs.declared.flows.FlowError.{FlowError}
-use Rattle.fx_pool.proofs.AskLemmas.{given, refused, unasked}
+use Rattle.fx_pool.proofs.AskLemmas.{given, unasked}
 use Rattle.fx_pool.proofs.flows.ask_batch.Goals as goal
 
 pub returns-in-Err : goal.returns-in-Err
 returns-in-Err g c =
     let see = seen g.W.Wire.tells_log g.W.Wire.log g.W.Wire.graph g.W.Wire.faults c.args.wire.now in
-    unasked see see c.args.endpoints.now (record { unit = c.args.unit.now; rows = c.args.rows.now }) refl
+    unasked g.W.Wire.counts_alone see see c.args.endpoints.now (record { unit = c.args.unit.now; rows = c.args.rows.now }) refl
 
 pub united-requires : goal.united-requires
 united-requires g c =
@@ -36,8 +36,8 @@ returns g c =
     let es = c.args.endpoints.now in
     let p : Parts = record { unit = c.args.unit.now; rows = c.args.rows.now } in
     let lists = c.in-Ok-ask_members.lists.items in
-    let asked : AskedMembers s t es p p.unit.members (Ok lists) =
-    subst (λ (ms : List ℕ). AskedMembers s t es p ms (Ok lists)) c.as_slice.ensures (subst (λ (b : Parts). AskedMembers s t es b c.as_slice.result.now (Ok lists)) c.in-Ok.ensures c.in-Ok-ask_members.ensures) in
+    let asked : AskedMembers g.W.Wire.counts_alone s t es p p.unit.members (Ok lists) =
+    subst (λ (ms : List ℕ). AskedMembers g.W.Wire.counts_alone s t es p ms (Ok lists)) c.as_slice.ensures (subst (λ (b : Parts). AskedMembers g.W.Wire.counts_alone s t es b c.as_slice.result.now (Ok lists)) c.in-Ok.ensures c.in-Ok-ask_members.ensures) in
     let unites : Unites c.united.result p lists =
     subst (λ (b : Parts). Unites c.united.result b lists) c.in-Ok.ensures (subst (λ (v : List (List Found)). Unites c.united.result c.in-Ok.batch v) c.as_slice-in-Ok-ask_members.ensures.value c.united.ensures.step) in
-    given s t es p lists c.united.result asked unites c.united.ensures.memory
+    given g.W.Wire.counts_alone s t es p lists c.united.result asked unites c.united.ensures.memory
