@@ -1,6 +1,6 @@
 //! Where connections come in.
-ghost use Rattle.std.specs.Prelude.{◌≡◌, ◌≤◌, ◌+◌, ◌++◌, ◌∷◌, [], Some, Bool, List, ℕ, Option, IsTrue, IsErrOf, IfOk, OnOk, OnErr};
-ghost use Rattle.fx_outside.specs.Doors.{Output, output_of, IsTaken};
+ghost use Rattle.std.specs.Prelude.{◌≡◌, ◌≤◌, ◌+◌, ◌++◌, ◌∷◌, [], Some, Bool, IsTrue, IsErrOf, IfOk, OnOk, OnErr};
+ghost use Rattle.fx_outside.specs.Doors.{DoorSeen, output_of, IsTaken};
 
 use crate::streams::{Sink, Source};
 use std::alloc::{AllocError, AllocFailed, Global};
@@ -58,17 +58,9 @@ pub trait Door {
     /// Whether doors of this type tell.
     ghost tells: { Bool };
 
-    /// The address that it was started at.
-    ghost started: { Self → Option (List ℕ) };
-
-    /// What will be read from each of the connections that are to come, in order.
-    ghost inputs: { Self → List (List ℕ) };
-
-    /// What was written to each of the connections that are finished, in order.
-    ghost outputs: { Self → List Output };
-
-    /// How many calls have failed.
-    ghost faults: { Self → ℕ };
+    /// What is known of the door: the address that it was started at, what will be read from each of the connections that are to
+    /// come, in order, what was written to each of those that are finished, in order, and how many calls have failed.
+    ghost seen: { Self → DoorSeen };
 
     /// Opens the door at an address, as `host:port`.
     ///
@@ -76,13 +68,13 @@ pub trait Door {
     /// `Memory` comes where memory runs out, or where that count stands at the end of `u64`. After either all that the door tells is
     /// as before.
     fn start(&mut self, alloc: Global, address: &str) -> Result<(), DoorError>
-        ensures started { IsTrue tells → OnOk result (started self.new ≡ Some address.now) }
-        ensures unstarted { IsTrue tells → OnErr result (started self.new ≡ started self.old) }
-        ensures inputs { IsTrue tells → inputs self.new ≡ inputs self.old }
-        ensures outputs { IsTrue tells → outputs self.new ≡ outputs self.old }
-        ensures kept { faults self.old ≤ faults self.new }
-        ensures counted { IsErrOf result DoorError.Failed → faults self.new ≡ faults self.old + 1 }
-        ensures faultless { ¬ IsErrOf result DoorError.Failed → faults self.new ≡ faults self.old };
+        ensures started { IsTrue (seen self.old).tells → OnOk result ((seen self.new).started ≡ Some address.now) }
+        ensures unstarted { IsTrue (seen self.old).tells → OnErr result ((seen self.new).started ≡ (seen self.old).started) }
+        ensures inputs { IsTrue (seen self.old).tells → (seen self.new).inputs ≡ (seen self.old).inputs }
+        ensures outputs { IsTrue (seen self.old).tells → (seen self.new).outputs ≡ (seen self.old).outputs }
+        ensures kept { (seen self.old).faults ≤ (seen self.new).faults }
+        ensures counted { IsErrOf result DoorError.Failed → (seen self.new).faults ≡ (seen self.old).faults + 1 }
+        ensures faultless { ¬ IsErrOf result DoorError.Failed → (seen self.new).faults ≡ (seen self.old).faults };
 
     /// The next connection, which has no fault yet and, where the door tells, the first of the inputs left, and holds nothing.
     ///
@@ -90,24 +82,27 @@ pub trait Door {
     /// comes where memory runs out, or where that count stands at the end of `u64`. After either all that the door tells is as before.
     fn accept(&mut self, alloc: Global) -> Result<Self::Conn, DoorError>
         ensures faultless_connection { IfOk result (λ conn. (Self.Conn.read_faults conn ≡ 0) × (Self.Conn.write_faults conn ≡ 0)) }
-        ensures taken { IsTrue tells → IfOk result (λ conn. IsTrue Self.Conn.tells_left × (IsTrue Self.Conn.tells_held × IsTaken (inputs self.old) (inputs self.new) (Self.Conn.left conn) (Self.Conn.held conn))) }
-        ensures untaken { IsTrue tells → OnErr result (inputs self.new ≡ inputs self.old) }
-        ensures started { IsTrue tells → started self.new ≡ started self.old }
-        ensures outputs { IsTrue tells → outputs self.new ≡ outputs self.old }
-        ensures kept { faults self.old ≤ faults self.new }
-        ensures counted { IsErrOf result DoorError.Failed → faults self.new ≡ faults self.old + 1 }
-        ensures faultless { ¬ IsErrOf result DoorError.Failed → faults self.new ≡ faults self.old };
+        ensures taken { IsTrue (seen self.old).tells → IfOk result (λ conn. IsTrue Self.Conn.tells_left × (IsTrue Self.Conn.tells_held × IsTaken (seen self.old).inputs (seen self.new).inputs (Self.Conn.left conn) (Self.Conn.held conn))) }
+        ensures untaken { IsTrue (seen self.old).tells → OnErr result ((seen self.new).inputs ≡ (seen self.old).inputs) }
+        ensures started { IsTrue (seen self.old).tells → (seen self.new).started ≡ (seen self.old).started }
+        ensures outputs { IsTrue (seen self.old).tells → (seen self.new).outputs ≡ (seen self.old).outputs }
+        ensures kept { (seen self.old).faults ≤ (seen self.new).faults }
+        ensures counted { IsErrOf result DoorError.Failed → (seen self.new).faults ≡ (seen self.old).faults + 1 }
+        ensures faultless { ¬ IsErrOf result DoorError.Failed → (seen self.new).faults ≡ (seen self.old).faults };
 
     /// Ends a connection. A door that tells keeps what it holds behind the other outputs, with its counts of faults.
     ///
     /// `Failed` comes where it can't be ended. It counts exactly one more fault, and no other answer changes the count. `Memory`
     /// comes where memory runs out, or where that count stands at the end of `u64`. After either all that the door tells is as before.
     fn finish(&mut self, alloc: Global, conn: Self::Conn) -> Result<(), DoorError>
-        ensures ended { IsTrue tells → OnOk result (outputs self.new ≡ outputs self.old ++ output_of (Self.Conn.held conn) (Self.Conn.read_faults conn) (Self.Conn.write_faults conn) ∷ []) }
-        ensures unended { IsTrue tells → OnErr result (outputs self.new ≡ outputs self.old) }
-        ensures started { IsTrue tells → started self.new ≡ started self.old }
-        ensures inputs { IsTrue tells → inputs self.new ≡ inputs self.old }
-        ensures kept { faults self.old ≤ faults self.new }
-        ensures counted { IsErrOf result DoorError.Failed → faults self.new ≡ faults self.old + 1 }
-        ensures faultless { ¬ IsErrOf result DoorError.Failed → faults self.new ≡ faults self.old };
+        ensures ended { IsTrue (seen self.old).tells → OnOk result ((seen self.new).outputs ≡ (seen self.old).outputs ++ output_of (Self.Conn.held conn) (Self.Conn.read_faults conn) (Self.Conn.write_faults conn) ∷ []) }
+        ensures unended { IsTrue (seen self.old).tells → OnErr result ((seen self.new).outputs ≡ (seen self.old).outputs) }
+        ensures started { IsTrue (seen self.old).tells → (seen self.new).started ≡ (seen self.old).started }
+        ensures inputs { IsTrue (seen self.old).tells → (seen self.new).inputs ≡ (seen self.old).inputs }
+        ensures kept { (seen self.old).faults ≤ (seen self.new).faults }
+        ensures counted { IsErrOf result DoorError.Failed → (seen self.new).faults ≡ (seen self.old).faults + 1 }
+        ensures faultless { ¬ IsErrOf result DoorError.Failed → (seen self.new).faults ≡ (seen self.old).faults };
+
+    /// Each door tells where doors of its type do.
+    ghost told: { (door : Self) → (seen door).tells ≡ tells };
 }

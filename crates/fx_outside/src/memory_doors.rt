@@ -124,7 +124,7 @@ impl MemoryDoor {
 }
 
 impl Door for MemoryDoor {
-    ghost use Rattle.std.specs.Prelude.{◌++◌, ◌∷◌, [], ◌⊎◌, Some, true, false, IsErrOf, OnErr, OnOk};
+    ghost use Rattle.std.specs.Prelude.{◌++◌, ◌∷◌, [], ◌⊎◌, Some, true, false, refl, IsErrOf, OnErr, OnOk};
     ghost use Rattle.fx_outside.specs.Doors.{IsTaken, output_of};
     ghost use Rattle.fx_outside.specs.MemoryDoors.{IsAfterCall, IsFreshConnection, address_in, faults_in, finished_in, inputs_in, is_failing, next_connection, outputs_in};
     ghost use Rattle.fx_outside.specs.MemoryLinks.{left_in, written_in, read_faults_of, write_faults_of};
@@ -133,13 +133,9 @@ impl Door for MemoryDoor {
 
     ghost tells = { true };
 
-    ghost started = { λ door. address_in door };
+    ghost seen = { λ door. record { tells = true; started = address_in door; inputs = inputs_in door; outputs = outputs_in door; faults = faults_in door } };
 
-    ghost inputs = { λ door. inputs_in door };
-
-    ghost outputs = { λ door. outputs_in door };
-
-    ghost faults = { λ door. faults_in door };
+    ghost told = { λ _. refl };
 
     /// Opens the door at an address.
     ///

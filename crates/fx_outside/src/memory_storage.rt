@@ -44,9 +44,7 @@ impl MemoryFiles {
 impl Files for MemoryFiles {
     ghost use Rattle.fx_outside.specs.MemoryStorage.{content_in, faults_in};
 
-    ghost content = { λ files name. content_in files name };
-
-    ghost faults = { λ files name. faults_in files name };
+    ghost seen = { λ files. record { content = content_in files; faults = faults_in files } };
 
     /// The first bytes of the file of this name: all of them where it has at most `limit` bytes, and else `limit + 1`.
     ///

@@ -1,6 +1,7 @@
 //! Files by name.
-ghost use Rattle.std.specs.Prelude.{◌≡◌, ◌≤◌, ◌+◌, ℕ, List, Option, take, IfOk, IfSome, IsErrOf, vec_len};
+ghost use Rattle.std.specs.Prelude.{◌≡◌, ◌≤◌, ◌+◌, ℕ, List, take, IfOk, IfSome, IsErrOf, vec_len};
 ghost use Rattle.fx_outside.specs.Faults.{HaveStayed, IsOneMoreAt};
+ghost use Rattle.fx_outside.specs.Storage.{FilesSeen};
 
 use std::alloc::{AllocError, AllocFailed, Global};
 
@@ -37,11 +38,8 @@ impl<T: Drop> From<AllocFailed<T>> for FileError {
 
 /// Where files are taken from by name.
 pub trait Files {
-    /// The content of a name, where it is told.
-    ghost content: { Self → List ℕ → Option (List ℕ) };
-
-    /// How many times the file of a name has failed.
-    ghost faults: { Self → List ℕ → ℕ };
+    /// What is known of the files: the content of each name, where it is told, and how often each name's file has failed.
+    ghost seen: { Self → FilesSeen };
 
     /// The first bytes of the file of this name: all of them where it has at most `limit` bytes, and else `limit + 1`,
     /// which shows that it has more.
@@ -52,9 +50,9 @@ pub trait Files {
     fn take(&mut self, alloc: Global, name: &str, limit: u64) -> Result<Vec<u8>, FileError>
         requires { limit ≤ 134217728 }
         ensures size { IfOk result (λ bytes. vec_len bytes ≤ limit + 1) }
-        ensures told { IfOk result (λ bytes. IfSome (content self.old name.now) (λ all. bytes.items ≡ take (limit + 1) all)) }
-        ensures counted { IsErrOf result FileError.Failed → IsOneMoreAt name.now (faults self.old) (faults self.new) }
-        ensures faultless { ¬ IsErrOf result FileError.Failed → HaveStayed (faults self.old) (faults self.new) }
-        ensures kept { (other : List ℕ) → faults self.old other ≤ faults self.new other }
-        ensures same { (other : List ℕ) → content self.new other ≡ content self.old other };
+        ensures told { IfOk result (λ bytes. IfSome ((seen self.old).content name.now) (λ all. bytes.items ≡ take (limit + 1) all)) }
+        ensures counted { IsErrOf result FileError.Failed → IsOneMoreAt name.now (seen self.old).faults (seen self.new).faults }
+        ensures faultless { ¬ IsErrOf result FileError.Failed → HaveStayed (seen self.old).faults (seen self.new).faults }
+        ensures kept { (other : List ℕ) → (seen self.old).faults other ≤ (seen self.new).faults other }
+        ensures same { (other : List ℕ) → (seen self.new).content other ≡ (seen self.old).content other };
 }

@@ -51,20 +51,16 @@ impl<N: Net> Listener<N> {
 }
 
 impl<N: Net> Door for Listener<N> {
-    ghost use Rattle.std.specs.Prelude.{false, None, []};
+    ghost use Rattle.std.specs.Prelude.{false, refl, None, []};
     ghost use Rattle.fx_outside.specs.SystemLinks.{read_faults_of, write_faults_of};
 
     type Conn = StdLink<N::Stream>;
 
     ghost tells = { false };
 
-    ghost started = { λ _. None };
+    ghost seen = { λ door. record { tells = false; started = None; inputs = []; outputs = []; faults = door.faults } };
 
-    ghost inputs = { λ _. [] };
-
-    ghost outputs = { λ _. [] };
-
-    ghost faults = { λ door. door.faults };
+    ghost told = { λ _. refl };
 
     /// `Failed` comes where the network fails, and is counted; no other answer is.
     fn start(&mut self, _alloc: Global, address: &str) -> Result<(), DoorError>

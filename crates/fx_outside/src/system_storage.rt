@@ -35,9 +35,7 @@ impl<R: rt::Files> Files for Folder<R> {
     ghost use Rattle.std.specs.Prelude.{None};
     ghost use Rattle.fx_outside.specs.SystemStorage.{faults_of_folder};
 
-    ghost content = { λ _ _. None };
-
-    ghost faults = { λ folder name. faults_of_folder folder name };
+    ghost seen = { λ folder. record { content = λ _. None; faults = faults_of_folder folder } };
 
     /// The first bytes of the file, as the system reads them.
     ///
