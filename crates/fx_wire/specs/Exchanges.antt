@@ -20,9 +20,6 @@ pub record Seen : Type 0 where
   pub graph : List ℕ → Option (List Triple)
   pub faults : List ℕ → ℕ
 
-abbrev pub seen : {W : Type 0} → Bool → (W → List Exchange) → (W → List ℕ → Option (List Triple)) → (W → List ℕ → ℕ) → W → Seen
-seen tells_log log graph faults wire = record { tells_log = tells_log; log = log wire; graph = graph wire; faults = faults wire }
-
 -- what exchanges leave of a wire: its log grew, where it is told, no graph changed, and no count fell
 pub record IsAfter (before after : Seen) : Type 0 where
   pub logged : IsTrue before.tells_log → (part : List Exchange) × (after.log ≡ before.log ++ part)

@@ -47,18 +47,16 @@ impl ScriptWire {
 }
 
 impl Wire for ScriptWire {
-    ghost use Rattle.std.specs.Prelude.{true, None, Some};
+    ghost use Rattle.std.specs.Prelude.{true, refl, None, Some};
     ghost use Rattle.fx_wire.specs.Scripts.{log_in, faults_in, next_front, IsAfterFault, IsAfterReply, IsUntouched};
 
     ghost tells_log = { true };
 
-    ghost log = { λ wire. log_in wire };
-
-    ghost graph = { λ _ _. None };
-
-    ghost faults = { λ wire address. faults_in wire address };
+    ghost seen = { λ wire. record { tells_log = true; log = log_in wire; graph = λ _. None; faults = faults_in wire } };
 
     ghost counts_alone = { true };
+
+    ghost told = { λ _. refl };
 
     /// The first bytes of the next reply of the endpoint's address: all of them where it has at most `limit` bytes, and else
     /// `limit + 1`.

@@ -30,18 +30,16 @@ impl<R> TcpWire<R> {
 }
 
 impl<R: Net> Wire for TcpWire<R> {
-    ghost use Rattle.std.specs.Prelude.{false, true, [], None};
+    ghost use Rattle.std.specs.Prelude.{false, true, refl, [], None};
     ghost use Rattle.fx_wire.specs.TcpWires.{faults_of_wire};
 
     ghost tells_log = { false };
 
-    ghost log = { λ _. [] };
-
-    ghost graph = { λ _ _. None };
-
-    ghost faults = { λ wire address. faults_of_wire wire address };
+    ghost seen = { λ wire. record { tells_log = false; log = []; graph = λ _. None; faults = faults_of_wire wire } };
 
     ghost counts_alone = { true };
+
+    ghost told = { λ _. refl };
 
     /// The first bytes of what comes back up to the close.
     ///

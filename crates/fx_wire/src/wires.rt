@@ -1,9 +1,8 @@
 //! What a wire promises.
-ghost use Rattle.std.specs.Prelude.{◌≡◌, ◌≢◌, ◌+◌, ◌≤◌, ◌++◌, [], ◌∷◌, Bool, List, ℕ, Option, IsTrue, IsErrOf, IfOk, IfSome, OnOk, MatchResult, length, vec_len};
+ghost use Rattle.std.specs.Prelude.{◌≡◌, ◌≢◌, ◌+◌, ◌≤◌, ◌++◌, [], ◌∷◌, Bool, List, ℕ, IsTrue, IsErrOf, IfOk, IfSome, OnOk, MatchResult, length, vec_len};
 ghost use Rattle.fx_terms.specs.Graphs.{IsGraph};
-ghost use Rattle.fx_terms.specs.declared.triples.Triple.{Triple};
 ghost use Rattle.fx_wire.specs.declared.wires.WireError.TheVariants.{Memory};
-ghost use Rattle.fx_wire.specs.Exchanges.{Exchange, exchanged};
+ghost use Rattle.fx_wire.specs.Exchanges.{Seen, exchanged};
 ghost use Rattle.fx_wire.specs.Honest.{IsHonest};
 
 use fx_outside::Endpoint;
@@ -47,14 +46,9 @@ pub trait Wire {
     /// Whether wires of this type tell their log.
     ghost tells_log: { Bool };
 
-    /// The exchanges that were answered, in order.
-    ghost log: { Self → List Exchange };
-
-    /// The graph of the endpoint at an address, where the wire tells it.
-    ghost graph: { Self → List ℕ → Option (List Triple) };
-
-    /// How often exchanges at an address have failed.
-    ghost faults: { Self → List ℕ → ℕ };
+    /// What is known of the wire: whether it tells its log, the exchanges that were answered, in order, the graph of the endpoint
+    /// at each address, where the wire tells it, and how often exchanges at each address have failed.
+    ghost seen: { Self → Seen };
 
     /// Whether wires of this type count each address alone, so that an exchange counts nothing at another address than its own.
     ghost counts_alone: { Bool };
@@ -74,13 +68,16 @@ pub trait Wire {
     ) -> Result<Vec<u8>, WireError>
         requires { limit ≤ 134217728 }
         ensures size { IfOk result (λ reply. vec_len reply ≤ limit + 1) }
-        ensures logged { IsTrue tells_log → MatchResult result
-            (λ reply. log self.new ≡ log self.old ++ exchanged at.now request.now reply.items ∷ [])
-            (λ _. log self.new ≡ log self.old) }
-        ensures honest { IfOk result (λ reply. IfSome (graph self.old at.now.iri) (λ told. IsGraph told × (length reply.items ≤ limit → IsHonest told request.now reply.items))) }
-        ensures same { (address : List ℕ) → graph self.new address ≡ graph self.old address }
-        ensures kept { (address : List ℕ) → faults self.old address ≤ faults self.new address }
-        ensures counted { IsErrOf result WireError.Failed → faults self.new at.now.iri ≡ faults self.old at.now.iri + 1 }
-        ensures faultless { ¬ IsErrOf result WireError.Failed → faults self.new at.now.iri ≡ faults self.old at.now.iri }
-        ensures others { IsTrue counts_alone → (address : List ℕ) → address ≢ at.now.iri → faults self.new address ≡ faults self.old address };
+        ensures logged { IsTrue (seen self.old).tells_log → MatchResult result
+            (λ reply. (seen self.new).log ≡ (seen self.old).log ++ exchanged at.now request.now reply.items ∷ [])
+            (λ _. (seen self.new).log ≡ (seen self.old).log) }
+        ensures honest { IfOk result (λ reply. IfSome ((seen self.old).graph at.now.iri) (λ told. IsGraph told × (length reply.items ≤ limit → IsHonest told request.now reply.items))) }
+        ensures same { (address : List ℕ) → (seen self.new).graph address ≡ (seen self.old).graph address }
+        ensures kept { (address : List ℕ) → (seen self.old).faults address ≤ (seen self.new).faults address }
+        ensures counted { IsErrOf result WireError.Failed → (seen self.new).faults at.now.iri ≡ (seen self.old).faults at.now.iri + 1 }
+        ensures faultless { ¬ IsErrOf result WireError.Failed → (seen self.new).faults at.now.iri ≡ (seen self.old).faults at.now.iri }
+        ensures others { IsTrue counts_alone → (address : List ℕ) → address ≢ at.now.iri → (seen self.new).faults address ≡ (seen self.old).faults address };
+
+    /// Each wire tells its log where wires of its type do.
+    ghost told: { (wire : Self) → (seen wire).tells_log ≡ tells_log };
 }
