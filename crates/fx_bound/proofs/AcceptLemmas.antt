@@ -40,10 +40,10 @@ use Rattle.fx_algebra.specs.declared.queries.Element.{Element, Element-F, fold-r
 use Rattle.fx_algebra.specs.declared.queries.Element.TheVariants as element
 use Rattle.fx_algebra.specs.declared.queries.Form.TheVariants as form
 use Rattle.fx_algebra.specs.declared.queries.Group.{Group, fold-roll-Group, roll-Group}
-use Rattle.fx_spelling.specs.Printable.{AreFine, AreNames, Held, IsFine, IsPart, IsTriple, IsVerb, all_held, are_fresh, held, held_element, hold_element, hold_group, is_verb, most_held, not_bound}
+use Rattle.fx_spelling.specs.Printable.{AreFine, AreNames, Held, IsFine, IsPart, IsTriple, IsVerb, all_held, are_fresh, held, held_element, hold_element, hold_group, most_held, not_bound}
 use Rattle.fx_spelling.proofs.Columns.{fine_columns}
 use Rattle.fx_spelling.proofs.Saying.{fine_both}
-use Rattle.fx_spelling.proofs.Terms.{fine_triple}
+use Rattle.fx_spelling.proofs.Terms.{fine_triple, verb_good}
 use Rattle.fx_bound.specs.Batches.{batch_query, branch_elements, branch_group, check_elements}
 use Rattle.fx_bound.specs.Branches.{bound_expr, bound_part, bound_pattern, bound_word, is_hopeless, is_literal, part_by, word_by}
 use Rattle.fx_bound.specs.Reading.{all_columns, check_name, columns_by, columns_of, free_names, place_of, renamed, unit_names}
@@ -52,7 +52,7 @@ use Rattle.fx_spelling.proofs.Columns.{names_both}
 use Rattle.fx_spelling.proofs.Queries.{printed_is_accepted}
 use Rattle.fx_grammar.specs.Accepted.{Accepted}
 use Rattle.fx_algebra.specs.Printed.{column_words, form_words, order_words, printed_query, query_words}
-use Rattle.fx_bound.specs.Texts.{BatchHasTheWords, BatchIsAccepted, HasTerms, IsSpelled, branch_words, check_words}
+use Rattle.fx_bound.specs.Texts.{BatchHasTheWords, BatchIsAccepted, HasTerms, branch_words, check_words}
 use Rattle.fx_bound.specs.Uniting.{Place, branches, is_worth_asking, places_from}
 use Rattle.fx_bound.proofs.NamingLemmas.{among_from_test, among_once, place_apart, place_low, sent_apart, test_from}
 use Rattle.fx_bound.proofs.ReadingLemmas.{is_column, left, low, no_free, one_number, pattern_left, places_once}
@@ -263,7 +263,7 @@ once_fold front (n ∷ ns) h = once_fold (cond (is_among front n) front (front +
 
 -- ---- one branch
 
-module _ (u : unit.Unit) (fit : IsFit u) (spelled : IsSpelled u) (short : length (unit_names u) < 2 ^ 64) (b : Place) (few : b.number < 2 ^ 64) (terms : AllByRecursion (λ (e : List ℕ × Term). IsTerm e.1) b.row.solution) (asked : is_worth_asking u b ≡ true) where
+module _ (u : unit.Unit) (fit : IsFit u) (short : length (unit_names u) < 2 ^ 64) (b : Place) (few : b.number < 2 ^ 64) (terms : AllByRecursion (λ (e : List ℕ × Term). IsTerm e.1) b.row.solution) (asked : is_worth_asking u b ≡ true) where
   abbrev ren : List ℕ → List ℕ
   ren = renamed u b.number
 
@@ -297,11 +297,11 @@ module _ (u : unit.Unit) (fit : IsFit u) (spelled : IsSpelled u) (short : length
       let q = bound_pattern (renamed u b.number) b.row.solution p in
       (subst AreFine (sym (triple_words q)) (fine_triple q h.0), fine_triples ps h.1)
 
-  fine_filters : (es : List Expr) → AllByRecursion (λ e. AreFine (condition (printed e))) es → AllByRecursion FineElement (map (λ e. element.Filter (bound_expr (renamed u b.number) b.row.solution e)) es)
+  fine_filters : (es : List Expr) → AllByRecursion (IsPushed u.patterns) es → AllByRecursion FineElement (map (λ e. element.Filter (bound_expr (renamed u b.number) b.row.solution e)) es)
   fine_filters [] h = tt
   fine_filters (e ∷ es) h =
       let x = bound_expr (renamed u b.number) b.row.solution e in
-      (subst AreFine (sym (filter_words x)) (inr (inl refl), fine_filter u short b few terms e h.0), fine_filters es h.1)
+      (subst AreFine (sym (filter_words x)) (inr (inl refl), fine_filter u short b few terms e h.0.words), fine_filters es h.1)
 
   fine_check : (free : List (List ℕ)) → AllByRecursion FineElement (check_elements b.number free)
   fine_check [] =
@@ -316,21 +316,16 @@ module _ (u : unit.Unit) (fit : IsFit u) (spelled : IsSpelled u) (short : length
       let filters = map (λ e. element.Filter (bound_expr (renamed u b.number) b.row.solution e)) u.filters in
       let last = check_elements b.number (free_names u b.row.solution) in
       fine_group (triples ++ (filters ++ last))
-      (both_lists FineElement triples (filters ++ last) (fine_triples u.patterns (spelled_patterns u.patterns (recursion_from_All IsTriple u.patterns spelled.patterns) verbs))
-      (both_lists FineElement filters last (fine_filters u.filters (recursion_from_All (λ e. AreFine (condition (printed e))) u.filters spelled.filters)) (fine_check (free_names u b.row.solution))))
+      (both_lists FineElement triples (filters ++ last) (fine_triples u.patterns (spelled_patterns u.patterns (recursion_from_All IsTriple u.patterns fit.triples) verbs))
+      (both_lists FineElement filters last (fine_filters u.filters (recursion_from_All (IsPushed u.patterns) u.filters fit.filters)) (fine_check (free_names u b.row.solution))))
 
   -- -- what it holds
-
-  verb_of : (part : PatternTerm) → IsVerb part → is_verb part ≡ true
-  verb_of (Variable n) h = refl
-  verb_of (Constant (Iri a)) h = refl
-  verb_of (Constant (Literal l)) h = absurd h
 
   small_triples : (ps : List Pattern) → AllByRecursion IsTriple (map (bound_pattern (renamed u b.number) b.row.solution) ps) → AllByRecursion (λ e. IsSmall (held_element e)) (map (λ p. element.Triple (bound_pattern (renamed u b.number) b.row.solution p)) ps)
   small_triples [] h = tt
   small_triples (p ∷ ps) h =
       let q = bound_pattern (renamed u b.number) b.row.solution p in
-      (subst IsSmall (sym (triple_held q)) (record { good = verb_of q.predicate h.0.predicate; nest = omega arith }), small_triples ps h.1)
+      (subst IsSmall (sym (triple_held q)) (record { good = verb_good q.predicate h.0.predicate; nest = omega arith }), small_triples ps h.1)
 
   of_pushable : (e : Expr) → is_pushable e ≡ true → (calls_bound e ≡ false) × (condition_nest (measured e) ≤ 60)
   of_pushable e h =
@@ -419,7 +414,7 @@ module _ (u : unit.Unit) (fit : IsFit u) (spelled : IsSpelled u) (short : length
       let filters = map (λ e. element.Filter (bound_expr (renamed u b.number) b.row.solution e)) u.filters in
       let last = check_elements b.number (free_names u b.row.solution) in
       let es = triples ++ (filters ++ last) in
-      let small = both_lists (λ e. IsSmall (held_element e)) triples (filters ++ last) (small_triples u.patterns (spelled_patterns u.patterns (recursion_from_All IsTriple u.patterns spelled.patterns) verbs))
+      let small = both_lists (λ e. IsSmall (held_element e)) triples (filters ++ last) (small_triples u.patterns (spelled_patterns u.patterns (recursion_from_All IsTriple u.patterns fit.triples) verbs))
       (both_lists (λ e. IsSmall (held_element e)) filters last (small_filters u.filters (recursion_from_All (IsPushed u.patterns) u.filters fit.filters)) (small_check (free_names u b.row.solution))) in (
         ap (λ (h : Held). h.good) (group_held es) ∙ ap (λ (v : Bool). v && are_fresh [] (map held_element es)) (all_small es small) ∙ fresh_branch (free_names u b.row.solution) refl,
         (let most = most_small es small in subst (λ (h : Held). h.nest ≤ 61) (sym (group_held es)) (omega (arith, most))),
@@ -427,7 +422,7 @@ module _ (u : unit.Unit) (fit : IsFit u) (spelled : IsSpelled u) (short : length
 
 -- ---- the whole query
 
-module _ (u : unit.Unit) (rows : List Row) (fit : IsFit u) (spelled : IsSpelled u) (terms : AllByRecursion (λ (r : Row). AllByRecursion (λ (e : List ℕ × Term). IsTerm e.1) r.solution) rows) (few : length rows ≤ 64) (short : length (unit_names u) < 2 ^ 64) where
+module _ (u : unit.Unit) (rows : List Row) (fit : IsFit u) (terms : AllByRecursion (λ (r : Row). AllByRecursion (λ (e : List ℕ × Term). IsTerm e.1) r.solution) rows) (few : length rows ≤ 64) (short : length (unit_names u) < 2 ^ 64) where
   place_in : (b : Place) → Among b (branches u rows) → Among b (places_from 0 rows)
   place_in b m = (in_kept (is_worth_asking u) b (places_from 0 rows) m).0
 
@@ -499,19 +494,19 @@ module _ (u : unit.Unit) (rows : List Row) (fit : IsFit u) (spelled : IsSpelled 
   fine_branches [] f = tt
   fine_branches (b ∷ bs) f =
       let here = f b (inl refl) in
-      (branch_fine u fit spelled short b (number_low b here) (terms_of b here) (worth b here), fine_branches bs (λ c m. f c (inr m)))
+      (branch_fine u fit short b (number_low b here) (terms_of b here) (worth b here), fine_branches bs (λ c m. f c (inr m)))
 
   good_branches : (bs : List Place) → AreAsked bs → all_held (map held (map (branch_group u) bs)) ≡ true
   good_branches [] f = refl
   good_branches (b ∷ bs) f =
       let here = f b (inl refl) in
-      ap (λ (v : Bool). v && all_held (map held (map (branch_group u) bs))) (branch_held u fit spelled short b (number_low b here) (terms_of b here) (worth b here)).0 ∙ good_branches bs (λ c m. f c (inr m))
+      ap (λ (v : Bool). v && all_held (map held (map (branch_group u) bs))) (branch_held u fit short b (number_low b here) (terms_of b here) (worth b here)).0 ∙ good_branches bs (λ c m. f c (inr m))
 
   low_branches : (bs : List Place) → AreAsked bs → most_held (map held (map (branch_group u) bs)) ≤ 61
   low_branches [] f = omega arith
   low_branches (b ∷ bs) f =
       let here = f b (inl refl) in
-      let nest = (branch_held u fit spelled short b (number_low b here) (terms_of b here) (worth b here)).1 in
+      let nest = (branch_held u fit short b (number_low b here) (terms_of b here) (worth b here)).1 in
       let rest = low_branches bs (λ c m. f c (inr m)) in
       omega (arith, nest, rest)
 
@@ -571,7 +566,7 @@ row_terms rows h = each rows (recursion_from_All (λ (r : Row). HasTerms r.solut
     each (r ∷ rs) k = (recursion_from_All (λ (e : List ℕ × Term). IsTerm e.1) r.solution k.0, each rs k.1)
 
 pub batch_is_accepted : BatchIsAccepted
-batch_is_accepted u rows fit spelled terms few short asked = accepted u rows fit spelled (row_terms rows terms) few short asked
+batch_is_accepted u rows fit terms few short asked = accepted u rows fit (row_terms rows terms) few short asked
 
 -- ---- the words of the whole
 

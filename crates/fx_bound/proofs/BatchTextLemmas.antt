@@ -13,7 +13,7 @@ use Rattle.fx_bound.specs.Made.{IsMade}
 use Rattle.fx_bound.specs.Parts.{AreKnown, IsBatch, IsKnown, Parts, branch_of, places, printed_by, printed_words, query_of, text_of}
 use Rattle.fx_bound.specs.Reading.{unit_names}
 use Rattle.fx_bound.specs.Sent.{all_words}
-use Rattle.fx_bound.specs.Texts.{HasTerms, IsSpelled}
+use Rattle.fx_bound.specs.Texts.{HasTerms}
 use Rattle.fx_bound.specs.Uniting.{Place, branches}
 use Rattle.fx_bound.specs.declared.branches.Branch.{Branch}
 use Rattle.fx_bound.proofs.AcceptLemmas.{batch_is_accepted}
@@ -33,14 +33,14 @@ text_accepted p text known e = by (places p) (λ h. h) e
     by [] f h = absurd (cc)
     by (b ∷ bs) f h =
         let same : text ≡ printed_query (query_of p) = cc in
-        subst (λ (v : List ℕ). Accepted v (query_of p)) (sym same) (batch_is_accepted p.unit p.rows known.fit known.spelled terms known.few known.named (f (omega arith)))
+        subst (λ (v : List ℕ). Accepted v (query_of p)) (sym same) (batch_is_accepted p.unit p.rows known.fit terms known.few known.named (f (omega arith)))
 
-pub made : (u : unit.Unit) (rows : List Row) (names : List (List ℕ)) (slice bs : List Branch) (text : Option (List ℕ)) → IsFit u → IsSpelled u → length rows ≤ 64 → AreKnown rows
+pub made : (u : unit.Unit) (rows : List Row) (names : List (List ℕ)) (slice bs : List Branch) (text : Option (List ℕ)) → IsFit u → length rows ≤ 64 → AreKnown rows
     → names ≡ unit_names u → length names < 2 ^ 64 → bs ≡ map (branch_of u) (branches u rows) → slice ≡ bs → text ≡ printed_words (all_words u names slice) slice → IsMade (record { unit = u; rows = rows }) bs text
-made u rows names slice bs text fit spelled few known named short bs_are slice_is printed =
+made u rows names slice bs text fit few known named short bs_are slice_is printed =
     let all : slice ≡ map (branch_of u) (branches u rows) = slice_is ∙ bs_are in
     record {
-      known = record { fit = fit; spelled = spelled; named = subst (λ (v : List (List ℕ)). length v < 2 ^ 64) named short; few = few; known = known };
+      known = record { fit = fit; named = subst (λ (v : List (List ℕ)). length v < 2 ^ 64) named short; few = few; known = known };
       branches_are = bs_are;
       text_is = printed ∙ (λ i. printed_words (all_words u (named i) (all i)) (all i)) ∙ text_is u (branches u rows);
     }

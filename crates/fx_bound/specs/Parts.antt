@@ -8,7 +8,7 @@ use Rattle.fx_algebra.specs.declared.units.Unit as units
 use Rattle.fx_spelling.specs.Units.{IsFit}
 use Rattle.fx_bound.specs.Batches.{batch_query}
 use Rattle.fx_bound.specs.Reading.{check_name, free_among, named, unit_names}
-use Rattle.fx_bound.specs.Texts.{HasTerms, IsSpelled}
+use Rattle.fx_bound.specs.Texts.{HasTerms}
 use Rattle.fx_bound.specs.Uniting.{Place, branches}
 use Rattle.fx_bound.specs.declared.branches.Branch.{Branch}
 
@@ -75,7 +75,6 @@ AreKnown rows = All (λ r. IsKnown r.solution) rows
 
 pub record IsBatch (p : Parts) : Type 0 where
   pub fit : IsFit p.unit
-  pub spelled : IsSpelled p.unit
   pub named : length (unit_names p.unit) < 2 ^ 64
   pub few : length p.rows ≤ 64
   pub known : AreKnown p.rows

@@ -9,17 +9,11 @@ use Rattle.fx_algebra.specs.Values.{integer}
 use Rattle.fx_algebra.specs.declared.units.Row.{Row}
 use Rattle.fx_algebra.specs.declared.units.Unit as unit
 use Rattle.fx_grammar.specs.Accepted.{Accepted}
-use Rattle.fx_spelling.specs.Printable.{AreFine, IsTriple}
 use Rattle.fx_spelling.specs.Units.{IsFit}
 use Rattle.fx_bound.specs.Batches.{batch_query}
 use Rattle.fx_bound.specs.Branches.{bound_pattern, bound_word}
 use Rattle.fx_bound.specs.Reading.{all_columns, check_name, free_names, renamed, unit_names}
 use Rattle.fx_bound.specs.Uniting.{Place, branches}
-
--- the names, the terms and the words of a unit are those of their types
-pub record IsSpelled (u : unit.Unit) : Type 0 where
-  pub patterns : All IsTriple u.patterns
-  pub filters : All (λ e. AreFine (condition (printed e))) u.filters
 
 -- the terms of a row are terms
 abbrev pub HasTerms : Bindings → Type 0
@@ -29,7 +23,6 @@ HasTerms s = All (λ (e : List ℕ × Term). IsTerm e.1) s
 abbrev pub BatchIsAccepted : Type 0
 BatchIsAccepted = (u : unit.Unit) (rows : List Row)
     → IsFit u
-    → IsSpelled u
     → All (λ r. HasTerms r.solution) rows
     → length rows ≤ 64
     → length (unit_names u) < 2 ^ 64

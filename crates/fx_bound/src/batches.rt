@@ -8,7 +8,7 @@ ghost use Rattle.fx_bound.specs.Made.{IsMade};
 ghost use Rattle.fx_bound.specs.Parts as spec;
 ghost use Rattle.fx_bound.specs.Reading.{all_columns};
 ghost use Rattle.fx_bound.specs.Sent.{all_words, columns_of_all};
-ghost use Rattle.fx_bound.specs.Texts.{HasTerms, IsSpelled};
+ghost use Rattle.fx_bound.specs.Texts.{HasTerms};
 
 use crate::branches::{Branch, branches_of};
 use crate::columns::Columns;
@@ -88,7 +88,6 @@ impl Batch {
 /// puts a literal in the place of a subject or a predicate has no branch, since no triple has one there.
 pub fn batch_text(alloc: Global, unit: &Unit, rows: &[Row]) -> Result<Batch, Memory>
     requires fit { IsFit unit.now }
-    requires spelled { IsSpelled unit.now }
     requires few { length rows.now ≤ 64 }
     ensures { IfOk result (λ batch. batch ≡ record { unit = unit.now; rows = rows.now }) }
 {

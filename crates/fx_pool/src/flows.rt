@@ -5,7 +5,6 @@ ghost use Rattle.fx_algebra.specs.Graphs.{union};
 ghost use Rattle.fx_algebra.specs.Units.{step};
 ghost use Rattle.fx_spelling.specs.Units.{IsFit, IsSound};
 ghost use Rattle.fx_bound.specs.Answers.{AreReadOf, numbers};
-ghost use Rattle.fx_bound.specs.Texts.{IsSpelled};
 ghost use Rattle.fx_outside.specs.Endpoints.{is_sendable};
 ghost use Rattle.fx_wire.specs.Exchanges.{seen};
 ghost use Rattle.fx_pool.specs.Flows.{AskedBatch, AskedMember, AskedMembers, AskedStep, AskedUnits, lists_in, rows_in};
@@ -57,7 +56,6 @@ pub fn run_flow<W: Wire + Send>(
     requires sendable { All (λ e. is_sendable e ≡ true) endpoints.now }
     requires some { 0 < length units.now }
     requires fit { All IsFit units.now }
-    requires spelled { All IsSpelled units.now }
     requires block { (0 < block) × (block ≤ 64) }
     requires within { All (λ u. All (λ at. at < length endpoints.now) u.members) units.now }
     ensures { RunFlowed W.tells_log W.counts_alone (map (seen W.tells_log W.log W.graph W.faults) wires.old) (map (seen W.tells_log W.log W.graph W.faults) wires.new) endpoints.now units.now block (numbered 0 rows.now) (rows_in result) }
@@ -103,7 +101,6 @@ fn ask_units<W: Wire>(
 ) -> Result<Vec<Row>, FlowError>
     requires sendable { All (λ e. is_sendable e ≡ true) endpoints.now }
     requires fit { All IsFit units.now }
-    requires spelled { All IsSpelled units.now }
     requires block { (0 < block) × (block ≤ 64) }
     requires within { All (λ u. All (λ at. at < length endpoints.now) u.members) units.now }
     ensures { AskedUnits W.counts_alone (seen W.tells_log W.log W.graph W.faults wire.old) (seen W.tells_log W.log W.graph W.faults wire.new) endpoints.now units.now block first.items (rows_in result) }
@@ -138,7 +135,6 @@ fn ask_step<W: Wire>(
 ) -> Result<Vec<Row>, FlowError>
     requires sendable { All (λ e. is_sendable e ≡ true) endpoints.now }
     requires fit { IsFit unit.now }
-    requires spelled { IsSpelled unit.now }
     requires block { (0 < block) × (block ≤ 64) }
     requires within { All (λ at. at < length endpoints.now) unit.now.members }
     ensures { AskedStep W.counts_alone (seen W.tells_log W.log W.graph W.faults wire.old) (seen W.tells_log W.log W.graph W.faults wire.new) endpoints.now unit.now block rows.now (rows_in result) }
@@ -170,7 +166,6 @@ fn ask_batch<W: Wire>(
 ) -> Result<Vec<Row>, FlowError>
     requires sendable { All (λ e. is_sendable e ≡ true) endpoints.now }
     requires fit { IsFit unit.now }
-    requires spelled { IsSpelled unit.now }
     requires few { length rows.now ≤ 64 }
     requires within { All (λ at. at < length endpoints.now) unit.now.members }
     ensures { AskedBatch W.counts_alone (seen W.tells_log W.log W.graph W.faults wire.old) (seen W.tells_log W.log W.graph W.faults wire.new) endpoints.now (record { unit = unit.now; rows = rows.now }) (rows_in result) }

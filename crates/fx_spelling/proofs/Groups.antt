@@ -4,11 +4,9 @@ use Rattle.std.specs.Prelude.{codes, fold}
 use Rattle.std.specs.List.{flat_map, list_all}
 use Rattle.std.proofs.lemmas.Bool.{and_parts, not-true}
 use Rattle.std.proofs.lemmas.List.Sums.{fold-append}
-use Rattle.fx_terms.specs.declared.terms.Term.TheVariants.{Iri, Literal}
+use Rattle.fx_terms.specs.declared.terms.Term.TheVariants.{Iri}
 use Rattle.fx_terms.specs.declared.patterns.Pattern.{Pattern}
-use Rattle.fx_terms.specs.declared.patterns.PatternTerm.{PatternTerm}
-use Rattle.fx_terms.specs.declared.patterns.PatternTerm.TheVariants.{Variable, Constant}
-use Rattle.fx_algebra.specs.Printed.{Word, fixed, variable, term, in_brackets, printed, condition, is_call, block, silence, part_word, pattern_words, element_step, group_step, element_words, group_words}
+use Rattle.fx_algebra.specs.Printed.{Word, fixed, variable, term, in_brackets, printed, condition, is_call, block, silence, pattern_words, element_step, group_step, element_words, group_words}
 use Rattle.fx_algebra.specs.Scopes.{is_among, with_name, all_of, element_names, group_names, mentions, group_mentions}
 use Rattle.fx_algebra.specs.declared.expressions.Expr.{Expr}
 use Rattle.fx_algebra.specs.declared.queries.Inline.{Inline}
@@ -19,14 +17,14 @@ use Rattle.fx_grammar.specs.Rule.{Rule, token, seq, after, opt, nested}
 use Rattle.fx_grammar.specs.Grammar as grammar
 use Rattle.fx_grammar.specs.Grammar.{Prefixes}
 use Rattle.fx_algebra.specs.Measures.{measured, is_some, condition_nest}
-use Rattle.fx_spelling.specs.Printable.{AreFine, IsFine, IsPart, IsVerb, IsTriple, AreTriples, said, block_nest, Held, most_held, all_held, any_serves, held_names, is_verb, not_bound, are_fresh, hold_element, hold_group, held, held_element}
+use Rattle.fx_spelling.specs.Printable.{AreFine, AreTriples, said, block_nest, Held, most_held, all_held, any_serves, held_names, not_bound, are_fresh, hold_element, hold_group, held, held_element}
 use Rattle.fx_grammar.specs.declared.kinds.Kind.TheVariants as k
 use Rattle.fx_grammar.specs.declared.refusals.SyntaxKind.TheVariants.{BindInScope}
 use Rattle.fx_grammar.specs.declared.kinds.Token.{Token}
 use Rattle.fx_grammar.specs.declared.kinds.Token.TheVariants as token_of
 use Rattle.fx_spelling.proofs.Saying.{said_both}
 use Rattle.fx_spelling.proofs.Spelling.{mark_said, after_said, parens_said, braces_said, nested_said}
-use Rattle.fx_spelling.proofs.Terms.{iri_said, triples_said, run_is, calm_triple}
+use Rattle.fx_spelling.proofs.Terms.{iri_said, triples_said, run_is, calm_triple, triple_from}
 use Rattle.fx_spelling.proofs.Placing.{Passes, passes_none, passes_both, passes_less, passes_served, passes_calm, passes_behind, passes_parens, passes_braces, passes_service, is_calm}
 use Rattle.fx_spelling.proofs.Expressions.{fine_split, said_brackets, fine_brackets, separated_said, fine_separated, AllFine, AllPass, pass_separated, AllSaid, chain_said, inner, lift, law}
 use Rattle.fx_spelling.proofs.Blocks.{block_passes, block_said}
@@ -278,18 +276,6 @@ module _ (ps : Prefixes) where
 
   -- ---- runs of triples
 
-  part_of : (p : PatternTerm) → IsFine (part_word p) → IsPart p
-  part_of (Variable name) h = h
-  part_of (Constant t) h = h
-
-  verb_of : (p : PatternTerm) → is_verb p ≡ true → IsFine (part_word p) → IsVerb p
-  verb_of (Variable name) v h = h
-  verb_of (Constant (Iri a)) v h = h
-  verb_of (Constant (Literal l)) v h = absurd (cc (v))
-
-  triple_of : (p : Pattern) → is_verb p.predicate ≡ true → AreFine (pattern_words p) → IsTriple p
-  triple_of p v f = record { subject = part_of p.subject f.0; predicate = verb_of p.predicate v f.1.0; object = part_of p.object f.1.1.0 }
-
   abbrev run : List Pattern → List Token
   run patterns = flat_map (λ (q : Pattern). said (pattern_words q)) patterns
 
@@ -351,7 +337,7 @@ module _ (ps : Prefixes) where
         same = (λ i. t.is i ∷ s.same i);
         back = s.back;
         tokens = said_both (element_words e.0) (words_of es) ∙ ap (λ (v : List Word). said v ++ said (words_of es)) t.printed ∙ ap (λ (v : List Token). said (pattern_words p) ++ v) s.tokens ∙ sym (append_assoc (said (pattern_words p)) (run s.first) s.back);
-        triples = (triple_of p (sym (ap (λ (h : Held). h.good) t.holds) ∙ o) (subst AreFine t.printed f), s.triples);
+        triples = (triple_from p (sym (ap (λ (h : Held). h.good) t.holds) ∙ o) (subst AreFine t.printed f), s.triples);
         items = subst (λ (v : List (List ℕ)). (grammar.items ps (grammar.group ps n) v).spells s.back s.rest) (sym scope) s.items;
       }
 

@@ -10,6 +10,7 @@ pub mod PatternQuery
 pub mod Pieces
 pub mod Placing
 pub mod Queries
+pub mod Runs
 pub mod Saying
 pub mod Sayings
 pub mod Spelling

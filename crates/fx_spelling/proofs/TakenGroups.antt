@@ -6,7 +6,7 @@ use Rattle.std.proofs.lemmas.Bool.{and_from, and_parts, or_from}
 use Rattle.fx_terms.specs.Names.{IsName}
 use Rattle.fx_terms.specs.Iris.{IsIri}
 use Rattle.fx_terms.specs.declared.terms.Term.{Term}
-use Rattle.fx_terms.specs.declared.terms.Term.TheVariants.{Iri, Literal}
+use Rattle.fx_terms.specs.declared.terms.Term.TheVariants.{Iri}
 use Rattle.fx_terms.specs.declared.patterns.Pattern.{Pattern}
 use Rattle.fx_terms.specs.declared.patterns.PatternTerm.{PatternTerm}
 use Rattle.fx_terms.specs.declared.patterns.PatternTerm.TheVariants.{Variable, Constant}
@@ -25,7 +25,7 @@ use Rattle.fx_grammar.specs.Classified.{is_inside, behind}
 use Rattle.fx_grammar.specs.declared.places.Context.{Context}
 use Rattle.fx_grammar.specs.declared.places.Service.{Service}
 use Rattle.fx_grammar.specs.declared.places.Service.TheVariants.{Outside, Named, Inside}
-use Rattle.fx_spelling.specs.Printable.{AreFine, IsFine, AreNames, IsPart, IsVerb, IsTriple, AreTriples, are_new, are_wide, is_block, Held, all_held, any_serves, held_names, is_verb, not_bound, are_fresh, hold_element, hold_group, held, held_element}
+use Rattle.fx_spelling.specs.Printable.{AreFine, IsFine, AreNames, IsPart, IsVerb, IsTriple, AreTriples, are_new, are_wide, is_block, Held, all_held, any_serves, held_names, not_bound, are_fresh, hold_element, hold_group, held, held_element}
 use Rattle.fx_grammar.specs.declared.kinds.Kind.{Kind}
 use Rattle.fx_grammar.specs.declared.kinds.Kind.TheVariants as k
 use Rattle.fx_grammar.specs.declared.refusals.SyntaxKind.{SyntaxKind}
@@ -33,7 +33,7 @@ use Rattle.fx_grammar.specs.declared.refusals.SyntaxKind.TheVariants.{RepeatedNa
 use Rattle.fx_grammar.specs.declared.kinds.Token.{Token}
 use Rattle.fx_grammar.proofs.KindLaws.{apart_by, same_rank}
 use Rattle.fx_spelling.proofs.Saying.{fine_both}
-use Rattle.fx_spelling.proofs.Terms.{verb_part, fine_triple}
+use Rattle.fx_spelling.proofs.Terms.{verb_good, verb_part, fine_triple}
 use Rattle.fx_spelling.proofs.Columns.{names_both, fine_names}
 use Rattle.fx_spelling.proofs.Groups.{mentioned, elements_from}
 use Rattle.fx_spelling.proofs.Placing.{SteadyAt}
@@ -296,11 +296,6 @@ OfRun b es = Each GoodElement b es × ((names : List (List ℕ)) → are_fresh n
 part_names_good : (p : PatternTerm) → IsPart p → AreNames (part_names p)
 part_names_good (Variable name) h = (h, tt)
 part_names_good (Constant t) h = tt
-
-verb_good : (p : PatternTerm) → IsVerb p → is_verb p ≡ true
-verb_good (Variable name) h = refl
-verb_good (Constant (Iri a)) h = refl
-verb_good (Constant (Literal l)) h = absurd h
 
 triple_good : (names : List (List ℕ)) (b : Bool) (p : Pattern) → IsTriple p → OfOther names b (element.Triple p)
 triple_good names b p h =

@@ -16,7 +16,7 @@ use Rattle.fx_terms.specs.declared.patterns.PatternTerm.TheVariants.{Variable, C
 use Rattle.fx_algebra.specs.Printed.{part_word, pattern_words}
 use Rattle.fx_grammar.specs.Rule.{Rule}
 use Rattle.fx_grammar.specs.Grammar.{Prefixes, iri_name, datatype, datatype_in, no_call, no_path, literal, text_suffix, variable, graph_term, part_literal, verb, verb_iri, objects, property, more_properties, properties, same_subject, dot_triples, more_triples, triples, option_items}
-use Rattle.fx_spelling.specs.Printable.{IsFine, AreFine, word_tokens, term_tokens, suffix_tokens, said, IsPart, IsVerb, IsTriple, AreTriples}
+use Rattle.fx_spelling.specs.Printable.{IsFine, AreFine, word_tokens, term_tokens, suffix_tokens, said, IsPart, IsVerb, IsTriple, AreTriples, is_verb}
 use Rattle.fx_grammar.specs.declared.kinds.Kind.TheVariants as k
 use Rattle.fx_grammar.specs.declared.kinds.Token.{Token}
 use Rattle.fx_grammar.specs.declared.kinds.Token.TheVariants as token_of
@@ -89,6 +89,25 @@ fine_part (Constant t) h = h
 
 pub fine_triple : (p : Pattern) → IsTriple p → AreFine (pattern_words p)
 fine_triple p h = (fine_part p.subject h.subject, (fine_part p.predicate (verb_part p.predicate h.predicate), (fine_part p.object h.object, (inl refl, tt))))
+
+-- ---- from words
+
+part_from : (p : PatternTerm) → IsFine (part_word p) → IsPart p
+part_from (Variable name) h = h
+part_from (Constant t) h = h
+
+verb_from : (p : PatternTerm) → is_verb p ≡ true → IsFine (part_word p) → IsVerb p
+verb_from (Variable name) v h = h
+verb_from (Constant (Iri a)) v h = h
+verb_from (Constant (Literal l)) v h = absurd (cc (v))
+
+pub triple_from : (p : Pattern) → is_verb p.predicate ≡ true → AreFine (pattern_words p) → IsTriple p
+triple_from p v f = record { subject = part_from p.subject f.0; predicate = verb_from p.predicate v f.1.0; object = part_from p.object f.1.1.0 }
+
+pub verb_good : (p : PatternTerm) → IsVerb p → is_verb p ≡ true
+verb_good (Variable name) h = refl
+verb_good (Constant (Iri a)) h = refl
+verb_good (Constant (Literal l)) h = absurd h
 
 calm_suffix : (l : LiteralParts) → list_all is_calm (suffix_tokens l) ≡ true
 calm_suffix l = go (length l.tag == 0) (bytes_eq l.datatype xsd_string)

@@ -3,22 +3,24 @@ use Rattle.std.specs.Prelude.{◌≡◌, ◌<◌, ◌⊎◌, ℕ, true, List, []
 use Rattle.fx_terms.specs.declared.triples.Triple.{Triple}
 use Rattle.fx_terms.specs.declared.patterns.Pattern.{Pattern}
 use Rattle.fx_algebra.specs.Measures.{measured}
+use Rattle.fx_algebra.specs.Printed.{condition, printed}
 use Rattle.fx_algebra.specs.Units.{is_pushable, is_covered, sources}
 use Rattle.fx_algebra.specs.declared.expressions.Expr.{Expr}
 use Rattle.fx_algebra.specs.declared.units.Unit as unit
-use Rattle.fx_spelling.specs.Printable.{is_verb}
+use Rattle.fx_spelling.specs.Printable.{AreFine, IsTriple, is_verb}
 
 -- an expression of the grammar that may be pushed, all of whose variables stand in the patterns
 pub record IsPushed (ps : List Pattern) (e : Expr) : Type 0 where
   pub good : (measured e).good ≡ true
+  pub words : AreFine (condition (printed e))
   pub pushable : is_pushable e ≡ true
   pub covered : is_covered ps e ≡ true
 
--- it has a pattern and a member, no predicate is a literal, the members rise by number, and each filter may be pushed
+-- it has a pattern and a member, its patterns are triples of the grammar, the members rise by number, and each filter may be pushed
 pub record IsFit (u : unit.Unit) : Type 0 where
   pub some : 0 < length u.patterns
   pub asked : 0 < length u.members
-  pub verbs : All (λ p. is_verb p.predicate ≡ true) u.patterns
+  pub triples : All IsTriple u.patterns
   pub rising : AllPairs ◌<◌ u.members
   pub filters : All (IsPushed u.patterns) u.filters
 
@@ -38,3 +40,7 @@ pub record IsExclusive (graphs : List (List Triple)) (u : unit.Unit) : Type 0 wh
 pub record IsSound (graphs : List (List Triple)) (u : unit.Unit) : Type 0 where
   pub fit : IsFit u
   pub complete : IsSingle graphs u ⊎ IsExclusive graphs u
+
+-- the law: no predicate of such a unit is a literal
+abbrev pub FitUnitsHaveVerbs : Type 0
+FitUnitsHaveVerbs = (u : unit.Unit) → IsFit u → All (λ p. is_verb p.predicate ≡ true) u.patterns

@@ -1,9 +1,8 @@
 use Rattle.std.proofs.Common.{◌≡◌, ◌∙◌, ◌+◌, ◌∷◌, [], ◌<◌, suc, ap, sym, subst, ℕ, List, Ok, Err, Contains, get_or, length, drop, drop-cons, drop_of_length-le, arith}
-use Rattle.std.proofs.lemmas.List.Elements.{All-contains, Contains-get_or}
+use Rattle.std.proofs.lemmas.List.Elements.{Contains-get_or}
 use Rattle.fx_algebra.specs.declared.units.Row.{Row}
 use Rattle.fx_algebra.specs.declared.units.Unit as unit
 use Rattle.fx_wire.specs.Exchanges.{seen}
-use Rattle.fx_bound.specs.Texts.{IsSpelled}
 use Rattle.fx_pool.specs.Flows.{AskedStep}
 use Rattle.fx_pool.proofs.UnitsLemmas.{all_asked, none_left, none_yet, run_stopped, unit_more}
 use Rattle.fx_pool.proofs.flows.ask_units.Goals as goal
@@ -17,14 +16,6 @@ returns-then-is_none g c =
     let us = c.args.units.now in
     let none : c.loop-unit.rows.items ≡ [] = sym c.as_slice.ensures.value ∙ c.is_none.ensures c.if-is_none.true in
     none_left g.W.Wire.counts_alone (see c.args.wire.now) (see c.loop-unit.wire) c.args.endpoints.now us (drop c.loop-unit.unit-index us) c.args.block c.args.first.items c.loop-unit.rows.items c.loop-unit.invariant none
-
-pub ask_step-requires-clause-spelled : goal.ask_step-requires-clause-spelled
-ask_step-requires-clause-spelled g c =
-    let us = c.args.units.now in
-    let k = c.loop-unit.unit-index in
-    let u = c.unit-item.result in
-    let its : Contains us u = subst (Contains us) (sym c.unit-item.is) (Contains-get_or us k u c.loop-unit-test.true) in
-    All-contains IsSpelled us u c.requires.spelled its
 
 -- the units from one on
 from_one : (us : List unit.Unit) (k : ℕ) (u : unit.Unit) → k < length us → u ≡ get_or us k u → drop k us ≡ u ∷ drop (k + 1) us
