@@ -2,3 +2,4 @@ pub mod SentLemmas
 pub mod GainLemmas
 pub mod CutLemmas
 pub mod NumberLemmas
+pub mod PlannedLemmas

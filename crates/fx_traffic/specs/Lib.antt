@@ -3,3 +3,4 @@ pub mod Gains
 pub mod Batches
 pub mod Traffic
 pub mod Numbers
+pub mod Planned

@@ -6,6 +6,7 @@
 ghost use Rattle.fx_traffic.specs.Batches.{BatchLaws};
 ghost use Rattle.fx_traffic.specs.Gains.{GainLaws};
 ghost use Rattle.fx_traffic.specs.Numbers.{StationsHaveTheNumbers};
+ghost use Rattle.fx_traffic.specs.Planned.{PlannedLaws};
 ghost use Rattle.fx_traffic.specs.Sent.{SentLaws};
 
 /// What was sent adds up: of nothing, of one call after another, of two halves of the wires, in any order, and of a part.
@@ -26,4 +27,11 @@ pub fn batches_are_of_the_rows()
 /// Where some text is accepted as a query, the SERVICEs among its stations are its occurrences, numbered from 0 in text order.
 pub fn stations_have_the_numbers()
     ensures { StationsHaveTheNumbers }
+{}
+
+/// Where some text is accepted as a query, each unit of the plan of each of its runs can be asked for, whatever members the patterns have, if
+/// each has one and they rise by number; and with the sources that the patterns have in graphs, each is asked of all that have anything for
+/// it. A unit's members are among those of the patterns, and the plan of a run has a unit.
+pub fn planned_units_are_fit()
+    ensures { PlannedLaws }
 {}
