@@ -48,18 +48,18 @@ exchange vs ws xs ys =
 
 -- ---- what operators make of rows they make row by row, and they only add to a row
 
-abbrev Rows : Type 0
+abbrev pub Rows : Type 0
 Rows = List Triple → ℕ → List Bindings → List Bindings
 
-abbrev Splits : Rows → Type 0
+abbrev pub Splits : Rows → Type 0
 Splits f = (graph : List Triple) (number : ℕ) (xs ys : List Bindings) → IsPermutation (f graph number (xs ++ ys)) (f graph number xs ++ f graph number ys)
 
-abbrev Grows : Rows → Type 0
+abbrev pub Grows : Rows → Type 0
 Grows f = (graph : List Triple) (number : ℕ) (rows : List Bindings) (s : Bindings) → Among s (f graph number rows) → (r : Bindings) × Among r rows × Extends r s
 
-record GoesByRows (f : Rows) : Type 0 where
-  splits : Splits f
-  grows : Grows f
+pub record GoesByRows (f : Rows) : Type 0 where
+  pub splits : Splits f
+  pub grows : Grows f
 
 extends_itself : (s : Bindings) → Extends s s
 extends_itself s = record { has = λ name term e. e }
@@ -70,7 +70,7 @@ extends_both r s t h k = record { has = λ name term e. k.has name term (h.has n
 join_splits : (xs ys others : List Bindings) → IsPermutation (join (xs ++ ys) others) (join xs others ++ join ys others)
 join_splits xs ys others = same_as (join (xs ++ ys) others) (join xs others ++ join ys others) (flat_map-append (merges others) xs ys)
 
-join_grows : (rows others : List Bindings) (s : Bindings) → Among s (join rows others) → (r : Bindings) × Among r rows × Extends r s
+pub join_grows : (rows others : List Bindings) (s : Bindings) → Among s (join rows others) → (r : Bindings) × Among r rows × Extends r s
 join_grows rows others s m =
     let a = among_from_flat_map (merges others) s rows m in
     let b = among_from_map (merge a.0) s (filter (agree a.0) others) a.2 in
@@ -82,7 +82,7 @@ join_goes others = record {
   grows = λ graph number rows s m. join_grows rows (others graph number) s m;
 }
 
-left_join_splits : (xs ys others : List Bindings) (es : List Expr) → IsPermutation (left_join (xs ++ ys) others es) (left_join xs others es ++ left_join ys others es)
+pub left_join_splits : (xs ys others : List Bindings) (es : List Expr) → IsPermutation (left_join (xs ++ ys) others es) (left_join xs others es ++ left_join ys others es)
 left_join_splits xs ys others es =
     let p = λ (a : Bindings). not (list_any (λ b. agree a b && holds es (merge a b)) others) in
     subst (λ (v : List Bindings). IsPermutation v (left_join xs others es ++ left_join ys others es))
@@ -111,16 +111,16 @@ extend_grows rows name e s m = let a = among_from_map (extended name e) s rows m
 
 -- ---- so it is of each element, and of all steps
 
-abbrev PartGoes : Part → Type 0
+abbrev pub PartGoes : Part → Type 0
 PartGoes (pattern p) = Unit {0}
 PartGoes (condition e) = Unit {0}
 PartGoes (operator o) = GoesByRows o.rows
 
-abbrev StepGoes : Step → Type 0
+abbrev pub StepGoes : Step → Type 0
 StepGoes (run ps) = Unit {0}
 StepGoes (apply o) = GoesByRows o.rows
 
-element_goes : (graphs : List ℕ → List Triple) (down : List ℕ) (e : Element-F Part Meaning) → PartGoes (element_meaning graphs down e)
+pub element_goes : (graphs : List ℕ → List Triple) (down : List ℕ) (e : Element-F Part Meaning) → PartGoes (element_meaning graphs down e)
 element_goes graphs down (Element-F.Triple p) = tt
 element_goes graphs down (Element-F.Filter e) = tt
 element_goes graphs down (Element-F.Optional g) = record {
@@ -139,7 +139,7 @@ element_goes graphs down (Element-F.Bind e name) = record {
 element_goes graphs down (Element-F.Values inline) = join_goes (λ graph number. inline_rows inline)
 element_goes graphs down (Element-F.Service silent iri g) = join_goes (λ graph number. service_rows graphs down iri g number)
 
-part_goes : (graphs : List ℕ → List Triple) (down : List ℕ) (e : Element) → PartGoes (part_of graphs down e)
+pub part_goes : (graphs : List ℕ → List Triple) (down : List ℕ) (e : Element) → PartGoes (part_of graphs down e)
 part_goes graphs down e = subst PartGoes (sym (fold_out-Element Part Meaning (element_meaning graphs down) group_meaning e)) (element_goes graphs down _)
 
 with_pattern_goes : (p : Pattern) (steps : List Step) → AllByRecursion StepGoes steps → AllByRecursion StepGoes (with_pattern p steps)
@@ -152,7 +152,7 @@ with_part_goes (pattern p) steps h k = with_pattern_goes p steps k
 with_part_goes (condition e) steps h k = k
 with_part_goes (operator o) steps h k = (h, k)
 
-steps_go : (graphs : List ℕ → List Triple) (down : List ℕ) (elements : List Element) → AllByRecursion StepGoes (steps_of (map (part_of graphs down) elements))
+pub steps_go : (graphs : List ℕ → List Triple) (down : List ℕ) (elements : List Element) → AllByRecursion StepGoes (steps_of (map (part_of graphs down) elements))
 steps_go graphs down [] = tt
 steps_go graphs down (e ∷ es) = with_part_goes (part_of graphs down e) (steps_of (map (part_of graphs down) es)) (part_goes graphs down e) (steps_go graphs down es)
 
@@ -182,11 +182,11 @@ after_grows graph (apply o ∷ steps) go number rows s m =
 
 -- ---- filters on a row that grows
 
-kept_term : (a b : Bindings) (name : List ℕ) (o : Option Term) → Extends a b → term_of a name ≡ o → is_some o ≡ true → term_of a name ≡ term_of b name
+pub kept_term : (a b : Bindings) (name : List ℕ) (o : Option Term) → Extends a b → term_of a name ≡ o → is_some o ≡ true → term_of a name ≡ term_of b name
 kept_term a b name None x e h = absurd (cc)
 kept_term a b name (Some t) x e h = e ∙ sym (x.has name t e)
 
-both_true : (b c : Bool) → (b && c) ≡ true → (b ≡ true) × (c ≡ true)
+pub both_true : (b c : Bool) → (b && c) ≡ true → (b ≡ true) × (c ≡ true)
 both_true true c e = (refl, e)
 both_true false c e = cc
 
@@ -201,12 +201,12 @@ all_kept conditions ps a b x h [] c = tt
 all_kept conditions ps a b x h (e ∷ es) c = (names_kept ps a b x h (expr_names e) c.0.covered, all_kept conditions ps a b x h es c.1)
 
 -- where conditions hold, each of them does
-one_holds : (conditions : List Expr) (s : Bindings) (e : Expr) → list_all (is_so s) conditions ≡ true → Among e conditions → is_so s e ≡ true
+pub one_holds : (conditions : List Expr) (s : Bindings) (e : Expr) → list_all (is_so s) conditions ≡ true → Among e conditions → is_so s e ≡ true
 one_holds [] s e h m = absurd m
 one_holds (c ∷ cs) s e h (inl same) = ap (is_so s) (sym same) ∙ (both_true (is_so s c) (list_all (is_so s) cs) h).0
 one_holds (c ∷ cs) s e h (inr m) = one_holds cs s e (both_true (is_so s c) (list_all (is_so s) cs) h).1 m
 
-and_true : (b c : Bool) → b ≡ true → c ≡ true → (b && c) ≡ true
+pub and_true : (b c : Bool) → b ≡ true → c ≡ true → (b && c) ≡ true
 and_true true c e h = h
 and_true false c e h = cc
 
@@ -227,13 +227,13 @@ fails conditions ps es pushed r s x binds failed = by (list_all (is_so s) condit
         absurd (cc)
     by false e = e
 
-none_stay : (p : Bindings → Bool) (xs : List Bindings) → ((s : Bindings) → Among s xs → p s ≡ false) → filter p xs ≡ []
+pub none_stay : (p : Bindings → Bool) (xs : List Bindings) → ((s : Bindings) → Among s xs → p s ≡ false) → filter p xs ≡ []
 none_stay p [] f = refl
 none_stay p (x ∷ xs) f = ap (λ (b : Bool). cond b (x ∷ filter p xs) (filter p xs)) (f x (inl refl)) ∙ none_stay p xs (λ s m. f s (inr m))
 
 -- ---- a run, and what was dropped of it
 
-split_rows : (p : Bindings → Bool) (xs : List Bindings) → IsPermutation xs (filter p xs ++ filter (λ x. not (p x)) xs)
+pub split_rows : (p : Bindings → Bool) (xs : List Bindings) → IsPermutation xs (filter p xs ++ filter (λ x. not (p x)) xs)
 split_rows p [] = IsPermutation-refl []
 split_rows p (x ∷ xs) = by (p x) (split_rows p xs)
   where
@@ -245,7 +245,7 @@ split_rows p (x ∷ xs) = by (p x) (split_rows p xs)
         IsPermutation-trans (x ∷ xs) (x ∷ (filter p xs ++ left)) (filter p xs ++ x ∷ left) (IsPermutation-cons x xs (filter p xs ++ left) h)
         (IsPermutation-sym (filter p xs ++ x ∷ left) (x ∷ (filter p xs ++ left)) (IsPermutation-middle (filter p xs) x left))
 
-binds_run : (graph : List Triple) (ps : List Pattern) (rows : List Bindings) (row : Bindings) → Among row (join rows (bgp graph ps)) → Binds ps row
+pub binds_run : (graph : List Triple) (ps : List Pattern) (rows : List Bindings) (row : Bindings) → Among row (join rows (bgp graph ps)) → Binds ps row
 binds_run graph ps rows row m name among =
     let a = among_from_flat_map (merges (bgp graph ps)) row rows m in
     let b = among_from_map (merge a.0) row (filter (agree a.0) (bgp graph ps)) a.2 in
@@ -253,7 +253,7 @@ binds_run graph ps rows row m name among =
     let s = solution_of graph ps b.0 (contains_from (bgp graph ps) b.0 k.0) in
     some_term row b.0 name (term_of b.0 name) refl (s.binds name ∙ among) (λ t e. subst (λ (v : Bindings). term_of v name ≡ Some t) b.2 ((merge_extends_right a.0 b.0 k.1).has name t e))
 
-not_false : (b : Bool) → not b ≡ true → b ≡ false
+pub not_false : (b : Bool) → not b ≡ true → b ≡ false
 not_false true h = cc
 not_false false h = refl
 

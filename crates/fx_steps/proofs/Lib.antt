@@ -3,3 +3,4 @@ pub mod FilterLemmas
 pub mod PlanLemmas
 pub mod StepLemmas
 pub mod GroupLemmas
+pub mod FewerLemmas

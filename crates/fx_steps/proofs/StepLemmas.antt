@@ -42,7 +42,7 @@ to_T false h = cc
 
 -- ---- one step
 
-numbered_solutions : (n : ℕ) (ss : List Bindings) → solutions_of (numbered n ss) ≡ ss
+pub numbered_solutions : (n : ℕ) (ss : List Bindings) → solutions_of (numbered n ss) ≡ ss
 numbered_solutions n [] = refl
 numbered_solutions n (s ∷ ss) = ap (λ (v : List Bindings). s ∷ v) (numbered_solutions (suc n) ss)
 
@@ -51,7 +51,7 @@ row_solutions n [] = refl
 row_solutions n (s ∷ ss) = ap (λ (v : List Bindings). s ∷ v) (row_solutions n ss)
 
 -- a step joins the rows with the unit's patterns, and keeps those on which its filters hold
-step_solutions : (graph : List Triple) (u : unit.Unit) (rows : List Row) → solutions_of (step graph u rows) ≡ filtered u.filters (join (solutions_of rows) (bgp graph u.patterns))
+pub step_solutions : (graph : List Triple) (u : unit.Unit) (rows : List Row) → solutions_of (step graph u rows) ≡ filtered u.filters (join (solutions_of rows) (bgp graph u.patterns))
 step_solutions graph u [] = refl
 step_solutions graph u (r ∷ rows) =
     let here = merges (bgp graph u.patterns) r.solution in
@@ -170,12 +170,12 @@ filter_both p q (x ∷ xs) = by (q x) (p x) refl (filter_both p q xs)
     by false true e h = h
     by false false e h = h
 
-filtered_both : (es fs : List Expr) (rows : List Bindings) → filtered fs (filtered es rows) ≡ filtered (es ++ fs) rows
+pub filtered_both : (es fs : List Expr) (rows : List Bindings) → filtered fs (filtered es rows) ≡ filtered (es ++ fs) rows
 filtered_both es fs rows = filter_both (holds fs) (holds es) rows ∙ ap (λ (p : Bindings → Bool). filter p rows) (λ i s. holds_both es fs s i)
 
 -- ---- all steps
 
-steps_join : (graph : List Triple) (us : List unit.Unit) (rows : List Row) → AllByRecursion (λ s. IsTrue (rises s)) (solutions_of rows) → AllByRecursion HasItsVariables us
+pub steps_join : (graph : List Triple) (us : List unit.Unit) (rows : List Row) → AllByRecursion (λ s. IsTrue (rises s)) (solutions_of rows) → AllByRecursion HasItsVariables us
     → solutions_of (stepped graph us rows) ≡ filtered (unit_filters us) (join (solutions_of rows) (bgp graph (unit_patterns us)))
 steps_join graph [] rows up own = sym (filtered_by_none (solutions_of rows)) ∙ ap (filtered []) (sym (join_run graph [] (solutions_of rows) (all_T (solutions_of rows) up)))
 steps_join graph (u ∷ us) rows up own =
@@ -214,7 +214,7 @@ row_moves : (graph : List Triple) (ps qs : List Pattern) → IsPermutation ps qs
 row_moves graph ps qs moved s m =
     among_from (bgp graph qs) s (row_from graph qs s (solution_moves graph ps qs moved s (solution_of graph ps s (contains_from (bgp graph ps) s m))))
 
-bgp_moves : (graph : List Triple) (ps qs : List Pattern) → IsStrictlySortedBy triple_cmp graph → IsPermutation ps qs → IsPermutation (bgp graph ps) (bgp graph qs)
+pub bgp_moves : (graph : List Triple) (ps qs : List Pattern) → IsStrictlySortedBy triple_cmp graph → IsPermutation ps qs → IsPermutation (bgp graph ps) (bgp graph qs)
 bgp_moves graph ps qs sorted moved =
     let once = once_rising triple_cmp triples_total graph sorted in
     let back = IsPermutation-sym ps qs moved in

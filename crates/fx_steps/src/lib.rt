@@ -1,8 +1,9 @@
 //! The steps of a run: what the units of its plan make of the rows that enter it.
 //!
-//! Nothing here is called: each function is a law of the definitions in `specs/Steps.antt` and `specs/Groups.antt`, which is its contract.
+//! Nothing here is called: each function is a law of the definitions in `specs/`, which is its contract.
 #![tactic(auto)]
 
+ghost use Rattle.fx_steps.specs.Fewer.{FewerLaws};
 ghost use Rattle.fx_steps.specs.Groups.{FiltersHoldAtTheEnd, PlanComesOut};
 ghost use Rattle.fx_steps.specs.Steps.{PlanIsOfTheRun, PlanIsTheJoin, StepsAreTheJoin};
 
@@ -33,4 +34,10 @@ pub fn plan_comes_out()
 /// were pushed into a run change nothing.
 pub fn filters_hold_at_the_end()
     ensures { FiltersHoldAtTheEnd }
+{}
+
+/// Where rows that a filter of the group refuses, and goes on to refuse, are gone while a group is gone through, the rows behind its runs
+/// and operators lack only such rows, and those on which its filters hold are the same.
+pub fn fewer_rows_come_to_the_same()
+    ensures { FewerLaws }
 {}
