@@ -4,3 +4,4 @@ pub mod PlanLemmas
 pub mod StepLemmas
 pub mod GroupLemmas
 pub mod FewerLemmas
+pub mod OptionalLemmas

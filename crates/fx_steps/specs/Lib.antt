@@ -1,3 +1,4 @@
 pub mod Steps
 pub mod Groups
 pub mod Fewer
+pub mod Optionals

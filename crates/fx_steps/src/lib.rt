@@ -5,6 +5,7 @@
 
 ghost use Rattle.fx_steps.specs.Fewer.{FewerLaws};
 ghost use Rattle.fx_steps.specs.Groups.{FiltersHoldAtTheEnd, PlanComesOut};
+ghost use Rattle.fx_steps.specs.Optionals.{OptionalLaws};
 ghost use Rattle.fx_steps.specs.Steps.{PlanIsOfTheRun, PlanIsTheJoin, StepsAreTheJoin};
 
 /// The rows behind units, each of which has the variables of its filters, are those of the join of the seeds with the run that the
@@ -40,4 +41,10 @@ pub fn filters_hold_at_the_end()
 /// and operators lack only such rows, and those on which its filters hold are the same.
 pub fn fewer_rows_come_to_the_same()
     ensures { FewerLaws }
+{}
+
+/// The rows of an OPTIONAL whose group is one run, from what was found under the numbers of the rows on its left, are those of the left
+/// join.
+pub fn optional_rows_are_those_of_the_left_join()
+    ensures { OptionalLaws }
 {}
