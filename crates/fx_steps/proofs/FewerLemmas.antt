@@ -13,7 +13,7 @@ use Rattle.fx_terms.specs.declared.patterns.Pattern.{Pattern}
 use Rattle.fx_terms.proofs.SetLemmas.{Among, among_from}
 use Rattle.fx_algebra.specs.BasicGraphPatterns.{bgp, variables}
 use Rattle.fx_algebra.specs.Conditions.{holds, is_so}
-use Rattle.fx_algebra.specs.Groups.{Step, run, apply, after}
+use Rattle.fx_algebra.specs.Groups.{Step, run, apply, after, meaning}
 use Rattle.fx_algebra.specs.Operators.{diff, filtered, join, left_join, merges}
 use Rattle.fx_algebra.specs.Scopes.{is_among}
 use Rattle.fx_algebra.specs.Solutions.{Bindings, agree, merge, term_of}
@@ -25,7 +25,7 @@ use Rattle.fx_algebra.proofs.JoinLemmas.{merge_extends_right, same_join}
 use Rattle.fx_algebra.proofs.MoveLemmas.{Moves, PartMoves, StepMoves, element_moves, part_moves, steps_move}
 use Rattle.fx_algebra.proofs.OperatorLemmas.{filtered_moves, left_join_moves}
 use Rattle.fx_steps.specs.Fewer.{AreFewer, FewerAtTheEnd, FewerBehindALayer, FewerBehindARun, FewerBehindAnOperator, FewerBehindTheSteps, FewerInAnyOrder, FewerInTurn, FewerLaws, FewerOnTheRight, IsGone, NoneIsGone}
-use Rattle.fx_steps.specs.Groups.{ComesOut, IsPushed}
+use Rattle.fx_steps.specs.Groups.{ComesOut, FiltersHoldAtTheEnd, IsPushed, steps_in}
 use Rattle.fx_steps.proofs.FilterLemmas.{Binds}
 use Rattle.fx_steps.proofs.GroupLemmas.{GoesByRows, PartGoes, StepGoes, binds_run, both_true, element_goes, join_grows, kept_term, none_stay, not_false, one_holds, part_goes, split_rows, steps_go}
 use Rattle.fx_steps.proofs.StepLemmas.{in_filter}
@@ -202,6 +202,13 @@ fewer_at_the_end conditions found rows h =
     subst (λ (v : List Bindings). IsPermutation v (filtered conditions rows))
     (filter-append (holds conditions) found h.gone ∙ ap (λ (v : List Bindings). filtered conditions found ++ v) (none_held conditions h.gone h.are_gone) ∙ append-nil (filtered conditions found))
     (filtered_moves conditions (found ++ h.gone) rows h.rows_are)
+
+-- so filters that were applied to runs of a group change nothing where all its filters are applied at its end
+pub filters_hold_at_the_end : FiltersHoldAtTheEnd
+filters_hold_at_the_end g graphs down graph number rows found h =
+    let conditions = (meaning graphs down g).filters in
+    fewer_at_the_end conditions found (after graph number rows (steps_in graphs down g))
+    (fewer_behind_the_steps g graphs down conditions graph number rows rows found (none_is_gone conditions rows rows (IsPermutation-refl rows)) h)
 
 -- ---- the right of a left join
 

@@ -1,5 +1,5 @@
--- Filters that were applied to a run of a group change nothing where all its filters are applied at its end.
-use Rattle.std.proofs.Common.{◌≡◌, ◌∙◌, ap, sym, subst, refl, inl, inr, ◌⊎◌, ℕ, ◌+◌, Bool, true, false, not, ◌&&◌, ◌||◌, cond, List, [], ◌∷◌, ◌++◌, map, filter, Option, Some, None, is_some, IsPermutation, Contains, append-nil, append_assoc}
+-- What the elements of a group make of rows they make row by row, and they only add to a row. What comes out of a plan comes out of its run.
+use Rattle.std.proofs.Common.{◌≡◌, ◌∙◌, ap, sym, subst, refl, inl, inr, ◌⊎◌, ℕ, Bool, true, false, not, ◌&&◌, ◌||◌, cond, List, [], ◌∷◌, ◌++◌, map, filter, Option, Some, None, is_some, IsPermutation, Contains, append_assoc}
 use Rattle.std.specs.Prelude.{All}
 use Rattle.std.specs.List.{AllByRecursion, list_all, list_any}
 use Rattle.std.proofs.lemmas.Grind.{flat_map-append}
@@ -10,10 +10,10 @@ use Rattle.std.proofs.lemmas.List.Sorted.{IsPermutation-refl, IsPermutation-sym,
 use Rattle.fx_terms.specs.declared.terms.Term.{Term}
 use Rattle.fx_terms.specs.declared.triples.Triple.{Triple}
 use Rattle.fx_terms.specs.declared.patterns.Pattern.{Pattern}
-use Rattle.fx_terms.proofs.SetLemmas.{Among, among_from, contains_from}
+use Rattle.fx_terms.proofs.SetLemmas.{Among, contains_from}
 use Rattle.fx_algebra.specs.BasicGraphPatterns.{bgp, variables}
 use Rattle.fx_algebra.specs.Conditions.{holds, is_so}
-use Rattle.fx_algebra.specs.Groups.{Part, pattern, condition, operator, Step, run, apply, Meaning, element_meaning, group_meaning, meaning, with_pattern, with_part, steps_of, after, group_rows, alternatives, service_rows}
+use Rattle.fx_algebra.specs.Groups.{Part, pattern, condition, operator, Step, run, apply, Meaning, element_meaning, group_meaning, with_pattern, with_part, steps_of, group_rows, alternatives, service_rows}
 use Rattle.fx_algebra.specs.Operators.{join, merges, filtered, diff, left_join, minus, stays, extend, extended, with_value, inline_rows}
 use Rattle.fx_algebra.specs.Scopes.{is_among, pattern_names}
 use Rattle.fx_algebra.specs.Solutions.{Bindings, agree, merge, term_of}
@@ -27,17 +27,14 @@ use Rattle.fx_algebra.proofs.CutLemmas.{part_of}
 use Rattle.fx_algebra.proofs.ForcedLemmas.{Extends}
 use Rattle.fx_algebra.proofs.JoinLemmas.{merge_extends_left, merge_extends_right}
 use Rattle.fx_algebra.proofs.MemberLemmas.{among_cases, among_from_flat_map, among_from_map}
-use Rattle.fx_algebra.proofs.MoveLemmas.{after_moves, steps_move, StepMoves}
-use Rattle.fx_algebra.proofs.OperatorLemmas.{filtered_moves}
 use Rattle.fx_plan.specs.Laws.{IsOwn}
 use Rattle.fx_plan.specs.Plans.{plan}
 use Rattle.fx_plan.proofs.LawLemmas.{filters_are_own, filters_of_run}
-use Rattle.fx_steps.specs.Groups.{ComesOut, FiltersHoldAtTheEnd, IsPushed, PlanComesOut, steps_in}
+use Rattle.fx_steps.specs.Groups.{IsPushed, PlanComesOut}
 use Rattle.fx_steps.specs.Steps.{unit_filters, unit_patterns}
 use Rattle.fx_steps.proofs.FilterLemmas.{Binds}
 use Rattle.fx_steps.proofs.PlanLemmas.{plan_is_of_the_run, swap_fronts, same_as}
 use Rattle.fx_steps.proofs.StepLemmas.{among_flat, in_filter, plan_is_the_join, some_term}
-use Rattle.fx_steps.proofs.ValueLemmas.{AreBoundAlike, holds_alike}
 
 -- ---- two lists of rows in front of each other
 
@@ -63,9 +60,6 @@ pub record GoesByRows (f : Rows) : Type 0 where
 
 extends_itself : (s : Bindings) → Extends s s
 extends_itself s = record { has = λ name term e. e }
-
-extends_both : (r s t : Bindings) → Extends r s → Extends s t → Extends r t
-extends_both r s t h k = record { has = λ name term e. k.has name term (h.has name term e) }
 
 join_splits : (xs ys others : List Bindings) → IsPermutation (join (xs ++ ys) others) (join xs others ++ join ys others)
 join_splits xs ys others = same_as (join (xs ++ ys) others) (join xs others ++ join ys others) (flat_map-append (merges others) xs ys)
@@ -156,31 +150,7 @@ pub steps_go : (graphs : List ℕ → List Triple) (down : List ℕ) (elements :
 steps_go graphs down [] = tt
 steps_go graphs down (e ∷ es) = with_part_goes (part_of graphs down e) (steps_of (map (part_of graphs down) es)) (part_goes graphs down e) (steps_go graphs down es)
 
-after_splits : (graph : List Triple) (steps : List Step) → AllByRecursion StepGoes steps → AllByRecursion StepMoves steps → (number : ℕ) (xs ys : List Bindings)
-    → IsPermutation (after graph number (xs ++ ys) steps) (after graph number xs steps ++ after graph number ys steps)
-after_splits graph [] go move number xs ys = IsPermutation-refl (xs ++ ys)
-after_splits graph (run ps ∷ steps) go move number xs ys =
-    let b = bgp graph ps in
-    subst (λ (v : List Bindings). IsPermutation (after graph number v steps) (after graph number (join xs b) steps ++ after graph number (join ys b) steps)) (sym (flat_map-append (merges b) xs ys))
-    (after_splits graph steps go.1 move.1 number (join xs b) (join ys b))
-after_splits graph (apply o ∷ steps) go move number xs ys =
-    let n = number + o.services in
-    IsPermutation-trans (after graph n (o.rows graph number (xs ++ ys)) steps) (after graph n (o.rows graph number xs ++ o.rows graph number ys) steps) (after graph n (o.rows graph number xs) steps ++ after graph n (o.rows graph number ys) steps)
-    (after_moves graph steps move.1 n (o.rows graph number (xs ++ ys)) (o.rows graph number xs ++ o.rows graph number ys) (go.0.splits graph number xs ys))
-    (after_splits graph steps go.1 move.1 n (o.rows graph number xs) (o.rows graph number ys))
-
-after_grows : (graph : List Triple) (steps : List Step) → AllByRecursion StepGoes steps → (number : ℕ) (rows : List Bindings) (s : Bindings) → Among s (after graph number rows steps) → (r : Bindings) × Among r rows × Extends r s
-after_grows graph [] go number rows s m = (s, m, extends_itself s)
-after_grows graph (run ps ∷ steps) go number rows s m =
-    let a = after_grows graph steps go.1 number (join rows (bgp graph ps)) s m in
-    let b = join_grows rows (bgp graph ps) a.0 a.1 in
-    (b.0, b.1, extends_both b.0 a.0 s b.2 a.2)
-after_grows graph (apply o ∷ steps) go number rows s m =
-    let a = after_grows graph steps go.1 (number + o.services) (o.rows graph number rows) s m in
-    let b = go.0.grows graph number rows a.0 a.1 in
-    (b.0, b.1, extends_both b.0 a.0 s b.2 a.2)
-
--- ---- filters on a row that grows
+-- ---- what a row that grows keeps, and conditions that hold
 
 pub kept_term : (a b : Bindings) (name : List ℕ) (o : Option Term) → Extends a b → term_of a name ≡ o → is_some o ≡ true → term_of a name ≡ term_of b name
 kept_term a b name None x e h = absurd (cc)
@@ -189,16 +159,6 @@ kept_term a b name (Some t) x e h = e ∙ sym (x.has name t e)
 pub both_true : (b c : Bool) → (b && c) ≡ true → (b ≡ true) × (c ≡ true)
 both_true true c e = (refl, e)
 both_true false c e = cc
-
-names_kept : (ps : List Pattern) (a b : Bindings) → Extends a b → Binds ps a → (names : List (List ℕ)) → list_all (is_among (variables ps)) names ≡ true → AreBoundAlike a b names
-names_kept ps a b x h [] c = tt
-names_kept ps a b x h (name ∷ names) c =
-    let t = both_true (is_among (variables ps) name) (list_all (is_among (variables ps)) names) c in
-    (kept_term a b name (term_of a name) x refl (h name t.0), names_kept ps a b x h names t.1)
-
-all_kept : (conditions : List Expr) (ps : List Pattern) (a b : Bindings) → Extends a b → Binds ps a → (es : List Expr) → AllByRecursion (IsPushed conditions ps) es → AllByRecursion (λ e. AreBoundAlike a b (expr_names e)) es
-all_kept conditions ps a b x h [] c = tt
-all_kept conditions ps a b x h (e ∷ es) c = (names_kept ps a b x h (expr_names e) c.0.covered, all_kept conditions ps a b x h es c.1)
 
 -- where conditions hold, each of them does
 pub one_holds : (conditions : List Expr) (s : Bindings) (e : Expr) → list_all (is_so s) conditions ≡ true → Among e conditions → is_so s e ≡ true
@@ -209,23 +169,6 @@ one_holds (c ∷ cs) s e h (inr m) = one_holds cs s e (both_true (is_so s c) (li
 pub and_true : (b c : Bool) → b ≡ true → c ≡ true → (b && c) ≡ true
 and_true true c e h = h
 and_true false c e h = cc
-
-some_hold : (conditions : List Expr) (ps : List Pattern) (s : Bindings) → list_all (is_so s) conditions ≡ true → (es : List Expr) → AllByRecursion (IsPushed conditions ps) es → list_all (is_so s) es ≡ true
-some_hold conditions ps s h [] c = refl
-some_hold conditions ps s h (e ∷ es) c = and_true (is_so s e) (list_all (is_so s) es) (one_holds conditions s e h (among_from conditions e c.0.own)) (some_hold conditions ps s h es c.1)
-
--- where filters fail on a row, the group's filters fail on what grows of it
-fails : (conditions : List Expr) (ps : List Pattern) (es : List Expr) → AllByRecursion (IsPushed conditions ps) es → (r s : Bindings) → Extends r s → Binds ps r → holds es r ≡ false → holds conditions s ≡ false
-unfolding holds
-fails conditions ps es pushed r s x binds failed = by (list_all (is_so s) conditions) refl
-  where
-    by : (b : Bool) → list_all (is_so s) conditions ≡ b → list_all (is_so s) conditions ≡ false
-    by true e =
-        let yes : list_all (is_so s) es ≡ true = some_hold conditions ps s e es pushed in
-        let same : list_all (is_so r) es ≡ list_all (is_so s) es = holds_alike r s es (all_kept conditions ps r s x binds es pushed) in
-        let two : true ≡ false = sym yes ∙ sym same ∙ failed in
-        absurd (cc)
-    by false e = e
 
 pub none_stay : (p : Bindings → Bool) (xs : List Bindings) → ((s : Bindings) → Among s xs → p s ≡ false) → filter p xs ≡ []
 none_stay p [] f = refl
@@ -256,54 +199,6 @@ binds_run graph ps rows row m name among =
 pub not_false : (b : Bool) → not b ≡ true → b ≡ false
 not_false true h = cc
 not_false false h = refl
-
-module _ (conditions : List Expr) (graph : List Triple) (steps : List Step) (go : AllByRecursion StepGoes steps) (move : AllByRecursion StepMoves steps) where
-  -- what was dropped of a run would be dropped at the end
-  dropped : (number : ℕ) (rows : List Bindings) (ps : List Pattern) (es : List Expr) → AllByRecursion (IsPushed conditions ps) es
-      → filtered conditions (after graph number (filter (λ s. not (holds es s)) (join rows (bgp graph ps))) steps) ≡ []
-  dropped number rows ps es pushed =
-      let all = join rows (bgp graph ps) in
-      let left = filter (λ s. not (holds es s)) all in
-      none_stay (holds conditions) (after graph number left steps)
-      (λ s m.
-      let a = after_grows graph steps go number left s m in
-      let b = in_filter (λ s. not (holds es s)) a.0 all a.1 in
-      fails conditions ps es pushed a.0 s a.2 (binds_run graph ps rows a.0 b.0) (not_false (holds es a.0) b.1))
-
-  kept : (number : ℕ) (rows : List Bindings) (ps : List Pattern) (es : List Expr) → AllByRecursion (IsPushed conditions ps) es
-      → IsPermutation (filtered conditions (after graph number (filtered es (join rows (bgp graph ps))) steps)) (filtered conditions (after graph number (join rows (bgp graph ps)) steps))
-  kept number rows ps es pushed =
-      let all = join rows (bgp graph ps) in
-      let held = filtered es all in
-      let left = filter (λ s. not (holds es s)) all in
-      let whole = after graph number all steps in
-      let one = after graph number held steps in
-      let other = after graph number left steps in
-      let split : IsPermutation whole (one ++ other) =
-      IsPermutation-trans whole (after graph number (held ++ left) steps) (one ++ other) (after_moves graph steps move number all (held ++ left) (split_rows (holds es) all)) (after_splits graph steps go move number held left) in
-      let is : filtered conditions (one ++ other) ≡ filtered conditions one =
-      filter-append (holds conditions) one other ∙ ap (λ (v : List Bindings). filtered conditions one ++ v) (dropped number rows ps es pushed) ∙ append-nil (filtered conditions one) in
-      IsPermutation-sym (filtered conditions whole) (filtered conditions one) (subst (λ (v : List Bindings). IsPermutation (filtered conditions whole) v) is (filtered_moves conditions whole (one ++ other) split))
-
-all_come : (conditions : List Expr) (graph : List Triple) (steps : List Step) → AllByRecursion StepGoes steps → AllByRecursion StepMoves steps → (number : ℕ) (rows found : List Bindings) → ComesOut conditions graph number rows steps found
-    → IsPermutation (filtered conditions found) (filtered conditions (after graph number rows steps))
-all_come conditions graph [] go move number rows found h = filtered_moves conditions found rows h
-all_come conditions graph (run ps ∷ steps) go move number rows found h =
-    let next = h.0 in
-    let all = join rows (bgp graph ps) in
-    let held = filtered h.1.filters all in
-    IsPermutation-trans (filtered conditions found) (filtered conditions (after graph number next steps)) (filtered conditions (after graph number all steps)) (all_come conditions graph steps go.1 move.1 number next found h.2)
-    (IsPermutation-trans (filtered conditions (after graph number next steps)) (filtered conditions (after graph number held steps)) (filtered conditions (after graph number all steps))
-    (filtered_moves conditions (after graph number next steps) (after graph number held steps) (after_moves graph steps move.1 number next held h.1.rows_are))
-    (kept conditions graph steps go.1 move.1 number rows ps h.1.filters (recursion_from_All (IsPushed conditions ps) h.1.filters h.1.pushed)))
-all_come conditions graph (apply o ∷ steps) go move number rows found h =
-    let n = number + o.services in
-    IsPermutation-trans (filtered conditions found) (filtered conditions (after graph n h.0 steps)) (filtered conditions (after graph n (o.rows graph number rows) steps)) (all_come conditions graph steps go.1 move.1 n h.0 found h.2)
-    (filtered_moves conditions (after graph n h.0 steps) (after graph n (o.rows graph number rows) steps) (after_moves graph steps move.1 n h.0 (o.rows graph number rows) h.1))
-
-pub filters_hold_at_the_end : FiltersHoldAtTheEnd
-filters_hold_at_the_end g graphs down graph number rows found h =
-    all_come (meaning graphs down g).filters graph (steps_in graphs down g) (steps_go graphs down g.elements) (steps_move graphs down g.elements) number rows found h
 
 -- ---- plans
 
