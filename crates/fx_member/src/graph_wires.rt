@@ -65,18 +65,16 @@ impl GraphWire {
 }
 
 impl Wire for GraphWire {
-    ghost use Rattle.std.specs.Prelude.{true, None};
+    ghost use Rattle.std.specs.Prelude.{true, refl, None};
     ghost use Rattle.fx_member.specs.GraphWires.{faults_in, graph_in, log_in, IsFrontServed};
 
     ghost tells_log = { true };
 
-    ghost log = { λ wire. log_in wire };
-
-    ghost graph = { λ wire address. graph_in wire address };
-
-    ghost faults = { λ wire address. faults_in wire address };
+    ghost seen = { λ wire. record { tells_log = true; log = log_in wire; graph = graph_in wire; faults = faults_in wire } };
 
     ghost counts_alone = { true };
+
+    ghost told = { λ _. refl };
 
     /// The first bytes of the reply that a member serves to a request: all of them where it has at most `limit` bytes, and
     /// else `limit + 1`.
