@@ -3,3 +3,4 @@ pub mod GainLemmas
 pub mod CutLemmas
 pub mod NumberLemmas
 pub mod PlannedLemmas
+pub mod FewerLemmas

@@ -4,3 +4,4 @@ pub mod Batches
 pub mod Traffic
 pub mod Numbers
 pub mod Planned
+pub mod Fewer

@@ -4,6 +4,7 @@
 #![tactic(auto)]
 
 ghost use Rattle.fx_traffic.specs.Batches.{BatchLaws};
+ghost use Rattle.fx_traffic.specs.Fewer.{FewerLaws};
 ghost use Rattle.fx_traffic.specs.Gains.{GainLaws};
 ghost use Rattle.fx_traffic.specs.Numbers.{StationsHaveTheNumbers};
 ghost use Rattle.fx_traffic.specs.Planned.{PlannedLaws};
@@ -34,4 +35,9 @@ pub fn stations_have_the_numbers()
 /// it. A unit's members are among those of the patterns, and the plan of a run has a unit.
 pub fn planned_units_are_fit()
     ensures { PlannedLaws }
+{}
+
+/// What may be sent where some rows enter a run may be sent where more do, under whichever numbers, of units, under a plan and as a station.
+pub fn more_rows_may_send_more()
+    ensures { FewerLaws }
 {}
