@@ -1,7 +1,8 @@
 -- A reply that is read has no fault, and one that is too long has no other.
-use Rattle.std.proofs.Common.{◌≡◌, ◌∙◌, ap, sym, ◌<◌, ◌≤◌, length, List, ℕ, Ok, Err, arith}
+use Rattle.std.proofs.Common.{◌≡◌, ◌∙◌, ap, sym, ◌<◌, ◌≤◌, length, Bool, List, ℕ, Ok, Err, arith}
 use Rattle.fx_terms.specs.declared.triples.Triple.{Triple}
 use Rattle.fx_algebra.specs.declared.answers.Answer.{Answer}
+use Rattle.fx_algebra.specs.declared.answers.Answer.TheVariants.{Table, Truth}
 use Rattle.fx_bound.specs.Answers.{IsAnswered, read_answer}
 use Rattle.fx_bound.specs.Parts.{IsBatch, Parts}
 use Rattle.fx_bound.specs.declared.faults.BatchError.{BatchError}
@@ -13,7 +14,7 @@ use Rattle.fx_http.specs.declared.replies.ReplyError.{ReplyError}
 use Rattle.fx_http.specs.declared.replies.ReplyError.TheVariants as reply
 use Rattle.fx_http.proofs.ReplyLaws.{only_answer, reply_unique}
 use Rattle.fx_results.specs.Reading.{read_results}
-use Rattle.fx_pool.specs.Reading.{a_batch, HasFault, HasResults, IsBatchFault}
+use Rattle.fx_pool.specs.Reading.{an_ask, a_batch, HasFault, HasResults, HasUnfit, IsBatchFault, IsUnfit}
 use Rattle.fx_pool.specs.declared.faults.ReplyFault.{ReplyFault}
 use Rattle.fx_pool.specs.declared.faults.ReplyFault.TheVariants.{Batch, Foreign, Http, NotTable, NotTruth, Results}
 
@@ -28,7 +29,7 @@ refused_unread bytes reply.Length body h k = let same : IsOrMemory (Err reply.Le
 refused_unread bytes reply.Chunk body h k = let same : IsOrMemory (Err reply.Chunk) (Ok body) = only_answer bytes (Err reply.Chunk) h (Ok body) k in cc
 refused_unread bytes reply.Memory body h k = absurd h.1
 
-same_results : (bytes : List ℕ) (told other : Answer) → HasResults bytes told → HasResults bytes other → told ≡ other
+pub same_results : (bytes : List ℕ) (told other : Answer) → HasResults bytes told → HasResults bytes other → told ≡ other
 same_results bytes told other h k = let body : h.body ≡ k.body = reply_unique bytes h.body k.body h.replied.1 k.replied.1 in let same = sym h.read ∙ ap read_results body ∙ k.read in cc
 
 no_batch_fault : (p : Parts) (graph : List Triple) (told : Answer) (e : BatchError) → IsBatch p → IsAnswered graph p told → read_answer p told ≡ Err e → IsBatchFault e → ⊥
@@ -63,3 +64,39 @@ long_fault p bytes (Batch e) l h = let short : length bytes ≤ 67108864 = h.res
 long_fault p bytes NotTruth l h = absurd h.unfit
 long_fault p bytes NotTable l h = absurd h.unfit
 long_fault p bytes (Foreign row) l h = absurd h.unfit
+
+-- ---- replies to an ASK
+
+unlike_truth : (told : Answer) (truth : Bool) (why : ReplyFault) → IsUnfit an_ask told why → told ≡ Truth truth → ⊥
+unlike_truth (Truth t) truth why h e = absurd h
+unlike_truth (Table columns rows) truth why h e = cc
+
+fit_truth : (bytes : List ℕ) (truth : Bool) (why : ReplyFault) → HasResults bytes (Truth truth) → HasUnfit an_ask bytes why → ⊥
+fit_truth bytes truth why results h = unlike_truth h.told truth why h.unfit (same_results bytes h.told (Truth truth) h.results results)
+
+-- a truth value has no fault
+pub truth_faultless : (bytes : List ℕ) (truth : Bool) (why : ReplyFault) → HasResults bytes (Truth truth) → HasFault an_ask bytes why → ⊥
+truth_faultless bytes truth (Http e) results h = refused_unread bytes e results.body h results.replied
+truth_faultless bytes truth (Results e) results h =
+    let body : h.body ≡ results.body = reply_unique bytes h.body results.body h.replied.1 results.replied.1 in
+    let read : Err e ≡ Ok (Truth truth) = sym h.unread ∙ ap read_results body ∙ results.read in
+    cc
+truth_faultless bytes truth (Batch e) results h = fit_truth bytes truth (Batch e) results h
+truth_faultless bytes truth NotTruth results h = fit_truth bytes truth NotTruth results h
+truth_faultless bytes truth NotTable results h = fit_truth bytes truth NotTable results h
+truth_faultless bytes truth (Foreign row) results h = fit_truth bytes truth (Foreign row) results h
+
+long_read : (bytes : List ℕ) (why : ReplyFault) → 67108864 < length bytes → HasUnfit an_ask bytes why → ⊥
+long_read bytes why l h = let short : length bytes ≤ 67108864 = h.results.replied.0 in absurd (omega (arith, l, short))
+
+-- a reply that is too long has no other fault
+pub long_truth : (bytes : List ℕ) (why : ReplyFault) → 67108864 < length bytes → HasFault an_ask bytes why → why ≡ Http reply.TooLong
+long_truth bytes (Http e) l h =
+    let one : Err reply.TooLong ≡ Err e = only_answer bytes (Err reply.TooLong) l (Err e) h in
+    let same : e ≡ reply.TooLong = cc in
+    ap Http same
+long_truth bytes (Results e) l h = let short : length bytes ≤ 67108864 = h.replied.0 in absurd (omega (arith, l, short))
+long_truth bytes (Batch e) l h = absurd (long_read bytes (Batch e) l h)
+long_truth bytes NotTruth l h = absurd (long_read bytes NotTruth l h)
+long_truth bytes NotTable l h = absurd (long_read bytes NotTable l h)
+long_truth bytes (Foreign row) l h = absurd (long_read bytes (Foreign row) l h)

@@ -3,6 +3,7 @@ pub mod RunLemmas
 pub mod WireLemmas
 pub mod HonestLemmas
 pub mod FaultLemmas
+pub mod AskJobLemmas
 pub mod BatchLemmas
 pub mod MemberLemmas
 pub mod MembersLemmas

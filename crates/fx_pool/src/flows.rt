@@ -6,7 +6,6 @@ ghost use Rattle.fx_algebra.specs.Units.{step};
 ghost use Rattle.fx_spelling.specs.Units.{IsFit, IsSound};
 ghost use Rattle.fx_bound.specs.Answers.{AreReadOf, numbers};
 ghost use Rattle.fx_outside.specs.Endpoints.{is_sendable};
-ghost use Rattle.fx_wire.specs.Exchanges.{seen};
 ghost use Rattle.fx_pool.specs.Flows.{AskedBatch, AskedMember, AskedMembers, AskedStep, AskedUnits, lists_in, rows_in};
 ghost use Rattle.fx_pool.specs.Flows as spec;
 ghost use Rattle.fx_pool.specs.RunFlows.{RunFlowed};
@@ -58,7 +57,7 @@ pub fn run_flow<W: Wire + Send>(
     requires fit { All IsFit units.now }
     requires block { (0 < block) × (block ≤ 64) }
     requires within { All (λ u. All (λ at. at < length endpoints.now) u.members) units.now }
-    ensures { RunFlowed W.tells_log W.counts_alone (map (seen W.tells_log W.log W.graph W.faults) wires.old) (map (seen W.tells_log W.log W.graph W.faults) wires.new) endpoints.now units.now block (numbered 0 rows.now) (rows_in result) }
+    ensures { RunFlowed W.tells_log W.counts_alone (map W.seen wires.old) (map W.seen wires.new) endpoints.now units.now block (numbered 0 rows.now) (rows_in result) }
 {
     match number(alloc, rows) {
         Err(Memory) => Err(FlowError::Memory),
@@ -103,7 +102,7 @@ fn ask_units<W: Wire>(
     requires fit { All IsFit units.now }
     requires block { (0 < block) × (block ≤ 64) }
     requires within { All (λ u. All (λ at. at < length endpoints.now) u.members) units.now }
-    ensures { AskedUnits W.counts_alone (seen W.tells_log W.log W.graph W.faults wire.old) (seen W.tells_log W.log W.graph W.faults wire.new) endpoints.now units.now block first.items (rows_in result) }
+    ensures { AskedUnits W.counts_alone (W.seen wire.old) (W.seen wire.new) endpoints.now units.now block first.items (rows_in result) }
 {
     let mut rows = first;
     for unit in units {
@@ -137,7 +136,7 @@ fn ask_step<W: Wire>(
     requires fit { IsFit unit.now }
     requires block { (0 < block) × (block ≤ 64) }
     requires within { All (λ at. at < length endpoints.now) unit.now.members }
-    ensures { AskedStep W.counts_alone (seen W.tells_log W.log W.graph W.faults wire.old) (seen W.tells_log W.log W.graph W.faults wire.new) endpoints.now unit.now block rows.now (rows_in result) }
+    ensures { AskedStep W.counts_alone (W.seen wire.old) (W.seen wire.new) endpoints.now unit.now block rows.now (rows_in result) }
 {
     let mut next = Vec::new(alloc);
     let mut start = 0;
@@ -168,7 +167,7 @@ fn ask_batch<W: Wire>(
     requires fit { IsFit unit.now }
     requires few { length rows.now ≤ 64 }
     requires within { All (λ at. at < length endpoints.now) unit.now.members }
-    ensures { AskedBatch W.counts_alone (seen W.tells_log W.log W.graph W.faults wire.old) (seen W.tells_log W.log W.graph W.faults wire.new) endpoints.now (record { unit = unit.now; rows = rows.now }) (rows_in result) }
+    ensures { AskedBatch W.counts_alone (W.seen wire.old) (W.seen wire.new) endpoints.now (record { unit = unit.now; rows = rows.now }) (rows_in result) }
 {
     match batch_text(alloc, unit, rows) {
         Err(Memory) => Err(FlowError::Memory),
@@ -201,7 +200,7 @@ fn ask_members<W: Wire>(
 ) -> Result<Vec<Items<Found>>, FlowError>
     requires sendable { All (λ e. is_sendable e ≡ true) endpoints.now }
     requires within { All (λ at. at < length endpoints.now) members.now }
-    ensures { AskedMembers W.counts_alone (seen W.tells_log W.log W.graph W.faults wire.old) (seen W.tells_log W.log W.graph W.faults wire.new) endpoints.now batch.now members.now (lists_in result) }
+    ensures { AskedMembers W.counts_alone (W.seen wire.old) (W.seen wire.new) endpoints.now batch.now members.now (lists_in result) }
 {
     let mut lists = Vec::new(alloc);
     for at in members {
@@ -227,7 +226,7 @@ fn ask_member<W: Wire>(
 ) -> Result<Items<Found>, FlowError>
     requires sendable { All (λ e. is_sendable e ≡ true) endpoints.now }
     requires within { at < length endpoints.now }
-    ensures { AskedMember W.counts_alone (seen W.tells_log W.log W.graph W.faults wire.old) (seen W.tells_log W.log W.graph W.faults wire.new) endpoints.now batch.now at result }
+    ensures { AskedMember W.counts_alone (W.seen wire.old) (W.seen wire.new) endpoints.now batch.now at result }
 {
     let _branches = batch.branches();
     let endpoint = &endpoints[at as usize];

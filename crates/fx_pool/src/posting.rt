@@ -37,12 +37,12 @@ pub(crate) fn post<W: Wire>(
 ) -> Result<Posted, Memory>
     requires sendable { is_sendable at.now ≡ true }
     ensures posted { IfOk result (λ posted. spec.IsPosted at.now text.now posted) }
-    ensures logged { IsTrue W.tells_log → W.log wire.new ≡ W.log wire.old ++ spec.exchanges_in at.now result }
-    ensures honest { IfOk result (λ posted. spec.AreHonest (W.graph wire.old) (spec.exchanges_of at.now posted)) }
-    ensures same { (address : List ℕ) → W.graph wire.new address ≡ W.graph wire.old address }
-    ensures kept { (address : List ℕ) → W.faults wire.old address ≤ W.faults wire.new address }
-    ensures counted { W.faults wire.new at.now.iri ≡ W.faults wire.old at.now.iri + spec.failures_in result }
-    ensures others { IsTrue W.counts_alone → (address : List ℕ) → address ≢ at.now.iri → W.faults wire.new address ≡ W.faults wire.old address }
+    ensures logged { IsTrue (W.seen wire.old).tells_log → (W.seen wire.new).log ≡ (W.seen wire.old).log ++ spec.exchanges_in at.now result }
+    ensures honest { IfOk result (λ posted. spec.AreHonest (W.seen wire.old).graph (spec.exchanges_of at.now posted)) }
+    ensures same { (address : List ℕ) → (W.seen wire.new).graph address ≡ (W.seen wire.old).graph address }
+    ensures kept { (address : List ℕ) → (W.seen wire.old).faults address ≤ (W.seen wire.new).faults address }
+    ensures counted { (W.seen wire.new).faults at.now.iri ≡ (W.seen wire.old).faults at.now.iri + spec.failures_in result }
+    ensures others { IsTrue W.counts_alone → (address : List ℕ) → address ≢ at.now.iri → (W.seen wire.new).faults address ≡ (W.seen wire.old).faults address }
 {
     let length = text.len() as u64;
     if length > LONGEST {

@@ -1,7 +1,6 @@
 //! Jobs over wires.
 ghost use Rattle.std.specs.Prelude.{◌≡◌, ◌<◌, [], ◌∷◌, ◌≤◌, All, IfOk, true, length, map};
 ghost use Rattle.fx_outside.specs.Endpoints.{is_sendable};
-ghost use Rattle.fx_wire.specs.Exchanges.{seen};
 ghost use Rattle.fx_pool.specs.Jobs.{IsReplyTo, Tells};
 ghost use Rattle.fx_pool.specs.Runs.{WireDid, WiresDid, all_replies, one_reply};
 ghost use Rattle.fx_pool.specs.Telling.{GivesFoundReply, GivesTableReply, GivesTold, GivesTruthReply};
@@ -34,7 +33,7 @@ pub fn run_jobs<W: Wire + Send>(
     requires sendable { All (λ e. is_sendable e ≡ true) endpoints.now }
     requires within { All (λ j. j.at < length endpoints.now) jobs.now }
     requires few { length jobs.now < 4294967296 }
-    ensures { WiresDid W.tells_log W.counts_alone (map (seen W.tells_log W.log W.graph W.faults) wires.old) (map (seen W.tells_log W.log W.graph W.faults) wires.new) endpoints.now jobs.now (all_replies result) }
+    ensures { WiresDid W.tells_log W.counts_alone (map W.seen wires.old) (map W.seen wires.new) endpoints.now jobs.now (all_replies result) }
 {
     do_all(alloc, &mut wires[0], endpoints, jobs)
 }
@@ -48,7 +47,7 @@ fn do_all<W: Wire>(
 ) -> Result<Vec<JobReply>, Memory>
     requires sendable { All (λ e. is_sendable e ≡ true) endpoints.now }
     requires within { All (λ j. j.at < length endpoints.now) jobs.now }
-    ensures { WireDid W.counts_alone (seen W.tells_log W.log W.graph W.faults wire.old) (seen W.tells_log W.log W.graph W.faults wire.new) endpoints.now jobs.now (all_replies result) }
+    ensures { WireDid W.counts_alone (W.seen wire.old) (W.seen wire.new) endpoints.now jobs.now (all_replies result) }
 {
     let mut replies = Vec::new(alloc);
     for job in jobs {
@@ -73,7 +72,7 @@ fn do_job<W: Wire>(
 ) -> Result<JobReply, Memory>
     requires sendable { All (λ e. is_sendable e ≡ true) endpoints.now }
     requires within { job.now.at < length endpoints.now }
-    ensures { WireDid W.counts_alone (seen W.tells_log W.log W.graph W.faults wire.old) (seen W.tells_log W.log W.graph W.faults wire.new) endpoints.now (job.now ∷ []) (one_reply result) }
+    ensures { WireDid W.counts_alone (W.seen wire.old) (W.seen wire.new) endpoints.now (job.now ∷ []) (one_reply result) }
 {
     let at = &endpoints[job.at as usize];
     match post(alloc, wire, at, job.work.text()) {

@@ -6,7 +6,6 @@ use Rattle.fx_algebra.specs.Graphs.{union}
 use Rattle.fx_algebra.specs.Units.{step}
 use Rattle.fx_algebra.specs.declared.units.Row.{Row}
 use Rattle.fx_spelling.specs.Units.{IsSound}
-use Rattle.fx_wire.specs.Exchanges.{seen}
 use Rattle.fx_bound.specs.Answers.{AreReadOf, numbers}
 use Rattle.fx_bound.specs.Parts.{Parts}
 use Rattle.fx_bound.specs.declared.founds.Found.{Found}
@@ -17,7 +16,7 @@ use Rattle.fx_pool.proofs.flows.ask_batch.Goals as goal
 
 pub returns-in-Err : goal.returns-in-Err
 returns-in-Err g c =
-    let see = seen g.W.Wire.tells_log g.W.Wire.log g.W.Wire.graph g.W.Wire.faults c.args.wire.now in
+    let see = g.W.Wire.seen c.args.wire.now in
     unasked g.W.Wire.counts_alone see see c.args.endpoints.now (record { unit = c.args.unit.now; rows = c.args.rows.now }) refl
 
 pub united-requires : goal.united-requires
@@ -30,7 +29,7 @@ Unites result p lists = (graphs : List (List Triple)) → IsSound graphs p.unit 
 
 pub returns : goal.returns
 returns g c =
-    let see = seen g.W.Wire.tells_log g.W.Wire.log g.W.Wire.graph g.W.Wire.faults in
+    let see = g.W.Wire.seen in
     let s = see c.args.wire.now in
     let t = see c.ask_members.new.wire in
     let es = c.args.endpoints.now in

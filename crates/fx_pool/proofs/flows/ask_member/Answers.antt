@@ -1,8 +1,8 @@
 use Rattle.std.proofs.Common.{◌≡◌, refl, sym, subst, length, List, [], Some, Ok, slice_get}
 use Rattle.std.proofs.lemmas.List.Elements.{All-from_recursion}
 use Rattle.std.proofs.lemmas.Option.{slice_get_read}
-use Rattle.fx_wire.specs.Exchanges.{seen}
 use Rattle.fx_bound.specs.declared.founds.Found.{Found}
+use Rattle.fx_outside.proofs.AlikeLemmas.{alike}
 use Rattle.fx_pool.specs.Flows.{AskedMember}
 use Rattle.fx_pool.specs.Posting.{IsHonestAt, failures_of}
 use Rattle.fx_pool.proofs.MemberLemmas.{asked_in_vain, asked_member, asked_nothing, counted_at_most}
@@ -10,7 +10,7 @@ use Rattle.fx_pool.proofs.flows.ask_member.Goals as goal
 
 pub returns-in-None : goal.returns-in-None
 returns-in-None g c =
-    let see = seen g.W.Wire.tells_log g.W.Wire.log g.W.Wire.graph g.W.Wire.faults c.args.wire.now in
+    let see = g.W.Wire.seen c.args.wire.now in
     let es = c.args.endpoints.now in
     let e = c.index-endpoints-at.result in
     let found : slice_get es c.args.at ≡ Some e = slice_get_read es (length es) c.args.at e refl c.requires.within c.index-endpoints-at.is in
@@ -19,18 +19,18 @@ returns-in-None g c =
 
 pub returns-in-Err : goal.returns-in-Err
 returns-in-Err g c =
-    let see = seen g.W.Wire.tells_log g.W.Wire.log g.W.Wire.graph g.W.Wire.faults in
+    let see = g.W.Wire.seen in
     let es = c.args.endpoints.now in
     let e = c.index-endpoints-at.result in
     let found : slice_get es c.args.at ≡ Some e = slice_get_read es (length es) c.args.at e refl c.requires.within c.index-endpoints-at.is in
     asked_in_vain g.W.Wire.counts_alone es c.args.batch.now c.args.at e found c.branches-branches.ensures.known (see c.args.wire.now) (see c.post.new.wire) c.in-Some.text.now (sym c.in-Some.ensures.exact) c.in-Some.ensures.accepted
-    (record { logged = c.in-Err.ensures.logged; honest = All-from_recursion (IsHonestAt (g.W.Wire.graph c.args.wire.now)) [] tt; same = c.in-Err.ensures.same; tells = refl; kept = c.in-Err.ensures.kept; counted = counted_at_most g.W.Wire.counts_alone (see c.args.wire.now) (see c.post.new.wire) e.iri 0 c.in-Err.ensures.counted c.in-Err.ensures.others })
+    (record { logged = c.in-Err.ensures.logged; honest = All-from_recursion (IsHonestAt (g.W.Wire.seen c.args.wire.now).graph) [] tt; same = c.in-Err.ensures.same; tells = alike g.met.W.Wire.told c.post.new.wire c.args.wire.now; kept = c.in-Err.ensures.kept; counted = counted_at_most g.W.Wire.counts_alone (see c.args.wire.now) (see c.post.new.wire) e.iri 0 c.in-Err.ensures.counted c.in-Err.ensures.others })
 
 pub returns-in-Ok : goal.returns-in-Ok
 returns-in-Ok g c =
-    let see = seen g.W.Wire.tells_log g.W.Wire.log g.W.Wire.graph g.W.Wire.faults in
+    let see = g.W.Wire.seen in
     let es = c.args.endpoints.now in
     let e = c.index-endpoints-at.result in
     let found : slice_get es c.args.at ≡ Some e = slice_get_read es (length es) c.args.at e refl c.requires.within c.index-endpoints-at.is in
     asked_member g.W.Wire.counts_alone es c.args.batch.now c.args.at e found c.branches-branches.ensures.known (see c.args.wire.now) (see c.post.new.wire) c.in-Some.text.now (sym c.in-Some.ensures.exact) c.in-Some.ensures.accepted c.in-Ok.posted c.found_by.result c.in-Ok.ensures.posted
-    (record { logged = c.in-Ok.ensures.logged; honest = c.in-Ok.ensures.honest; same = c.in-Ok.ensures.same; tells = refl; kept = c.in-Ok.ensures.kept; counted = counted_at_most g.W.Wire.counts_alone (see c.args.wire.now) (see c.post.new.wire) e.iri (failures_of c.in-Ok.posted) c.in-Ok.ensures.counted c.in-Ok.ensures.others }) c.in-Ok.ensures.counted c.found_by.ensures
+    (record { logged = c.in-Ok.ensures.logged; honest = c.in-Ok.ensures.honest; same = c.in-Ok.ensures.same; tells = alike g.met.W.Wire.told c.post.new.wire c.args.wire.now; kept = c.in-Ok.ensures.kept; counted = counted_at_most g.W.Wire.counts_alone (see c.args.wire.now) (see c.post.new.wire) e.iri (failures_of c.in-Ok.posted) c.in-Ok.ensures.counted c.in-Ok.ensures.others }) c.in-Ok.ensures.counted c.found_by.ensures

@@ -1,6 +1,5 @@
 use Rattle.std.proofs.Common.{rules, ◌≡◌, ◌∙◌, ◌+◌, ◌++◌, ◌∷◌, [], ap, sym, subst, ℕ, List, Ok, get_or, take, drop, take-append-drop}
 use Rattle.std.proofs.lemmas.List.{take_more}
-use Rattle.fx_wire.specs.Exchanges.{seen}
 use Rattle.fx_bound.specs.declared.founds.Found.{Found}
 use Rattle.fx_pool.specs.Flows.{AskedMembers}
 use Rattle.fx_pool.proofs.MembersLemmas.{asked_none, lost, one_more, stopped}
@@ -8,12 +7,12 @@ use Rattle.fx_pool.proofs.flows.ask_members.Goals as goal
 
 pub loop-at-init : goal.loop-at-init
 loop-at-init g c =
-    let see = seen g.W.Wire.tells_log g.W.Wire.log g.W.Wire.graph g.W.Wire.faults c.args.wire.now in
+    let see = g.W.Wire.seen c.args.wire.now in
     subst (λ (v : List (List Found)). AskedMembers g.W.Wire.counts_alone see see c.args.endpoints.now c.args.batch.now [] (Ok v)) (sym c.new-lists.ensures.items) (asked_none g.W.Wire.counts_alone see c.args.endpoints.now c.args.batch.now)
 
 pub returns-in-Err : goal.returns-in-Err
 returns-in-Err g c =
-    let see = seen g.W.Wire.tells_log g.W.Wire.log g.W.Wire.graph g.W.Wire.faults in
+    let see = g.W.Wire.seen in
     let ms = c.args.members.now in
     let k = c.loop-at.at-index in
     let m = get_or ms k 0 in
@@ -23,7 +22,7 @@ returns-in-Err g c =
 
 pub returns-then-is_err : goal.returns-then-is_err
 returns-then-is_err g c =
-    let see = seen g.W.Wire.tells_log g.W.Wire.log g.W.Wire.graph g.W.Wire.faults in
+    let see = g.W.Wire.seen in
     let ms = c.args.members.now in
     let k = c.loop-at.at-index in
     let m = get_or ms k 0 in
@@ -33,7 +32,7 @@ returns-then-is_err g c =
 
 pub loop-at-preserved : goal.loop-at-preserved
 loop-at-preserved g c =
-    let see = seen g.W.Wire.tells_log g.W.Wire.log g.W.Wire.graph g.W.Wire.faults in
+    let see = g.W.Wire.seen in
     let ms = c.args.members.now in
     let k = c.loop-at.at-index in
     let m = get_or ms k 0 in

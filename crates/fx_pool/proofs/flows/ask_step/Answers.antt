@@ -1,14 +1,13 @@
 use Rattle.std.proofs.Common.{rules, ◌≡◌, ◌+◌, ◌-◌, ◌++◌, sym, subst, ◌≤◌, List, [], length, slice_range, take, drop, arith}
 use Rattle.std.proofs.lemmas.List.{take_all}
 use Rattle.fx_algebra.specs.declared.units.Row.{Row}
-use Rattle.fx_wire.specs.Exchanges.{seen}
 use Rattle.fx_pool.specs.Flows.{AskedSoFar}
 use Rattle.fx_pool.proofs.StepLemmas.{batch_more, is_chunk, nothing_yet, step_done, step_lost, step_stopped}
 use Rattle.fx_pool.proofs.flows.ask_step.Goals as goal
 
 pub loop-start-init : goal.loop-start-init
 loop-start-init g c =
-    let see = seen g.W.Wire.tells_log g.W.Wire.log g.W.Wire.graph g.W.Wire.faults c.args.wire.now in
+    let see = g.W.Wire.seen c.args.wire.now in
     record {
       within = omega arith;
       asked =
@@ -18,7 +17,7 @@ loop-start-init g c =
 
 pub returns-in-Err : goal.returns-in-Err
 returns-in-Err g c =
-    let see = seen g.W.Wire.tells_log g.W.Wire.log g.W.Wire.graph g.W.Wire.faults in
+    let see = g.W.Wire.seen in
     let rows = c.args.rows.now in
     let k = c.loop-start.start in
     let n = c.min.result in
@@ -28,7 +27,7 @@ returns-in-Err g c =
 
 pub returns-then-is_err : goal.returns-then-is_err
 returns-then-is_err g c =
-    let see = seen g.W.Wire.tells_log g.W.Wire.log g.W.Wire.graph g.W.Wire.faults in
+    let see = g.W.Wire.seen in
     let rows = c.args.rows.now in
     let k = c.loop-start.start in
     let n = c.min.result in
@@ -38,7 +37,7 @@ returns-then-is_err g c =
 
 pub loop-start-preserved : goal.loop-start-preserved
 loop-start-preserved g c =
-    let see = seen g.W.Wire.tells_log g.W.Wire.log g.W.Wire.graph g.W.Wire.faults in
+    let see = g.W.Wire.seen in
     let rows = c.args.rows.now in
     let k = c.loop-start.start in
     let n = c.min.result in
@@ -56,7 +55,7 @@ loop-start-preserved g c =
 
 pub returns : goal.returns
 returns g c =
-    let see = seen g.W.Wire.tells_log g.W.Wire.log g.W.Wire.graph g.W.Wire.faults in
+    let see = g.W.Wire.seen in
     let rows = c.args.rows.now in
     let whole : take c.loop-start.start rows ≡ rows = take_all c.loop-start.start rows (omega arith) in
     step_done g.W.Wire.counts_alone (see c.args.wire.now) (see c.loop-start.wire) c.args.endpoints.now c.args.unit.now c.args.block rows c.loop-start.next.items c.requires.block.0

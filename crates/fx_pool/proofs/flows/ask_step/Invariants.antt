@@ -1,12 +1,11 @@
 use Rattle.std.proofs.Common.{◌-◌, ◌≤◌, length, take}
-use Rattle.fx_wire.specs.Exchanges.{seen}
 use Rattle.fx_pool.specs.Flows.{AskedSoFar}
 use Rattle.fx_pool.proofs.flows.ask_step.Given as goal
 
 abbrev pub invariant-loop-start : goal.invariant-loop-start
 invariant-loop-start g l = record {
   within : l.start ≤ length l.rows;
-  asked : AskedSoFar g.W.Wire.counts_alone (seen g.W.Wire.tells_log g.W.Wire.log g.W.Wire.graph g.W.Wire.faults l.initial.wire) (seen g.W.Wire.tells_log g.W.Wire.log g.W.Wire.graph g.W.Wire.faults l.wire) l.endpoints l.unit l.block (length l.rows) (take l.start l.rows) l.next.items;
+  asked : AskedSoFar g.W.Wire.counts_alone (g.W.Wire.seen l.initial.wire) (g.W.Wire.seen l.wire) l.endpoints l.unit l.block (length l.rows) (take l.start l.rows) l.next.items;
 }
 
 abbrev pub decreases-loop-start : goal.decreases-loop-start

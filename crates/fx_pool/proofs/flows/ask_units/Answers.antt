@@ -2,17 +2,16 @@ use Rattle.std.proofs.Common.{◌≡◌, ◌∙◌, ◌+◌, ◌∷◌, [], ◌<
 use Rattle.std.proofs.lemmas.List.Elements.{Contains-get_or}
 use Rattle.fx_algebra.specs.declared.units.Row.{Row}
 use Rattle.fx_algebra.specs.declared.units.Unit as unit
-use Rattle.fx_wire.specs.Exchanges.{seen}
 use Rattle.fx_pool.specs.Flows.{AskedStep}
 use Rattle.fx_pool.proofs.UnitsLemmas.{all_asked, none_left, none_yet, run_stopped, unit_more}
 use Rattle.fx_pool.proofs.flows.ask_units.Goals as goal
 
 pub loop-unit-init : goal.loop-unit-init
-loop-unit-init g c = none_yet g.W.Wire.counts_alone (seen g.W.Wire.tells_log g.W.Wire.log g.W.Wire.graph g.W.Wire.faults c.args.wire.now) c.args.endpoints.now c.args.units.now c.args.block c.args.first.items
+loop-unit-init g c = none_yet g.W.Wire.counts_alone (g.W.Wire.seen c.args.wire.now) c.args.endpoints.now c.args.units.now c.args.block c.args.first.items
 
 pub returns-then-is_none : goal.returns-then-is_none
 returns-then-is_none g c =
-    let see = seen g.W.Wire.tells_log g.W.Wire.log g.W.Wire.graph g.W.Wire.faults in
+    let see = g.W.Wire.seen in
     let us = c.args.units.now in
     let none : c.loop-unit.rows.items ≡ [] = sym c.as_slice.ensures.value ∙ c.is_none.ensures c.if-is_none.true in
     none_left g.W.Wire.counts_alone (see c.args.wire.now) (see c.loop-unit.wire) c.args.endpoints.now us (drop c.loop-unit.unit-index us) c.args.block c.args.first.items c.loop-unit.rows.items c.loop-unit.invariant none
@@ -25,7 +24,7 @@ from_one us k u below is =
 
 pub returns-in-Err : goal.returns-in-Err
 returns-in-Err g c =
-    let see = seen g.W.Wire.tells_log g.W.Wire.log g.W.Wire.graph g.W.Wire.faults in
+    let see = g.W.Wire.seen in
     let us = c.args.units.now in
     let k = c.loop-unit.unit-index in
     let u = c.unit-item.result in
@@ -36,7 +35,7 @@ returns-in-Err g c =
 
 pub loop-unit-preserved : goal.loop-unit-preserved
 loop-unit-preserved g c =
-    let see = seen g.W.Wire.tells_log g.W.Wire.log g.W.Wire.graph g.W.Wire.faults in
+    let see = g.W.Wire.seen in
     let us = c.args.units.now in
     let k = c.loop-unit.unit-index in
     let u = c.unit-item.result in
@@ -47,6 +46,6 @@ loop-unit-preserved g c =
 
 pub returns : goal.returns
 returns g c =
-    let see = seen g.W.Wire.tells_log g.W.Wire.log g.W.Wire.graph g.W.Wire.faults in
+    let see = g.W.Wire.seen in
     let us = c.args.units.now in
     all_asked g.W.Wire.counts_alone (see c.args.wire.now) (see c.loop-unit.wire) c.args.endpoints.now us (drop c.loop-unit.unit-index us) c.args.block c.args.first.items c.loop-unit.rows.items c.loop-unit.invariant (drop_of_length-le us c.loop-unit-test.false)

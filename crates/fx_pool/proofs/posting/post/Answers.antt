@@ -6,7 +6,7 @@ use Rattle.fx_pool.proofs.posting.post.Goals as goal
 
 pub returns-in-Ok-clause-honest : goal.returns-in-Ok-clause-honest
 returns-in-Ok-clause-honest g c =
-    let graph = g.W.Wire.graph c.args.wire.now in
+    let graph = (g.W.Wire.seen c.args.wire.now).graph in
     let e = c.args.at.now in
     let request : c.as_slice.result.now ≡ c.from_vec.result = c.as_slice.ensures.value ∙ sym c.from_vec.ensures in
     let reply : c.in-Ok.reply.items ≡ c.from_vec-in-Ok.result = sym c.from_vec-in-Ok.ensures in

@@ -1,6 +1,5 @@
 use Rattle.std.proofs.Common.{rules, ◌≡◌, ◌∙◌, ◌+◌, ◌++◌, ◌∷◌, [], ap, sym, subst, List, Some, take}
 use Rattle.std.proofs.lemmas.List.{take_more}
-use Rattle.fx_wire.specs.Exchanges.{seen}
 use Rattle.fx_pool.specs.Runs.{WireDid}
 use Rattle.fx_pool.specs.declared.jobs.Job.{Job}
 use Rattle.fx_pool.specs.declared.jobs.JobReply.{JobReply}
@@ -9,12 +8,12 @@ use Rattle.fx_pool.proofs.running.do_all.Goals as goal
 
 pub loop-job-init : goal.loop-job-init
 loop-job-init g c =
-    let see = seen g.W.Wire.tells_log g.W.Wire.log g.W.Wire.graph g.W.Wire.faults c.args.wire.now in
+    let see = g.W.Wire.seen c.args.wire.now in
     subst (λ (v : List JobReply). WireDid g.W.Wire.counts_alone see see c.args.endpoints.now [] (Some v)) (sym c.new-replies.ensures.items) (did_nothing g.W.Wire.counts_alone see c.args.endpoints.now)
 
 pub returns-in-Err : goal.returns-in-Err
 returns-in-Err g c =
-    let see = seen g.W.Wire.tells_log g.W.Wire.log g.W.Wire.graph g.W.Wire.faults in
+    let see = g.W.Wire.seen in
     let js = c.args.jobs.now in
     let k = c.loop-job.job-index in
     let j = c.job-item.result in
@@ -23,7 +22,7 @@ returns-in-Err g c =
 
 pub returns-then-is_err : goal.returns-then-is_err
 returns-then-is_err g c =
-    let see = seen g.W.Wire.tells_log g.W.Wire.log g.W.Wire.graph g.W.Wire.faults in
+    let see = g.W.Wire.seen in
     let js = c.args.jobs.now in
     let k = c.loop-job.job-index in
     let j = c.job-item.result in
@@ -32,7 +31,7 @@ returns-then-is_err g c =
 
 pub loop-job-preserved : goal.loop-job-preserved
 loop-job-preserved g c =
-    let see = seen g.W.Wire.tells_log g.W.Wire.log g.W.Wire.graph g.W.Wire.faults in
+    let see = g.W.Wire.seen in
     let js = c.args.jobs.now in
     let k = c.loop-job.job-index in
     let j = c.job-item.result in
