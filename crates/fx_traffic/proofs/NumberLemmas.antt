@@ -205,5 +205,9 @@ group_numbered x y is =
 numbered : (g : Group) → GroupNumbered g
 numbered = ind-Group ElementNumbered GroupNumbered element_numbered group_numbered
 
+-- a group counts its occurrences
+pub services_are_counted : (g : Group) → (meaning no_graphs [] g).services ≡ length (of_group g)
+services_are_counted g = (numbered g).counted
+
 pub stations_have_the_numbers : StationsHaveTheNumbers
 stations_have_the_numbers text q accepted = (numbered q.group).numbered (accepted_is_printable text q accepted).group 0 []
