@@ -1,6 +1,7 @@
 //! What the calls of each table give.
 
 use crate::{commands, runs, served};
+use fx_bound_cases::batches;
 use fx_plan_cases::{engine, plans, registries, sources};
 use fx_text_cases::{
     algebra, expressions, ntriples, print, results, solutions, syntax, terms, tokens,
@@ -29,6 +30,7 @@ pub fn answer(alloc: Global, table: &str, call: &str, inputs: &[&str]) -> Option
         "registries" => registries::answer(alloc, call, inputs),
         "sources" => sources::answer(alloc, call, inputs),
         "plans" => plans::answer(alloc, call, inputs),
+        "batches" => batches::answer(alloc, call, inputs),
         "engine" => engine::answer(alloc, call, inputs),
         "commands" => commands::answer(alloc, call, inputs),
         "runs" => runs::answer(alloc, call, inputs),

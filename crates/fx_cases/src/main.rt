@@ -15,7 +15,7 @@ use std::{fs, io};
 use tables::{Outcome, try_table};
 
 // The tables, in the order of the crates whose calls they try.
-const TABLES: [&str; 22] = [
+const TABLES: [&str; 23] = [
     "terms",
     "outside",
     "ntriples",
@@ -33,6 +33,7 @@ const TABLES: [&str; 22] = [
     "registries",
     "sources",
     "plans",
+    "batches",
     "engine",
     "commands",
     "runs",

@@ -1,0 +1,7 @@
+use Rattle.std.proofs.Common.{◌≡◌, ◌++◌, drop, map}
+use Rattle.std.specs.List.{flat_map}
+use Rattle.fx_bound_cases.specs.LoneRuns as spec
+use Rattle.fx_bound_cases.proofs.runs.patterns_of.Given as goal
+
+abbrev pub invariant-loop-element : goal.invariant-loop-element
+invariant-loop-element l = l.patterns ++ flat_map spec.part_patterns (map spec.part_of (drop l.element-index l.elements)) ≡ flat_map spec.part_patterns (map spec.part_of l.elements)
