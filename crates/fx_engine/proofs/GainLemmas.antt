@@ -15,7 +15,7 @@ use Rattle.fx_engine.specs.MemberQueries.{is_literal, IsAsked}
 use Rattle.fx_sources.specs.Sources.{ask_text}
 use Rattle.fx_sources.specs.declared.probes.Probe.{Probe}
 use Rattle.fx_engine.specs.Federation.{Question, rows_of, fit_of, IsPostedOnce, IsPostedAtMost, AreSent, AreBegun, Gained, member_questions, source_questions, row_questions, probe_question, probe_questions}
-use Rattle.fx_engine.proofs.FitLemmas.{ask_accepted}
+use Rattle.fx_engine.proofs.AskTextLemmas.{ask_accepted}
 use Rattle.fx_engine.proofs.SourceLemmas.{map_both}
 
 -- ---- logs

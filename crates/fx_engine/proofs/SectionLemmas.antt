@@ -6,8 +6,7 @@ use Rattle.std.proofs.lemmas.Grind.{flat_map-append}
 use Rattle.fx_terms.specs.declared.patterns.Pattern.{Pattern}
 use Rattle.fx_algebra.specs.Answers.{no_graphs}
 use Rattle.fx_algebra.specs.BasicGraphPatterns.{variables}
-use Rattle.fx_algebra.specs.Groups.{Cut, Meaning, Part, pattern, condition, operator, Step, with_pattern, steps_of, stations_of, conditions_of, keeps_run, names_of_part, names_before, group_cut, alternative_stations, element_meaning, group_meaning}
-use Rattle.fx_algebra.specs.Groups as step
+use Rattle.fx_algebra.specs.Groups.{Cut, Meaning, Part, pattern, condition, operator, Step, steps_of, stations_of, conditions_of, keeps_run, names_of_part, names_before, group_cut, alternative_stations, element_meaning, group_meaning}
 use Rattle.fx_algebra.specs.Scopes.{mentions}
 use Rattle.fx_algebra.specs.declared.expressions.Expr.{Expr}
 use Rattle.fx_algebra.specs.declared.queries.Element.{Element, Element-F, map-Element, fold-roll-Element, roll-Element, ind-Element}
@@ -16,28 +15,11 @@ use Rattle.fx_algebra.specs.declared.queries.Group.{Group, Group-F, ind-Group, f
 use Rattle.fx_algebra.specs.declared.queries.Query.{Query}
 use Rattle.fx_algebra.proofs.CutLemmas.{part_binds}
 use Rattle.fx_sources.specs.Patterns as all
+use Rattle.fx_engine.specs.GroupsAsked.{with_run}
+use Rattle.fx_engine.proofs.RunLemmas.{run_alone, run_first, run_more}
 use Rattle.fx_engine.specs.SectionSteps.{part_of, group_of, part_patterns, part_filters, sections_in, inside_of, alternatives, run_of, sections_from}
 use Rattle.fx_engine.specs.Sections.{run_patterns, section_of, sections}
 use Rattle.fx_engine.specs.declared.sections.Section.{Section}
-
--- ---- a run in front of steps
-
-abbrev with_run : List Pattern → List Step → List Step
-with_run [] steps = steps
-with_run (p ∷ ps) steps = with_pattern p (with_run ps steps)
-
-run_more : (ps : List Pattern) (p : Pattern) (steps : List Step) → with_run ps (with_pattern p steps) ≡ with_run (ps ++ p ∷ []) steps
-run_more [] p steps = refl
-run_more (q ∷ ps) p steps = ap (with_pattern q) (run_more ps p steps)
-
-run_alone : (p : Pattern) (ps : List Pattern) → with_run (p ∷ ps) [] ≡ step.run (p ∷ ps) ∷ []
-run_alone p [] = refl
-run_alone p (q ∷ ps) = ap (with_pattern p) (run_alone q ps)
-
-run_first : (p : Pattern) (ps : List Pattern) (apply_first : Step) (steps : List Step) → ((q : Pattern) → with_pattern q (apply_first ∷ steps) ≡ step.run (q ∷ []) ∷ apply_first ∷ steps)
-    → with_run (p ∷ ps) (apply_first ∷ steps) ≡ step.run (p ∷ ps) ∷ apply_first ∷ steps
-run_first p [] o steps h = h p
-run_first p (q ∷ ps) o steps h = ap (with_pattern p) (run_first q ps o steps h)
 
 -- ---- the numbers of SERVICE make no difference to sections
 
@@ -65,13 +47,13 @@ from_steps es number known [] (operator o ∷ parts) h =
 from_steps es number known (p ∷ ps) (operator o ∷ parts) h =
     let inner = known ++ variables (p ∷ ps) in
     let rest = stations_of es (number + o.services) (inner ++ o.cut.names) (steps_of parts) in
-    ap (λ (v : List Step). map section_of (stations_of es number known v)) (run_first p ps (step.apply o) (steps_of parts) (λ q. refl))
+    ap (λ (v : List Step). map section_of (stations_of es number known v)) (run_first p ps o (steps_of parts))
     ∙ ap (λ (v : List Section). run_of es known (p ∷ ps) ++ v)
     (map-append section_of (o.cut.stations number inner) rest
     ∙ ap (λ (v : List Section). v ++ map section_of rest) (h.0 number inner)
     ∙ ap (λ (v : List Section). sections_in o.cut inner ++ v) (from_steps es (number + o.services) (inner ++ o.cut.names) [] parts h.1))
 
-filters_are : (parts : List Part) → conditions_of parts ≡ flat_map part_filters parts
+pub filters_are : (parts : List Part) → conditions_of parts ≡ flat_map part_filters parts
 filters_are [] = refl
 filters_are (pattern p ∷ parts) = filters_are parts
 filters_are (condition e ∷ parts) = ap (λ (v : List Expr). e ∷ v) (filters_are parts)

@@ -119,7 +119,7 @@ rows_of_sources graphs p rows h = record {
 
 -- ---- a pattern without a source
 
-nothing_of : (xs : List Bindings) → IsPermutation xs [] → xs ≡ []
+pub nothing_of : (xs : List Bindings) → IsPermutation xs [] → xs ≡ []
 nothing_of [] h = refl
 nothing_of (x ∷ xs) h = absurd (among_from [] x (Contains-permutation (x ∷ xs) [] x h (contains_from (x ∷ xs) x (inl refl))))
 

@@ -1,7 +1,13 @@
+pub mod AnswersAsked
+pub mod AskSteps
+pub mod Asked
+pub mod Asks
 pub mod Counts
 pub mod FaultTexts
 pub mod Federation
+pub mod GroupsAsked
 pub mod Laws
+pub mod LeftRows
 pub mod MemberQueries
 pub mod Planning
 pub mod Refusals

@@ -2,7 +2,7 @@
 ghost use Rattle.std.specs.Prelude.{◌≡◌, true, IsTrue};
 ghost use Rattle.fx_terms.specs.declared.patterns.Pattern.{Pattern as PatternTree};
 ghost use Rattle.fx_outside.specs.Endpoints.{is_sendable};
-ghost use Rattle.fx_wire.specs.Exchanges.{IsAfter, seen};
+ghost use Rattle.fx_wire.specs.Exchanges.{IsAfter};
 ghost use Rattle.fx_spelling.specs.Printable.{IsTriple};
 ghost use Rattle.fx_sources.specs.Sources.{ask_text as text_that_asks};
 ghost use Rattle.fx_engine.specs.Counts.{CountsAsk};
@@ -32,10 +32,10 @@ pub fn ask<W: Wire>(
 ) -> Result<Items<Solution>, AskError>
     requires sendable { is_sendable at.now ≡ true }
     requires asked { (p : PatternTree) × IsAsked p columns.now text.now }
-    ensures rows { GivesRows (seen W.tells_log W.log W.graph W.faults wire.old) (seen W.tells_log W.log W.graph W.faults wire.new) at.now columns.now text.now result }
-    ensures alone { Posts at.now text.now (seen W.tells_log W.log W.graph W.faults wire.old) (seen W.tells_log W.log W.graph W.faults wire.new) result }
-    ensures counted { IsTrue W.counts_alone → CountsAsk at.now.iri (W.faults wire.old) (W.faults wire.new) result }
-    ensures after { IsAfter (seen W.tells_log W.log W.graph W.faults wire.old) (seen W.tells_log W.log W.graph W.faults wire.new) }
+    ensures rows { GivesRows (W.seen wire.old) (W.seen wire.new) at.now columns.now text.now result }
+    ensures alone { Posts at.now text.now (W.seen wire.old) (W.seen wire.new) result }
+    ensures counted { IsTrue W.counts_alone → CountsAsk at.now.iri (W.seen wire.old).faults (W.seen wire.new).faults result }
+    ensures after { IsAfter (W.seen wire.old) (W.seen wire.new) }
 {
     let length = text.len() as u64;
     if length > LONGEST {
@@ -64,10 +64,10 @@ pub fn ask_fit<W: Wire>(
 ) -> Result<bool, AskError>
     requires sendable { is_sendable at.now ≡ true }
     requires triple { IsTriple key.now.pattern }
-    ensures fit { GivesFit (seen W.tells_log W.log W.graph W.faults wire.old) (seen W.tells_log W.log W.graph W.faults wire.new) at.now key.now.pattern result }
-    ensures alone { Posts at.now (text_that_asks key.now.pattern) (seen W.tells_log W.log W.graph W.faults wire.old) (seen W.tells_log W.log W.graph W.faults wire.new) result }
-    ensures counted { IsTrue W.counts_alone → CountsAsk at.now.iri (W.faults wire.old) (W.faults wire.new) result }
-    ensures after { IsAfter (seen W.tells_log W.log W.graph W.faults wire.old) (seen W.tells_log W.log W.graph W.faults wire.new) }
+    ensures fit { GivesFit (W.seen wire.old) (W.seen wire.new) at.now key.now.pattern result }
+    ensures alone { Posts at.now (text_that_asks key.now.pattern) (W.seen wire.old) (W.seen wire.new) result }
+    ensures counted { IsTrue W.counts_alone → CountsAsk at.now.iri (W.seen wire.old).faults (W.seen wire.new).faults result }
+    ensures after { IsAfter (W.seen wire.old) (W.seen wire.new) }
 {
     let Ok(text) = ask_text(alloc, key) else {
         return Err(AskError::Memory);

@@ -7,7 +7,7 @@ ghost use Rattle.fx_outside.specs.Endpoints.{is_sendable};
 ghost use Rattle.fx_sources.specs.Patterns.{patterns as patterns_of};
 ghost use Rattle.fx_sources.specs.Probes.{chosen, missing as missing_probes, told};
 ghost use Rattle.fx_sources.specs.Sources as source;
-ghost use Rattle.fx_wire.specs.Exchanges.{IsAfter, seen};
+ghost use Rattle.fx_wire.specs.Exchanges.{IsAfter};
 ghost use Rattle.fx_engine.specs.Counts.{CountsFaults};
 ghost use Rattle.fx_engine.specs.Federation.{AnswersBy, AsksInOrder, AsksSources, Federates, Gained, GathersRows, HasBegun, Learns, Tells, row_questions};
 ghost use Rattle.std.specs.Prelude.{List};
@@ -45,12 +45,12 @@ pub fn federate<W: Wire>(
     wire: &mut W,
 ) -> Result<Answer, FedError>
     requires plain { IsPlain query.now }
-    ensures answer { Federates (seen W.tells_log W.log W.graph W.faults wire.old) (seen W.tells_log W.log W.graph W.faults wire.new) registry.now query.now cache.old result }
-    ensures learns { Learns (AsksSources registry.now query.now cache.old) (seen W.tells_log W.log W.graph W.faults wire.old) (seen W.tells_log W.log W.graph W.faults wire.new) registry.now query.now cache.old cache.new result }
-    ensures begun { Gained (HasBegun (W.graph wire.old) registry.now query.now cache.old) (seen W.tells_log W.log W.graph W.faults wire.old) (seen W.tells_log W.log W.graph W.faults wire.new) }
-    ensures tells { (graphs : List (List TripleParts)) → Tells (W.graph wire.old) registry.now graphs → All (source.Tells graphs) cache.old → All (source.Tells graphs) cache.new }
-    ensures counted { IsTrue W.counts_alone → CountsFaults registry.now (W.faults wire.old) (W.faults wire.new) result }
-    ensures after { IsAfter (seen W.tells_log W.log W.graph W.faults wire.old) (seen W.tells_log W.log W.graph W.faults wire.new) }
+    ensures answer { Federates (W.seen wire.old) (W.seen wire.new) registry.now query.now cache.old result }
+    ensures learns { Learns (AsksSources registry.now query.now cache.old) (W.seen wire.old) (W.seen wire.new) registry.now query.now cache.old cache.new result }
+    ensures begun { Gained (HasBegun (W.seen wire.old).graph registry.now query.now cache.old) (W.seen wire.old) (W.seen wire.new) }
+    ensures tells { (graphs : List (List TripleParts)) → Tells (W.seen wire.old).graph registry.now graphs → All (source.Tells graphs) cache.old → All (source.Tells graphs) cache.new }
+    ensures counted { IsTrue W.counts_alone → CountsFaults registry.now (W.seen wire.old).faults (W.seen wire.new).faults result }
+    ensures after { IsAfter (W.seen wire.old) (W.seen wire.new) }
 {
     let Ok(probes) = missing(alloc, query, registry, cache) else {
         return Err(FedError::Memory);
@@ -88,10 +88,10 @@ fn answer_by<W: Wire>(
     requires plain { IsPlain query.now }
     requires asked { probes.now ≡ missing_probes query.now (length registry.now) cache.now }
     requires lengths { length probes.now ≡ length truths.now }
-    ensures answer { AnswersBy (seen W.tells_log W.log W.graph W.faults wire.old) (seen W.tells_log W.log W.graph W.faults wire.new) registry.now query.now cache.now probes.now truths.now result }
-    ensures alone { AsksInOrder registry.now (row_questions (patterns_of query.now) (chosen query.now (length registry.now) (told probes.now truths.now ++ cache.now))) (seen W.tells_log W.log W.graph W.faults wire.old) (seen W.tells_log W.log W.graph W.faults wire.new) result }
-    ensures counted { IsTrue W.counts_alone → CountsFaults registry.now (W.faults wire.old) (W.faults wire.new) result }
-    ensures after { IsAfter (seen W.tells_log W.log W.graph W.faults wire.old) (seen W.tells_log W.log W.graph W.faults wire.new) }
+    ensures answer { AnswersBy (W.seen wire.old) (W.seen wire.new) registry.now query.now cache.now probes.now truths.now result }
+    ensures alone { AsksInOrder registry.now (row_questions (patterns_of query.now) (chosen query.now (length registry.now) (told probes.now truths.now ++ cache.now))) (W.seen wire.old) (W.seen wire.new) result }
+    ensures counted { IsTrue W.counts_alone → CountsFaults registry.now (W.seen wire.old).faults (W.seen wire.new).faults result }
+    ensures after { IsAfter (W.seen wire.old) (W.seen wire.new) }
 {
     let Ok(sources) = choose(alloc, query, registry, cache, probes, truths) else {
         return Err(FedError::Memory);
@@ -126,10 +126,10 @@ fn join_all<W: Wire>(
     requires sendable { All (λ e. is_sendable e ≡ true) endpoints.now }
     requires lengths { length patterns.now ≡ length sources.now }
     requires within { All (All (λ at. at < length endpoints.now)) sources.now }
-    ensures rows { GathersRows (seen W.tells_log W.log W.graph W.faults wire.old) (seen W.tells_log W.log W.graph W.faults wire.new) endpoints.now patterns.now sources.now result }
-    ensures alone { AsksInOrder endpoints.now (row_questions patterns.now sources.now) (seen W.tells_log W.log W.graph W.faults wire.old) (seen W.tells_log W.log W.graph W.faults wire.new) result }
-    ensures counted { IsTrue W.counts_alone → CountsFaults endpoints.now (W.faults wire.old) (W.faults wire.new) result }
-    ensures after { IsAfter (seen W.tells_log W.log W.graph W.faults wire.old) (seen W.tells_log W.log W.graph W.faults wire.new) }
+    ensures rows { GathersRows (W.seen wire.old) (W.seen wire.new) endpoints.now patterns.now sources.now result }
+    ensures alone { AsksInOrder endpoints.now (row_questions patterns.now sources.now) (W.seen wire.old) (W.seen wire.new) result }
+    ensures counted { IsTrue W.counts_alone → CountsFaults endpoints.now (W.seen wire.old).faults (W.seen wire.new).faults result }
+    ensures after { IsAfter (W.seen wire.old) (W.seen wire.new) }
 {
     if lacks_one(sources) {
         return Ok(Vec::new(alloc));

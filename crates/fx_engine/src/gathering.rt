@@ -4,7 +4,7 @@ ghost use Rattle.fx_terms.specs.Graphs.{set_of};
 ghost use Rattle.fx_terms.specs.declared.patterns.Pattern.{Pattern as PatternTree};
 ghost use Rattle.fx_outside.specs.Endpoints.{is_sendable};
 ghost use Rattle.fx_algebra.specs.Solutions.{solution_cmp};
-ghost use Rattle.fx_wire.specs.Exchanges.{IsAfter, seen};
+ghost use Rattle.fx_wire.specs.Exchanges.{IsAfter};
 ghost use Rattle.fx_engine.specs.Counts.{CountsFaults};
 ghost use Rattle.fx_engine.specs.Federation.{AsksInOrder, CollectsRows, GathersRows, member_questions, source_questions};
 ghost use Rattle.fx_engine.specs.MemberQueries.{IsAsked};
@@ -30,10 +30,10 @@ pub fn gather<W: Wire>(
 ) -> Result<Vec<Solution>, FedError>
     requires sendable { All (λ e. is_sendable e ≡ true) endpoints.now }
     requires within { All (λ at. at < length endpoints.now) members.now }
-    ensures rows { GathersRows (seen W.tells_log W.log W.graph W.faults wire.old) (seen W.tells_log W.log W.graph W.faults wire.new) endpoints.now (pattern.now ∷ []) (members.now ∷ []) result }
-    ensures alone { AsksInOrder endpoints.now (source_questions pattern.now members.now) (seen W.tells_log W.log W.graph W.faults wire.old) (seen W.tells_log W.log W.graph W.faults wire.new) result }
-    ensures counted { IsTrue W.counts_alone → CountsFaults endpoints.now (W.faults wire.old) (W.faults wire.new) result }
-    ensures after { IsAfter (seen W.tells_log W.log W.graph W.faults wire.old) (seen W.tells_log W.log W.graph W.faults wire.new) }
+    ensures rows { GathersRows (W.seen wire.old) (W.seen wire.new) endpoints.now (pattern.now ∷ []) (members.now ∷ []) result }
+    ensures alone { AsksInOrder endpoints.now (source_questions pattern.now members.now) (W.seen wire.old) (W.seen wire.new) result }
+    ensures counted { IsTrue W.counts_alone → CountsFaults endpoints.now (W.seen wire.old).faults (W.seen wire.new).faults result }
+    ensures after { IsAfter (W.seen wire.old) (W.seen wire.new) }
 {
     if is_literal(&pattern.predicate) {
         return Ok(Vec::new(alloc));
@@ -73,10 +73,10 @@ fn collect<W: Wire>(
     requires sendable { All (λ e. is_sendable e ≡ true) endpoints.now }
     requires within { All (λ at. at < length endpoints.now) members.now }
     requires asked { (p : PatternTree) × IsAsked p columns.now text.now }
-    ensures rows { CollectsRows (seen W.tells_log W.log W.graph W.faults wire.old) (seen W.tells_log W.log W.graph W.faults wire.new) endpoints.now members.now columns.now text.now result }
-    ensures alone { (p : PatternTree) → IsAsked p columns.now text.now → AsksInOrder endpoints.now (member_questions p members.now) (seen W.tells_log W.log W.graph W.faults wire.old) (seen W.tells_log W.log W.graph W.faults wire.new) result }
-    ensures counted { IsTrue W.counts_alone → CountsFaults endpoints.now (W.faults wire.old) (W.faults wire.new) result }
-    ensures after { IsAfter (seen W.tells_log W.log W.graph W.faults wire.old) (seen W.tells_log W.log W.graph W.faults wire.new) }
+    ensures rows { CollectsRows (W.seen wire.old) (W.seen wire.new) endpoints.now members.now columns.now text.now result }
+    ensures alone { (p : PatternTree) → IsAsked p columns.now text.now → AsksInOrder endpoints.now (member_questions p members.now) (W.seen wire.old) (W.seen wire.new) result }
+    ensures counted { IsTrue W.counts_alone → CountsFaults endpoints.now (W.seen wire.old).faults (W.seen wire.new).faults result }
+    ensures after { IsAfter (W.seen wire.old) (W.seen wire.new) }
 {
     let mut all = Vec::new(alloc);
     for member in members {

@@ -1,11 +1,15 @@
 //! The mediator: the answer of a query over the union of the graphs of several endpoints, and its plan.
 #![tactic(auto)]
 
+mod answers;
 mod asking;
+mod asks;
 pub mod errors;
 pub mod federation;
 mod gathering;
+mod groups;
 pub mod laws;
+mod optionals;
 mod parts;
 pub mod planning;
 mod queries;

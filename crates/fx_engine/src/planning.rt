@@ -4,7 +4,7 @@ ghost use Rattle.fx_terms.specs.declared.triples.Triple.{Triple as TripleParts};
 ghost use Rattle.fx_plan.specs.Explained.{HasMembers};
 ghost use Rattle.fx_sources.specs.Probes.{chosen, missing as missing_probes, told};
 ghost use Rattle.fx_sources.specs.Sources as source;
-ghost use Rattle.fx_wire.specs.Exchanges.{IsAfter, seen};
+ghost use Rattle.fx_wire.specs.Exchanges.{IsAfter};
 ghost use Rattle.fx_engine.specs.Counts.{CountsFaults};
 ghost use Rattle.fx_engine.specs.Federation.{AreBegun, AsksNothing, Gained, Learns, Tells, probe_questions};
 ghost use Rattle.fx_engine.specs.Planning.{IsByAnswers, Plans};
@@ -33,14 +33,14 @@ pub fn plan_parts<W: Wire>(
     cache: &mut AskCache,
     wire: &mut W,
 ) -> Result<Vec<Part>, FedError>
-    ensures parts { Plans (seen W.tells_log W.log W.graph W.faults wire.old) (seen W.tells_log W.log W.graph W.faults wire.new) registry.now query.now cache.old result }
-    ensures by_answers { IfOk result (λ parts. IsByAnswers (seen W.tells_log W.log W.graph W.faults wire.old) (seen W.tells_log W.log W.graph W.faults wire.new) registry.now query.now cache.old cache.new parts.items) }
+    ensures parts { Plans (W.seen wire.old) (W.seen wire.new) registry.now query.now cache.old result }
+    ensures by_answers { IfOk result (λ parts. IsByAnswers (W.seen wire.old) (W.seen wire.new) registry.now query.now cache.old cache.new parts.items) }
     ensures within { IfOk result (λ parts. All (HasMembers (length registry.now)) parts.items) }
-    ensures begun { Gained (AreBegun registry.now (probe_questions (missing_probes query.now (length registry.now) cache.old))) (seen W.tells_log W.log W.graph W.faults wire.old) (seen W.tells_log W.log W.graph W.faults wire.new) }
-    ensures learns { Learns AsksNothing (seen W.tells_log W.log W.graph W.faults wire.old) (seen W.tells_log W.log W.graph W.faults wire.new) registry.now query.now cache.old cache.new result }
-    ensures tells { (graphs : List (List TripleParts)) → Tells (W.graph wire.old) registry.now graphs → All (source.Tells graphs) cache.old → All (source.Tells graphs) cache.new }
-    ensures counted { IsTrue W.counts_alone → CountsFaults registry.now (W.faults wire.old) (W.faults wire.new) result }
-    ensures after { IsAfter (seen W.tells_log W.log W.graph W.faults wire.old) (seen W.tells_log W.log W.graph W.faults wire.new) }
+    ensures begun { Gained (AreBegun registry.now (probe_questions (missing_probes query.now (length registry.now) cache.old))) (W.seen wire.old) (W.seen wire.new) }
+    ensures learns { Learns AsksNothing (W.seen wire.old) (W.seen wire.new) registry.now query.now cache.old cache.new result }
+    ensures tells { (graphs : List (List TripleParts)) → Tells (W.seen wire.old).graph registry.now graphs → All (source.Tells graphs) cache.old → All (source.Tells graphs) cache.new }
+    ensures counted { IsTrue W.counts_alone → CountsFaults registry.now (W.seen wire.old).faults (W.seen wire.new).faults result }
+    ensures after { IsAfter (W.seen wire.old) (W.seen wire.new) }
 {
     let Ok(probes) = missing(alloc, query, registry, cache) else {
         return Err(FedError::Memory);

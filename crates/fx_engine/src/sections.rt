@@ -176,7 +176,7 @@ fn push_pattern(run: &mut Vec<Pattern>, element: &Element) -> Result<(), Memory>
 }
 
 // The filters of a group.
-fn filters_of(alloc: Global, group: &Group) -> Result<Vec<Expr>, Memory>
+pub(crate) fn filters_of(alloc: Global, group: &Group) -> Result<Vec<Expr>, Memory>
     ensures { IfOk result (λ filters. filters.items ≡ flat_map spec.part_filters (map spec.part_of group.now.elements)) }
 {
     let mut filters = Vec::new(alloc);
@@ -197,7 +197,7 @@ fn push_filter(alloc: Global, filters: &mut Vec<Expr>, element: &Element) -> Res
 }
 
 // Whether a group holds triple patterns and filters alone.
-fn is_simple(group: &Group) -> bool
+pub(crate) fn is_simple(group: &Group) -> bool
     ensures { result ≡ (spec.group_of group.now).is_simple }
 {
     for element in group.elements.as_slice() {
@@ -209,7 +209,7 @@ fn is_simple(group: &Group) -> bool
 }
 
 // Whether a run goes on behind an element: it is a triple pattern or a filter.
-fn keeps_run(element: &Element) -> bool
+pub(crate) fn keeps_run(element: &Element) -> bool
     ensures { result ≡ keeps (spec.part_of element.now) }
 {
     match element {

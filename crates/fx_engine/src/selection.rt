@@ -1,7 +1,7 @@
 //! Asking the endpoints which patterns fit their graphs.
 ghost use Rattle.std.specs.Prelude.{◌≡◌, ◌<◌, [], ◌∷◌, true, All, IsTrue, length};
 ghost use Rattle.fx_outside.specs.Endpoints.{is_sendable};
-ghost use Rattle.fx_wire.specs.Exchanges.{IsAfter, seen};
+ghost use Rattle.fx_wire.specs.Exchanges.{IsAfter};
 ghost use Rattle.fx_engine.specs.Counts.{CountsFaults};
 ghost use Rattle.fx_engine.specs.Federation.{AsksInOrder, GivesAnswer, GivesAnswers, probe_questions};
 
@@ -22,10 +22,10 @@ pub fn ask_all<W: Wire>(
 ) -> Result<Vec<bool>, FedError>
     requires sendable { All (λ e. is_sendable e ≡ true) endpoints.now }
     requires within { All (λ p. p.at < length endpoints.now) probes.now }
-    ensures answers { GivesAnswers (seen W.tells_log W.log W.graph W.faults wire.old) (seen W.tells_log W.log W.graph W.faults wire.new) endpoints.now probes.now result }
-    ensures alone { AsksInOrder endpoints.now (probe_questions probes.now) (seen W.tells_log W.log W.graph W.faults wire.old) (seen W.tells_log W.log W.graph W.faults wire.new) result }
-    ensures counted { IsTrue W.counts_alone → CountsFaults endpoints.now (W.faults wire.old) (W.faults wire.new) result }
-    ensures after { IsAfter (seen W.tells_log W.log W.graph W.faults wire.old) (seen W.tells_log W.log W.graph W.faults wire.new) }
+    ensures answers { GivesAnswers (W.seen wire.old) (W.seen wire.new) endpoints.now probes.now result }
+    ensures alone { AsksInOrder endpoints.now (probe_questions probes.now) (W.seen wire.old) (W.seen wire.new) result }
+    ensures counted { IsTrue W.counts_alone → CountsFaults endpoints.now (W.seen wire.old).faults (W.seen wire.new).faults result }
+    ensures after { IsAfter (W.seen wire.old) (W.seen wire.new) }
 {
     let mut truths = Vec::new(alloc);
     for probe in probes {
@@ -50,10 +50,10 @@ fn ask_one<W: Wire>(
 ) -> Result<bool, FedError>
     requires sendable { All (λ e. is_sendable e ≡ true) endpoints.now }
     requires within { probe.now.at < length endpoints.now }
-    ensures answer { GivesAnswer (seen W.tells_log W.log W.graph W.faults wire.old) (seen W.tells_log W.log W.graph W.faults wire.new) endpoints.now probe.now result }
-    ensures alone { AsksInOrder endpoints.now (probe_questions (probe.now ∷ [])) (seen W.tells_log W.log W.graph W.faults wire.old) (seen W.tells_log W.log W.graph W.faults wire.new) result }
-    ensures counted { IsTrue W.counts_alone → CountsFaults endpoints.now (W.faults wire.old) (W.faults wire.new) result }
-    ensures after { IsAfter (seen W.tells_log W.log W.graph W.faults wire.old) (seen W.tells_log W.log W.graph W.faults wire.new) }
+    ensures answer { GivesAnswer (W.seen wire.old) (W.seen wire.new) endpoints.now probe.now result }
+    ensures alone { AsksInOrder endpoints.now (probe_questions (probe.now ∷ [])) (W.seen wire.old) (W.seen wire.new) result }
+    ensures counted { IsTrue W.counts_alone → CountsFaults endpoints.now (W.seen wire.old).faults (W.seen wire.new).faults result }
+    ensures after { IsAfter (W.seen wire.old) (W.seen wire.new) }
 {
     let pattern = probe.key.pattern.get();
     if is_literal(&pattern.predicate) {

@@ -13,7 +13,6 @@ use Rattle.fx_algebra.specs.Units.{sources}
 use Rattle.fx_sources.specs.Sources as source
 use Rattle.fx_sources.specs.declared.probes.Probe.{Probe}
 use Rattle.fx_sources.proofs.SourceLemmas.{chooses}
-use Rattle.fx_wire.specs.Exchanges.{seen}
 use Rattle.fx_engine.specs.Federation.{AreBegun, AreSent, row_questions, Gained, IsRefused, OfPatterns, OfSources, Tells}
 use Rattle.fx_engine.specs.Counts.{CountsRefusal}
 use Rattle.fx_engine.proofs.GainLemmas.{begun_all, begun_none, gained_as, gained_none}
@@ -26,7 +25,7 @@ use Rattle.fx_engine.proofs.federation.answer_by.Goals as goal
 
 pub returns-in-Err-clause-answer : goal.returns-in-Err-clause-answer
 returns-in-Err-clause-answer g c =
-    let see = seen g.W.Wire.tells_log g.W.Wire.log g.W.Wire.graph g.W.Wire.faults in
+    let see = g.W.Wire.seen in
     let q = c.args.query.now in
     let s = see c.args.wire.now in
     let u = see c.join_all.new.wire in
@@ -45,7 +44,7 @@ returns-in-Ok-answer_of_rows-clause-answer g c =
     let cache = c.args.cache.now in
     let truths = c.args.truths.now in
     let rows = c.in-Ok-join_all.rows.items in
-    let graph = g.W.Wire.graph c.args.wire.now in
+    let graph = (g.W.Wire.seen c.args.wire.now).graph in
     let many : length graphs ≡ length es = as_many graph es graphs t in
     let asked : c.args.probes.now ≡ missing q (length graphs) cache = c.requires.asked ∙ ap (λ (n : ℕ). missing q n cache) (sym many) in
     let found : c.in-Ok.sources.members ≡ map (sources graphs) (patterns q) =
@@ -62,7 +61,7 @@ returns-in-Ok-answer_of_rows-clause-answer g c =
 
 pub returns-in-Ok-answer_of_rows-clause-alone : goal.returns-in-Ok-answer_of_rows-clause-alone
 returns-in-Ok-answer_of_rows-clause-alone g c =
-    let see = seen g.W.Wire.tells_log g.W.Wire.log g.W.Wire.graph g.W.Wire.faults in
+    let see = g.W.Wire.seen in
     let s = see c.args.wire.now in
     let u = see c.join_all.new.wire in
     let q = c.args.query.now in
@@ -72,7 +71,7 @@ returns-in-Ok-answer_of_rows-clause-alone g c =
 
 pub returns-in-Err-clause-alone : goal.returns-in-Err-clause-alone
 returns-in-Err-clause-alone g c =
-    let see = seen g.W.Wire.tells_log g.W.Wire.log g.W.Wire.graph g.W.Wire.faults in
+    let see = g.W.Wire.seen in
     let s = see c.args.wire.now in
     let u = see c.join_all.new.wire in
     let q = c.args.query.now in
@@ -82,21 +81,21 @@ returns-in-Err-clause-alone g c =
 
 pub returns-in_default-clause-alone : goal.returns-in_default-clause-alone
 returns-in_default-clause-alone g c =
-    let see = seen g.W.Wire.tells_log g.W.Wire.log g.W.Wire.graph g.W.Wire.faults in
+    let see = g.W.Wire.seen in
     let es = c.args.registry.now in
     let asked = row_questions (patterns c.args.query.now) (chosen c.args.query.now (length es) (told c.args.probes.now c.args.truths.now ++ c.args.cache.now)) in
     gained_none (AreBegun es asked) (see c.args.wire.now) (begun_none es asked)
 
 pub returns-in_default-patterns-clause-alone : goal.returns-in_default-patterns-clause-alone
 returns-in_default-patterns-clause-alone g c =
-    let see = seen g.W.Wire.tells_log g.W.Wire.log g.W.Wire.graph g.W.Wire.faults in
+    let see = g.W.Wire.seen in
     let es = c.args.registry.now in
     let asked = row_questions (patterns c.args.query.now) (chosen c.args.query.now (length es) (told c.args.probes.now c.args.truths.now ++ c.args.cache.now)) in
     gained_none (AreBegun es asked) (see c.args.wire.now) (begun_none es asked)
 
 pub returns-clause-alone : goal.returns-clause-alone
 returns-clause-alone g c =
-    let see = seen g.W.Wire.tells_log g.W.Wire.log g.W.Wire.graph g.W.Wire.faults in
+    let see = g.W.Wire.seen in
     let s = see c.args.wire.now in
     let u = see c.join_all.new.wire in
     let q = c.args.query.now in
@@ -110,5 +109,5 @@ returns-clause-alone g c =
 pub returns-in-Err-clause-counted : goal.returns-in-Err-clause-counted
 returns-in-Err-clause-counted g c =
     λ alone.
-    let faults = g.W.Wire.faults in
-    subst (λ (es : List EndpointParts). CountsRefusal es (faults c.args.wire.now) (faults c.join_all.new.wire) c.in-Err.error) c.endpoints.ensures.value (c.in-Err.ensures.counted alone)
+    let see = g.W.Wire.seen in
+    subst (λ (es : List EndpointParts). CountsRefusal es (see c.args.wire.now).faults (see c.join_all.new.wire).faults c.in-Err.error) c.endpoints.ensures.value (c.in-Err.ensures.counted alone)

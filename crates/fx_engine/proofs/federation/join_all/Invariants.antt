@@ -4,7 +4,7 @@ use Rattle.fx_algebra.specs.BasicGraphPatterns.{bgp}
 use Rattle.fx_algebra.specs.Graphs.{union}
 use Rattle.fx_algebra.specs.Solutions.{SameRows}
 use Rattle.fx_outside.specs.Faults.{HaveStayed}
-use Rattle.fx_wire.specs.Exchanges.{IsAfter, seen}
+use Rattle.fx_wire.specs.Exchanges.{IsAfter}
 use Rattle.fx_algebra.specs.Units.{sources}
 use Rattle.std.specs.List.{flat_map, zip}
 use Rattle.fx_engine.specs.Federation.{AreSent, Gained, Tells, source_questions}
@@ -12,8 +12,8 @@ use Rattle.fx_engine.proofs.federation.join_all.Given as goal
 
 abbrev pub invariant-loop-at : goal.invariant-loop-at
 invariant-loop-at g l = record {
-  after : IsAfter (seen g.W.Wire.tells_log g.W.Wire.log g.W.Wire.graph g.W.Wire.faults l.initial.wire) (seen g.W.Wire.tells_log g.W.Wire.log g.W.Wire.graph g.W.Wire.faults l.wire);
-  counted : IsTrue g.W.Wire.counts_alone → HaveStayed (g.W.Wire.faults l.initial.wire) (g.W.Wire.faults l.wire);
-  alone : Gained (AreSent l.endpoints (flat_map (λ a. source_questions a.0 a.1) (take l.at (zip l.patterns l.sources)))) (seen g.W.Wire.tells_log g.W.Wire.log g.W.Wire.graph g.W.Wire.faults l.initial.wire) (seen g.W.Wire.tells_log g.W.Wire.log g.W.Wire.graph g.W.Wire.faults l.wire);
-  rows : (graphs : List (List Triple)) → Tells (g.W.Wire.graph l.initial.wire) l.endpoints graphs → l.sources ≡ map (sources graphs) l.patterns → SameRows (bgp (union graphs) (take l.at l.patterns)) l.rows.items;
+  after : IsAfter (g.W.Wire.seen l.initial.wire) (g.W.Wire.seen l.wire);
+  counted : IsTrue g.W.Wire.counts_alone → HaveStayed (g.W.Wire.seen l.initial.wire).faults (g.W.Wire.seen l.wire).faults;
+  alone : Gained (AreSent l.endpoints (flat_map (λ a. source_questions a.0 a.1) (take l.at (zip l.patterns l.sources)))) (g.W.Wire.seen l.initial.wire) (g.W.Wire.seen l.wire);
+  rows : (graphs : List (List Triple)) → Tells (g.W.Wire.seen l.initial.wire).graph l.endpoints graphs → l.sources ≡ map (sources graphs) l.patterns → SameRows (bgp (union graphs) (take l.at l.patterns)) l.rows.items;
 }

@@ -6,7 +6,6 @@ use Rattle.fx_algebra.specs.Units.{graph_of, sources}
 use Rattle.fx_grammar.specs.Accepted.{Accepted}
 use Rattle.fx_spelling.specs.Printable.{pattern_query}
 use Rattle.fx_spelling.proofs.PatternQuery.{pattern_query_is_accepted}
-use Rattle.fx_wire.specs.Exchanges.{seen}
 use Rattle.fx_engine.specs.Federation.{AreBegun, AreRowsOf, AreSent, member_questions, source_questions}
 use Rattle.fx_engine.specs.MemberQueries.{IsAsked}
 use Rattle.fx_engine.proofs.GainLemmas.{begun_all, begun_none, begun_sources, gained_as, gained_none, sent_literal, sent_sources}
@@ -63,11 +62,11 @@ returns-then-is_literal-clause-alone g c =
     let es = c.args.endpoints.now in
     let p = c.args.pattern.now in
     let ms = c.args.members.now in
-    gained_none (AreSent es (source_questions p ms)) (seen g.W.Wire.tells_log g.W.Wire.log g.W.Wire.graph g.W.Wire.faults c.args.wire.now) (sent_literal es p ms (sym c.is_literal.ensures ∙ c.if-is_literal.true))
+    gained_none (AreSent es (source_questions p ms)) (g.W.Wire.seen c.args.wire.now) (sent_literal es p ms (sym c.is_literal.ensures ∙ c.if-is_literal.true))
 
 pub returns-in-Ok-each_once-clause-alone : goal.returns-in-Ok-each_once-clause-alone
 returns-in-Ok-each_once-clause-alone g c =
-    let see = seen g.W.Wire.tells_log g.W.Wire.log g.W.Wire.graph g.W.Wire.faults in
+    let see = g.W.Wire.seen in
     let es = c.args.endpoints.now in
     let p = c.args.pattern.now in
     let ms = c.args.members.now in
@@ -81,21 +80,21 @@ returns-in-Ok-each_once-clause-alone g c =
 
 pub returns-in_default-clause-alone : goal.returns-in_default-clause-alone
 returns-in_default-clause-alone g c =
-    let see = seen g.W.Wire.tells_log g.W.Wire.log g.W.Wire.graph g.W.Wire.faults in
+    let see = g.W.Wire.seen in
     let es = c.args.endpoints.now in
     let asked = source_questions c.args.pattern.now c.args.members.now in
     gained_none (AreBegun es asked) (see c.args.wire.now) (begun_none es asked)
 
 pub returns-in_default-text_of-clause-alone : goal.returns-in_default-text_of-clause-alone
 returns-in_default-text_of-clause-alone g c =
-    let see = seen g.W.Wire.tells_log g.W.Wire.log g.W.Wire.graph g.W.Wire.faults in
+    let see = g.W.Wire.seen in
     let es = c.args.endpoints.now in
     let asked = source_questions c.args.pattern.now c.args.members.now in
     gained_none (AreBegun es asked) (see c.args.wire.now) (begun_none es asked)
 
 pub returns-in-Err-clause-alone : goal.returns-in-Err-clause-alone
 returns-in-Err-clause-alone g c =
-    let see = seen g.W.Wire.tells_log g.W.Wire.log g.W.Wire.graph g.W.Wire.faults in
+    let see = g.W.Wire.seen in
     let es = c.args.endpoints.now in
     let p = c.args.pattern.now in
     let ms = c.args.members.now in
@@ -108,7 +107,7 @@ returns-in-Err-clause-alone g c =
 
 pub returns-clause-alone : goal.returns-clause-alone
 returns-clause-alone g c =
-    let see = seen g.W.Wire.tells_log g.W.Wire.log g.W.Wire.graph g.W.Wire.faults in
+    let see = g.W.Wire.seen in
     let es = c.args.endpoints.now in
     let p = c.args.pattern.now in
     let ms = c.args.members.now in

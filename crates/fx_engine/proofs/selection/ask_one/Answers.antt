@@ -1,7 +1,6 @@
 use Rattle.std.proofs.Common.{◌≡◌, ◌∙◌, ◌∷◌, [], sym, subst, rules, Some}
 use Rattle.std.specs.Prelude.{slice_get}
 use Rattle.std.proofs.lemmas.Option.{slice_get_read}
-use Rattle.fx_wire.specs.Exchanges.{seen}
 use Rattle.fx_sources.specs.Sources.{ask_text}
 use Rattle.fx_engine.specs.Federation.{fit_of, AreBegun, AreSent, IsPostedAtMost, IsPostedOnce, IsRefused, OfProbes, probe_questions}
 use Rattle.fx_engine.specs.Counts.{CountsRefusal}
@@ -13,7 +12,7 @@ use Rattle.fx_engine.proofs.selection.ask_one.Goals as goal
 
 pub returns-in-Err-clause-answer : goal.returns-in-Err-clause-answer
 returns-in-Err-clause-answer g c =
-    let see = seen g.W.Wire.tells_log g.W.Wire.log g.W.Wire.graph g.W.Wire.faults in
+    let see = g.W.Wire.seen in
     let es = c.args.endpoints.now in
     let p = c.args.probe.now in
     let e = c.index-endpoints-at.result in
@@ -23,14 +22,14 @@ returns-in-Err-clause-answer g c =
 
 pub returns-then-is_literal-clause-alone : goal.returns-then-is_literal-clause-alone
 returns-then-is_literal-clause-alone g c =
-    let see = seen g.W.Wire.tells_log g.W.Wire.log g.W.Wire.graph g.W.Wire.faults in
+    let see = g.W.Wire.seen in
     let es = c.args.endpoints.now in
     let p = c.args.probe.now in
     gained_none (AreSent es (probe_questions (p ∷ []))) (see c.args.wire.now) (probe_literal es p (sym (rw c.get-pattern.ensures at c.is_literal.ensures) ∙ c.if-is_literal.true))
 
 pub returns-in-Ok-clause-alone : goal.returns-in-Ok-clause-alone
 returns-in-Ok-clause-alone g c =
-    let see = seen g.W.Wire.tells_log g.W.Wire.log g.W.Wire.graph g.W.Wire.faults in
+    let see = g.W.Wire.seen in
     let es = c.args.endpoints.now in
     let p = c.args.probe.now in
     let e = c.index-endpoints-at.result in
@@ -39,7 +38,7 @@ returns-in-Ok-clause-alone g c =
 
 pub returns-in-Err-clause-alone : goal.returns-in-Err-clause-alone
 returns-in-Err-clause-alone g c =
-    let see = seen g.W.Wire.tells_log g.W.Wire.log g.W.Wire.graph g.W.Wire.faults in
+    let see = g.W.Wire.seen in
     let es = c.args.endpoints.now in
     let p = c.args.probe.now in
     let e = c.index-endpoints-at.result in
@@ -49,10 +48,10 @@ returns-in-Err-clause-alone g c =
 pub returns-in-Err-clause-counted : goal.returns-in-Err-clause-counted
 returns-in-Err-clause-counted g c =
     λ alone.
-    let faults = g.W.Wire.faults in
+    let see = g.W.Wire.seen in
     let es = c.args.endpoints.now in
     let p = c.args.probe.now in
     let e = c.index-endpoints-at.result in
     let stands : slice_get es p.at ≡ Some e = search (rules, slice_get_read) in
-    subst (CountsRefusal es (faults c.args.wire.now) (faults c.ask_fit.new.wire)) (sym c.of.ensures)
-    (counted_at es p.at e (faults c.args.wire.now) (faults c.ask_fit.new.wire) c.in-Err.error stands (c.in-Err.ensures.counted alone))
+    subst (CountsRefusal es (see c.args.wire.now).faults (see c.ask_fit.new.wire).faults) (sym c.of.ensures)
+    (counted_at es p.at e (see c.args.wire.now).faults (see c.ask_fit.new.wire).faults c.in-Err.error stands (c.in-Err.ensures.counted alone))

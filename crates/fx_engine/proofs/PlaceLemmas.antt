@@ -1,0 +1,209 @@
+-- The places of a group that the pass over its elements goes through: behind a pattern, a filter and an operator, and at the end.
+use Rattle.std.proofs.Common.{◌≡◌, ◌∙◌, ap, sym, subst, refl, ℕ, Bool, true, false, List, [], ◌∷◌, ◌++◌, drop, length, length-append, append-nil, append_assoc, arith}
+use Rattle.std.proofs.lemmas.List.{map-append}
+use Rattle.fx_terms.specs.declared.triples.Triple.{Triple}
+use Rattle.fx_terms.specs.declared.patterns.Pattern.{Pattern}
+use Rattle.fx_outside.specs.Endpoints.{EndpointParts}
+use Rattle.fx_algebra.specs.Graphs.{union}
+use Rattle.fx_algebra.specs.Groups.{Operator, Part as GroupPart, pattern, condition, operator, Step, apply, with_part, stations_of, seeds_of, after, keeps_run, part_services}
+use Rattle.fx_algebra.specs.Solutions.{Bindings}
+use Rattle.fx_algebra.specs.Stations.{Station}
+use Rattle.fx_algebra.specs.declared.expressions.Expr.{Expr}
+use Rattle.fx_algebra.specs.declared.queries.Element.{Element}
+use Rattle.fx_plan.specs.declared.parts.Part.{Part}
+use Rattle.fx_steps.specs.Fewer.{AreFewer}
+use Rattle.fx_traffic.specs.Sent.{Sent}
+use Rattle.fx_traffic.specs.Traffic.{AreStationsSent}
+use Rattle.fx_engine.specs.GroupsAsked.{AreAskedFor, AreEven, AreSentFrom, ElementDue, ElementGiven, EndDue, EndGiven, IsNext, IsPlace, IsReached, OperatorDue, OperatorGiven, all_planned, is_run, operator_rows, operator_seeds, operator_stations, planned, run_joined, run_seeds, run_stations, with_run}
+use Rattle.fx_engine.specs.SectionSteps.{part_of, part_patterns}
+use Rattle.fx_engine.proofs.EvenLemmas.{IsEven, operator_is_even}
+use Rattle.fx_engine.proofs.RunLemmas.{after_before, is_run_more, names_behind, run_more, seeds_before, stations_before}
+use Rattle.fx_engine.proofs.StationLemmas.{nothing_sent_of, sent_behind}
+
+-- the parts of stations behind each other
+pub planned_behind : (graphs : List (List Triple)) (first others : List Station) (rest : List Part) → all_planned graphs (first ++ others) ++ rest ≡ all_planned graphs first ++ (all_planned graphs others ++ rest)
+planned_behind graphs first others rest =
+    ap (λ (v : List Part). v ++ rest) (map-append (planned graphs) first others)
+    ∙ append_assoc (all_planned graphs first) (all_planned graphs others) rest
+
+module _ (endpoints : List EndpointParts) (graphs : List (List Triple)) (block : ℕ) (parts : List Part) where
+  module _ (filters : List Expr) (known : List (List ℕ)) (run : List Pattern) (before defined : List Bindings) (steps : List Step) (rest : List Part) (next : ℕ) (was_run : Bool) where
+    -- nothing is asked for at a pattern
+    pub at_pattern : (p : Pattern) → IsPlace graphs parts next was_run filters known run before defined (with_part (pattern p) steps) rest
+        → IsReached endpoints graphs block parts next true filters known run defined (with_part (pattern p) steps) rest steps [] before
+    at_pattern p h =
+        let same = run_more run p steps in
+        record {
+          names = known;
+          patterns = run ++ p ∷ [];
+          solutions = defined;
+          place = record {
+            runs = sym (is_run_more run p);
+            fewer = h.fewer;
+            next_is = subst (λ (v : List Step). IsNext parts next graphs (stations_of filters 0 known v) rest) same h.next_is;
+          };
+          goes_on = λ more k.
+              subst (λ (v : List Step). AreStationsSent endpoints graphs block (stations_of filters 0 known v) (seeds_of (union graphs) 0 defined v) more) (sym same) k;
+          comes_out = ap (after (union graphs) 0 defined) (sym same);
+        }
+
+    -- nor at a filter
+    pub at_condition : (e : Expr) → IsPlace graphs parts next was_run filters known run before defined (with_part (condition e) steps) rest
+        → IsReached endpoints graphs block parts next was_run filters known run defined (with_part (condition e) steps) rest steps [] before
+    at_condition e h = record { names = known; patterns = run; solutions = defined; place = h; goes_on = λ more k. k; comes_out = refl }
+
+    module _ (o : Operator) (none : o.services ≡ 0) where
+      abbrev names : List (List ℕ)
+      names = names_behind known run
+
+      abbrev joined : List Bindings
+      joined = run_joined (union graphs) defined run
+
+      abbrev made : List Bindings
+      made = o.rows (union graphs) 0 joined
+
+      abbrev own_stations : List Station
+      own_stations = o.cut.stations 0 names
+
+      abbrev later_stations : List Station
+      later_stations = stations_of filters 0 (names ++ o.cut.names) steps
+
+      abbrev own_seeds : List (List Bindings)
+      own_seeds = o.cut.seeds (union graphs) 0 joined
+
+      abbrev later_seeds : List (List Bindings)
+      later_seeds = seeds_of (union graphs) 0 made steps
+
+      -- before an operator the plan goes on with the run, the operator and what is behind it
+      next_at : IsPlace graphs parts next was_run filters known run before defined (with_part (operator o) steps) rest
+          → drop next parts ≡ all_planned graphs (run_stations filters known run) ++ (all_planned graphs own_stations ++ (all_planned graphs later_stations ++ rest))
+      next_at h =
+          h.next_is
+          ∙ ap (λ (v : List Station). all_planned graphs v ++ rest) (stations_before o none steps filters known run)
+          ∙ planned_behind graphs (run_stations filters known run) (own_stations ++ later_stations) rest
+          ∙ ap (λ (v : List Part). all_planned graphs (run_stations filters known run) ++ v) (planned_behind graphs own_stations later_stations rest)
+
+      whole : (wanted : List Sent) → AreStationsSent endpoints graphs block (run_stations filters known run ++ (own_stations ++ later_stations)) (run_seeds defined run ++ (own_seeds ++ later_seeds)) wanted
+          → AreSentFrom endpoints graphs block filters known run defined (with_part (operator o) steps) wanted
+      whole wanted k =
+          subst (λ (v : List Station). AreStationsSent endpoints graphs block v (seeds_of (union graphs) 0 defined (with_run run (apply o ∷ steps))) wanted) (sym (stations_before o none steps filters known run))
+          (subst (λ (v : List (List Bindings)). AreStationsSent endpoints graphs block (run_stations filters known run ++ (own_stations ++ later_stations)) v wanted) (sym (seeds_before o none steps (union graphs) defined run)) k)
+
+      later_even : AreEven steps → length later_seeds ≡ length later_stations
+      later_even even = even filters (union graphs) 0 0 made (names ++ o.cut.names)
+
+      -- the run before it was asked for, and then what it has itself
+      pub at_operator : (e : Element) (between later : ℕ) (rows found : List Bindings) (own more : List Sent) → part_of e ≡ operator o
+          → EndGiven endpoints block parts next between was_run before graphs own rows
+          → OperatorGiven endpoints block parts between later e rows graphs more found
+          → IsPlace graphs parts next was_run filters known run before defined (with_part (part_of e) steps) rest
+          → IsReached endpoints graphs block parts later false filters known run defined (with_part (part_of e) steps) rest steps (own ++ more) found
+      at_operator e between later rows found own more is ended asked place =
+          let here = subst (λ (v : GroupPart). IsPlace graphs parts next was_run filters known run before defined (with_part v steps) rest) is place in
+          let first = ended run filters known defined (all_planned graphs own_stations ++ (all_planned graphs later_stations ++ rest)) here.runs here.fewer (next_at here) in
+          let its = by_part e is filters names joined (all_planned graphs later_stations ++ rest) first.1 first.0.behind asked in
+          subst (λ (v : GroupPart). IsReached endpoints graphs block parts later false filters known run defined (with_part v steps) rest steps (own ++ more) found) (sym is)
+          (record {
+            names = names ++ o.cut.names;
+            patterns = [];
+            solutions = made;
+            place = record { runs = refl; fewer = its.1; next_is = its.0.behind };
+            goes_on = λ others k.
+                whole ((own ++ more) ++ others)
+                (subst (AreStationsSent endpoints graphs block (run_stations filters known run ++ (own_stations ++ later_stations)) (run_seeds defined run ++ (own_seeds ++ later_seeds))) (sym (append_assoc own more others))
+                (sent_behind endpoints graphs block (run_stations filters known run) (own_stations ++ later_stations) (run_seeds defined run) (own_seeds ++ later_seeds) own (more ++ others) first.0.sent
+                (sent_behind endpoints graphs block own_stations later_stations own_seeds later_seeds more others its.0.sent k)));
+            comes_out = sym (after_before o none steps (union graphs) defined run);
+          })
+        where
+          by_part : (d : Element) → part_of d ≡ operator o → (cs : List Expr) (ns : List (List ℕ)) (ds : List Bindings) (ps : List Part) → AreFewer cs rows ds → drop between parts ≡ all_planned graphs (o.cut.stations 0 ns) ++ ps
+              → OperatorGiven endpoints block parts between later d rows graphs more found
+              → AreAskedFor endpoints graphs block parts later ps (o.cut.stations 0 ns) (o.cut.seeds (union graphs) 0 ds) more × AreFewer cs found (o.rows (union graphs) 0 ds)
+          by_part d same cs ns ds ps fewer next_is k =
+              let P : GroupPart → Type 0 = λ v.
+              IsNext parts between graphs (operator_stations v ns) ps
+              → AreAskedFor endpoints graphs block parts later ps (operator_stations v ns) (operator_seeds v (union graphs) ds) more × AreFewer cs found (operator_rows v (union graphs) ds) in
+              subst P same (k cs ns ds ps fewer) next_is
+
+      -- what is behind the run wasn't
+      pub due_at_run : AreEven steps → IsEven o.cut → (own : List Sent) → EndDue endpoints block parts next was_run before graphs own
+          → IsPlace graphs parts next was_run filters known run before defined (with_part (operator o) steps) rest
+          → AreSentFrom endpoints graphs block filters known run defined (with_part (operator o) steps) own
+      due_at_run even its own due place =
+          let first = due run filters known defined (all_planned graphs own_stations ++ (all_planned graphs later_stations ++ rest)) place.runs place.fewer (next_at place) in
+          let behind : length later_seeds ≡ length later_stations = later_even even in
+          let here : length own_seeds ≡ length own_stations = its (union graphs) 0 0 joined names in
+          let many : length (own_seeds ++ later_seeds) ≡ length (own_stations ++ later_stations) = omega (arith, length-append own_seeds later_seeds, length-append own_stations later_stations) in
+          whole own
+          (subst (AreStationsSent endpoints graphs block (run_stations filters known run ++ (own_stations ++ later_stations)) (run_seeds defined run ++ (own_seeds ++ later_seeds))) (append-nil own)
+          (sent_behind endpoints graphs block (run_stations filters known run) (own_stations ++ later_stations) (run_seeds defined run) (own_seeds ++ later_seeds) own [] first
+          (nothing_sent_of endpoints graphs block (own_stations ++ later_stations) (own_seeds ++ later_seeds) many)))
+
+      -- what is behind the operator wasn't
+      pub due_at_operator : AreEven steps → (e : Element) (between : ℕ) (rows : List Bindings) (own more : List Sent) → part_of e ≡ operator o
+          → EndGiven endpoints block parts next between was_run before graphs own rows
+          → OperatorDue endpoints block parts between e rows graphs more
+          → IsPlace graphs parts next was_run filters known run before defined (with_part (operator o) steps) rest
+          → AreSentFrom endpoints graphs block filters known run defined (with_part (operator o) steps) (own ++ more)
+      due_at_operator even e between rows own more is ended due place =
+          let first = ended run filters known defined (all_planned graphs own_stations ++ (all_planned graphs later_stations ++ rest)) place.runs place.fewer (next_at place) in
+          let P : GroupPart → Type 0 = λ v.
+          IsNext parts between graphs (operator_stations v names) (all_planned graphs later_stations ++ rest)
+          → AreStationsSent endpoints graphs block (operator_stations v names) (operator_seeds v (union graphs) joined) more in
+          let its = subst P is (due filters names joined (all_planned graphs later_stations ++ rest) first.1) first.0.behind in
+          whole (own ++ more)
+          (sent_behind endpoints graphs block (run_stations filters known run) (own_stations ++ later_stations) (run_seeds defined run) (own_seeds ++ later_seeds) own more first.0.sent
+          (subst (AreStationsSent endpoints graphs block (own_stations ++ later_stations) (own_seeds ++ later_seeds)) (append-nil more)
+          (sent_behind endpoints graphs block own_stations later_stations own_seeds later_seeds more [] its (nothing_sent_of endpoints graphs block later_stations later_seeds (later_even even)))))
+
+-- ---- one element
+
+module _ (endpoints : List EndpointParts) (block : ℕ) (parts : List Part) (next : ℕ) (was_run : Bool) (before : List Bindings) (graphs : List (List Triple)) where
+  -- where it is a pattern
+  pattern_given : (part : GroupPart) → is_run (part_patterns part) ≡ true
+      → (filters : List Expr) (known : List (List ℕ)) (run : List Pattern) (defined : List Bindings) (steps : List Step) (rest : List Part)
+      → IsPlace graphs parts next was_run filters known run before defined (with_part part steps) rest
+      → IsReached endpoints graphs block parts next true filters known run defined (with_part part steps) rest steps [] before
+  pattern_given (pattern p) h filters known run defined steps rest place = at_pattern endpoints graphs block parts filters known run before defined steps rest next was_run p place
+  pattern_given (condition e) h filters known run defined steps rest place = absurd (cc)
+  pattern_given (operator o) h filters known run defined steps rest place = absurd (cc)
+
+  pub of_pattern : (e : Element) → is_run (part_patterns (part_of e)) ≡ true → ElementGiven endpoints block parts next next was_run true e before graphs [] before
+  of_pattern e h = pattern_given (part_of e) h
+
+  -- where it is a filter
+  condition_given : (part : GroupPart) → is_run (part_patterns part) ≡ false → keeps_run part ≡ true
+      → (filters : List Expr) (known : List (List ℕ)) (run : List Pattern) (defined : List Bindings) (steps : List Step) (rest : List Part)
+      → IsPlace graphs parts next was_run filters known run before defined (with_part part steps) rest
+      → IsReached endpoints graphs block parts next was_run filters known run defined (with_part part steps) rest steps [] before
+  condition_given (pattern p) h k filters known run defined steps rest place = absurd (cc)
+  condition_given (condition e) h k filters known run defined steps rest place = at_condition endpoints graphs block parts filters known run before defined steps rest next was_run e place
+  condition_given (operator o) h k filters known run defined steps rest place = absurd (cc)
+
+  pub of_condition : (e : Element) → is_run (part_patterns (part_of e)) ≡ false → keeps_run (part_of e) ≡ true → ElementGiven endpoints block parts next next was_run was_run e before graphs [] before
+  of_condition e h k = condition_given (part_of e) h k
+
+  -- where it is an operator
+  module _ (e : Element) (o : Operator) (is : part_of e ≡ operator o) (none : part_services (part_of e) ≡ 0) where
+    no_services : o.services ≡ 0
+    no_services = sym (ap part_services is) ∙ none
+
+    pub of_operator : (between later : ℕ) (rows found : List Bindings) (own more : List Sent) → EndGiven endpoints block parts next between was_run before graphs own rows → OperatorGiven endpoints block parts between later e rows graphs more found
+        → ElementGiven endpoints block parts next later was_run false e before graphs (own ++ more) found
+    of_operator between later rows found own more ended asked = λ filters known run defined steps rest place.
+        at_operator endpoints graphs block parts filters known run before defined steps rest next was_run o no_services e between later rows found own more is ended asked place
+
+    here : (filters : List Expr) (known : List (List ℕ)) (run : List Pattern) (defined : List Bindings) (steps : List Step) (rest : List Part) → IsPlace graphs parts next was_run filters known run before defined (with_part (part_of e) steps) rest
+        → IsPlace graphs parts next was_run filters known run before defined (with_part (operator o) steps) rest
+    here filters known run defined steps rest place = subst (λ (v : GroupPart). IsPlace graphs parts next was_run filters known run before defined (with_part v steps) rest) is place
+
+    pub due_of_run : (own : List Sent) → EndDue endpoints block parts next was_run before graphs own → ElementDue endpoints block parts next was_run e before graphs own
+    due_of_run own due = λ filters known run defined steps rest even place.
+        subst (λ (v : GroupPart). AreSentFrom endpoints graphs block filters known run defined (with_part v steps) own) (sym is)
+        (due_at_run endpoints graphs block parts filters known run before defined steps rest next was_run o no_services even (operator_is_even e o is) own due (here filters known run defined steps rest place))
+
+    pub due_of_operator : (between : ℕ) (rows : List Bindings) (own more : List Sent) → EndGiven endpoints block parts next between was_run before graphs own rows → OperatorDue endpoints block parts between e rows graphs more
+        → ElementDue endpoints block parts next was_run e before graphs (own ++ more)
+    due_of_operator between rows own more ended due = λ filters known run defined steps rest even place.
+        subst (λ (v : GroupPart). AreSentFrom endpoints graphs block filters known run defined (with_part v steps) (own ++ more)) (sym is)
+        (due_at_operator endpoints graphs block parts filters known run before defined steps rest next was_run o no_services even e between rows own more is ended due (here filters known run defined steps rest place))

@@ -1,0 +1,192 @@
+-- The pass over the elements of a group, one after the other, from its begin to its end.
+use Rattle.std.proofs.Common.{◌≡◌, ◌∙◌, ap, sym, subst, refl, ℕ, ◌+◌, ◌<◌, Bool, false, List, [], ◌∷◌, ◌++◌, map, drop, length, get_or, Result, Ok, Err, append_assoc, arith, IsPermutation}
+use Rattle.std.proofs.lemmas.List.{drop_more}
+use Rattle.std.proofs.lemmas.List.Sorted.{IsPermutation-refl}
+use Rattle.fx_terms.specs.declared.triples.Triple.{Triple}
+use Rattle.fx_outside.specs.Endpoints.{EndpointParts}
+use Rattle.fx_algebra.specs.Graphs.{union}
+use Rattle.fx_algebra.specs.Groups.{Meaning, Part as GroupPart, Step, steps_of, stations_of, seeds_of, after, conditions_of, one_empty, part_services, parts_services, with_part}
+use Rattle.fx_algebra.specs.Solutions.{Bindings}
+use Rattle.fx_algebra.specs.Stations.{Station}
+use Rattle.fx_algebra.specs.declared.expressions.Expr.{Expr}
+use Rattle.fx_algebra.specs.declared.queries.Element.{Element}
+use Rattle.fx_algebra.specs.declared.queries.Group.{Group}
+use Rattle.fx_plan.specs.declared.parts.Part.{Part}
+use Rattle.fx_steps.specs.Fewer.{AreFewer}
+use Rattle.fx_steps.proofs.FewerLemmas.{fewer_laws}
+use Rattle.fx_traffic.specs.Sent.{Sent}
+use Rattle.fx_traffic.specs.Traffic.{AreStationsSent}
+use Rattle.fx_wire.specs.Exchanges.{Seen}
+use Rattle.fx_pool.specs.declared.flows.FlowError.{FlowError}
+use Rattle.fx_engine.specs.Asked.{Asked}
+use Rattle.fx_engine.specs.GroupsAsked.{AreSentFrom, ElementDue, ElementGiven, EndDue, EndGiven, GroupDue, IsNext, IsPlace, IsReached, UnfilteredGiven, all_planned, run_joined, run_seeds, run_stations, seeds_in, stations_in, units_in, with_run}
+use Rattle.fx_engine.specs.SectionSteps.{group_of, part_of}
+use Rattle.fx_engine.proofs.AskedLemmas.{AllTell, asked_behind, given_unasked, refused_as}
+use Rattle.fx_engine.proofs.ElementLemmas.{group_is}
+use Rattle.fx_engine.proofs.EvenLemmas.{elements_are_even, group_is_even}
+use Rattle.fx_engine.proofs.RunLemmas.{after_alone, seeds_alone, stations_alone}
+use Rattle.fx_engine.proofs.StationLemmas.{nothing_sent_of}
+
+-- the elements from one on
+pub from_element : (all : List Element) (i : ℕ) (e : Element) → i < length all → e ≡ get_or all i e → drop i all ≡ e ∷ drop (i + 1) all
+from_element all i e below is = drop_more all i e below ∙ ap (λ (d : Element). d ∷ drop (i + 1) all) (sym is)
+
+-- a group without SERVICE has none in its elements
+pub no_service_in : (parts : List GroupPart) → parts_services parts ≡ 0 → (part : GroupPart) (rest : List GroupPart) → parts ≡ part ∷ rest → (part_services part ≡ 0) × (parts_services rest ≡ 0)
+no_service_in parts none part rest is =
+    let whole : part_services part + parts_services rest ≡ 0 = sym (ap parts_services is) ∙ none in
+    (omega arith, omega arith)
+
+module _ (endpoints : List EndpointParts) (block : ℕ) (parts : List Part) (next : ℕ) (g : Group) (all : List Element) (are : all ≡ g.elements) where
+  abbrev filters : List Expr
+  filters = conditions_of (map part_of all)
+
+  abbrev whole : List Step
+  whole = steps_of (map part_of all)
+
+  -- what comes of the elements before one of these places
+  abbrev pub SoFar : ℕ → Bool → List Element → List (List Triple) → List Sent → List Bindings → Type 0
+  SoFar later in_run left graphs wanted rows =
+      (rest : List Part) → IsNext parts next graphs (stations_in g) rest → IsReached endpoints graphs block parts later in_run filters [] [] one_empty whole rest (steps_of (map part_of left)) wanted rows
+
+  its_meaning : (group_of g).cut.stations 0 [] ≡ stations_of filters 0 [] whole
+  its_meaning = ap (λ (m : Meaning). m.cut.stations 0 []) (group_is g) ∙ ap (λ (es : List Element). stations_of (conditions_of (map part_of es)) 0 [] (steps_of (map part_of es))) (sym are)
+
+  its_seeds : (graph : List Triple) → (group_of g).cut.seeds graph 0 one_empty ≡ seeds_of graph 0 one_empty whole
+  its_seeds graph = ap (λ (m : Meaning). m.cut.seeds graph 0 one_empty) (group_is g) ∙ ap (λ (es : List Element). seeds_of graph 0 one_empty (steps_of (map part_of es))) (sym are)
+
+  its_rows : (graph : List Triple) → (group_of g).rows graph 0 ≡ after graph 0 one_empty whole
+  its_rows graph = ap (λ (m : Meaning). m.rows graph 0) (group_is g) ∙ ap (λ (es : List Element). after graph 0 one_empty (steps_of (map part_of es))) (sym are)
+
+  its_filters : (group_of g).filters ≡ filters
+  its_filters = ap (λ (m : Meaning). m.filters) (group_is g) ∙ ap (λ (es : List Element). conditions_of (map part_of es)) (sym are)
+
+  sent_whole : (graphs : List (List Triple)) (wanted : List Sent) → AreSentFrom endpoints graphs block filters [] [] one_empty whole wanted → AreStationsSent endpoints graphs block (stations_in g) (seeds_in graphs g) wanted
+  sent_whole graphs wanted h =
+      subst (λ (v : List Station). AreStationsSent endpoints graphs block v (seeds_in graphs g) wanted) (sym its_meaning)
+      (subst (λ (v : List (List Bindings)). AreStationsSent endpoints graphs block (stations_of filters 0 [] whole) v wanted) (sym (its_seeds (union graphs))) h)
+
+  none_sent : (graphs : List (List Triple)) → AreStationsSent endpoints graphs block (stations_in g) (seeds_in graphs g) []
+  none_sent graphs = nothing_sent_of endpoints graphs block (stations_in g) (seeds_in graphs g) (group_is_even g (union graphs) 0 0 one_empty [])
+
+  -- nothing of a group may be sent
+  pub none_due : (graphs : List (List Triple)) → GroupDue endpoints block parts next g graphs []
+  none_due graphs = λ rest is. none_sent graphs
+
+  -- before its first element
+  at_begin : (graphs : List (List Triple)) (rows : List Bindings) → rows ≡ one_empty → SoFar next false all graphs [] rows
+  at_begin graphs rows one = λ rest is.
+      record {
+        names = [];
+        patterns = [];
+        solutions = one_empty;
+        place = record {
+          runs = refl;
+          fewer = fewer_laws.none filters rows one_empty (subst (λ (v : List Bindings). IsPermutation v one_empty) (sym one) (IsPermutation-refl one_empty));
+          next_is = is ∙ ap (λ (v : List Station). all_planned graphs v ++ rest) its_meaning;
+        };
+        goes_on = λ more k. k;
+        comes_out = refl;
+      }
+
+  -- behind one more
+  module _ (graphs : List (List Triple)) (e : Element) (others left : List Element) (is_left : left ≡ e ∷ others) (between later : ℕ) (was_run in_run : Bool) (before : List Bindings) (own more : List Sent) where
+    its_place : (rest : List Part) (a : IsReached endpoints graphs block parts between was_run filters [] [] one_empty whole rest (steps_of (map part_of left)) own before)
+        → IsPlace graphs parts between was_run filters a.names a.patterns before a.solutions (with_part (part_of e) (steps_of (map part_of others))) rest
+    its_place rest a = subst (λ (es : List Element). IsPlace graphs parts between was_run filters a.names a.patterns before a.solutions (steps_of (map part_of es)) rest) is_left a.place
+
+    at_next : (rows : List Bindings) → SoFar between was_run left graphs own before → ElementGiven endpoints block parts between later was_run in_run e before graphs more rows → SoFar later in_run others graphs (own ++ more) rows
+    at_next rows so given = λ rest is.
+        let a = so rest is in
+        let b = given filters a.names a.patterns a.solutions (steps_of (map part_of others)) rest (its_place rest a) in
+        record {
+          names = b.names;
+          patterns = b.patterns;
+          solutions = b.solutions;
+          place = b.place;
+          goes_on = λ most k.
+              subst (AreSentFrom endpoints graphs block filters [] [] one_empty whole) (sym (append_assoc own more most))
+              (a.goes_on (more ++ most) (subst (λ (es : List Element). AreSentFrom endpoints graphs block filters a.names a.patterns a.solutions (steps_of (map part_of es)) (more ++ most)) (sym is_left) (b.goes_on most k)));
+          comes_out = b.comes_out ∙ ap (λ (es : List Element). after (union graphs) 0 a.solutions (with_run a.patterns (steps_of (map part_of es)))) (sym is_left) ∙ a.comes_out;
+        }
+
+    due_next : SoFar between was_run left graphs own before → ElementDue endpoints block parts between was_run e before graphs more → GroupDue endpoints block parts next g graphs (own ++ more)
+    due_next so due = λ rest is.
+        let a = so rest is in
+        sent_whole graphs (own ++ more)
+        (a.goes_on more
+        (subst (λ (es : List Element). AreSentFrom endpoints graphs block filters a.names a.patterns a.solutions (steps_of (map part_of es)) more) (sym is_left)
+        (due filters a.names a.patterns a.solutions (steps_of (map part_of others)) rest (elements_are_even others []) (its_place rest a))))
+
+  -- behind the last
+  module _ (graphs : List (List Triple)) (left : List Element) (none_left : left ≡ []) (between later : ℕ) (in_run : Bool) (before : List Bindings) (own more : List Sent) where
+    module _ (rest : List Part) (a : IsReached endpoints graphs block parts between in_run filters [] [] one_empty whole rest (steps_of (map part_of left)) own before) where
+      last_next : IsNext parts between graphs (run_stations filters a.names a.patterns) rest
+      last_next =
+          a.place.next_is
+          ∙ ap (λ (es : List Element). all_planned graphs (stations_of filters 0 a.names (with_run a.patterns (steps_of (map part_of es)))) ++ rest) none_left
+          ∙ ap (λ (v : List Station). all_planned graphs v ++ rest) (stations_alone filters a.names a.patterns)
+
+      last_sent : AreStationsSent endpoints graphs block (run_stations filters a.names a.patterns) (run_seeds a.solutions a.patterns) more → AreStationsSent endpoints graphs block (stations_in g) (seeds_in graphs g) (own ++ more)
+      last_sent k =
+          sent_whole graphs (own ++ more)
+          (a.goes_on more
+          (subst (λ (es : List Element). AreSentFrom endpoints graphs block filters a.names a.patterns a.solutions (steps_of (map part_of es)) more) (sym none_left)
+          (subst (λ (v : List Station). AreStationsSent endpoints graphs block v (seeds_of (union graphs) 0 a.solutions (with_run a.patterns [])) more) (sym (stations_alone filters a.names a.patterns))
+          (subst (λ (v : List (List Bindings)). AreStationsSent endpoints graphs block (run_stations filters a.names a.patterns) v more) (sym (seeds_alone (union graphs) a.solutions a.patterns)) k))))
+
+      last_rows : run_joined (union graphs) a.solutions a.patterns ≡ (group_of g).rows (union graphs) 0
+      last_rows =
+          sym (after_alone (union graphs) a.solutions a.patterns)
+          ∙ ap (λ (es : List Element). after (union graphs) 0 a.solutions (with_run a.patterns (steps_of (map part_of es)))) (sym none_left)
+          ∙ a.comes_out
+          ∙ sym (its_rows (union graphs))
+
+    at_end : (rows : List Bindings) → SoFar between in_run left graphs own before → EndGiven endpoints block parts between later in_run before graphs more rows → UnfilteredGiven endpoints block parts next later g graphs (own ++ more) rows
+    at_end rows so given = λ rest is.
+        let a = so rest is in
+        let b = given a.patterns filters a.names a.solutions rest a.place.runs a.place.fewer (last_next rest a) in (
+          record { behind = b.0.behind; sent = last_sent rest a b.0.sent },
+          subst (λ (v : List Expr). AreFewer v rows ((group_of g).rows (union graphs) 0)) (sym its_filters) (subst (AreFewer filters rows) (last_rows rest a) b.1),
+        )
+
+    due_end : SoFar between in_run left graphs own before → EndDue endpoints block parts between in_run before graphs more → GroupDue endpoints block parts next g graphs (own ++ more)
+    due_end so due = λ rest is. let a = so rest is in last_sent rest a (due a.patterns filters a.names a.solutions rest a.place.runs a.place.fewer (last_next rest a))
+
+  -- ---- what was asked for
+
+  module _ (tells alone : Bool) where
+    pub so_far_begun : (wires : List Seen) (rows : List Bindings) → rows ≡ one_empty → Asked tells alone wires wires endpoints (units_in parts) (SoFar next false all) (GroupDue endpoints block parts next g) (Ok rows)
+    so_far_begun wires rows one = given_unasked tells alone endpoints (units_in parts) (SoFar next false all) (GroupDue endpoints block parts next g) wires rows (λ graphs. at_begin graphs rows one)
+
+    module _ (before between after : List Seen) (a : AllTell tells before) (b : AllTell tells between) (later last : ℕ) (was_run : Bool) (rows : List Bindings) (left : List Element)
+        (so : Asked tells alone before between endpoints (units_in parts) (SoFar later was_run left) (GroupDue endpoints block parts next g) (Ok rows)) where
+      so_far_next : (in_run : Bool) (e : Element) (others : List Element) → left ≡ e ∷ others → (r : Result (List Bindings) FlowError)
+          → Asked tells alone between after endpoints (units_in parts) (ElementGiven endpoints block parts later last was_run in_run e rows) (ElementDue endpoints block parts later was_run e rows) r
+          → Asked tells alone before after endpoints (units_in parts) (SoFar last in_run others) (GroupDue endpoints block parts next g) r
+      so_far_next in_run e others is r h =
+          asked_behind tells alone endpoints (units_in parts) before between after a b (SoFar later was_run left) (GroupDue endpoints block parts next g) (ElementGiven endpoints block parts later last was_run in_run e rows) (ElementDue endpoints block parts later was_run e rows)
+          (SoFar last in_run others) (GroupDue endpoints block parts next g) rows r
+          (λ graphs own more y s k. at_next graphs e others left is later last was_run in_run rows own more y s k)
+          (λ graphs own more s k. due_next graphs e others left is later last was_run in_run rows own more s k) so h
+
+      pub so_far_more : (in_run : Bool) (e : Element) (others : List Element) → left ≡ e ∷ others → (found : List Bindings)
+          → Asked tells alone between after endpoints (units_in parts) (ElementGiven endpoints block parts later last was_run in_run e rows) (ElementDue endpoints block parts later was_run e rows) (Ok found)
+          → Asked tells alone before after endpoints (units_in parts) (SoFar last in_run others) (GroupDue endpoints block parts next g) (Ok found)
+      so_far_more in_run e others is found h = so_far_next in_run e others is (Ok found) h
+
+      pub so_far_refused : (in_run : Bool) (e : Element) (others : List Element) → left ≡ e ∷ others → (why : FlowError)
+          → Asked {X = List Bindings} tells alone between after endpoints (units_in parts) (ElementGiven endpoints block parts later last was_run in_run e rows) (ElementDue endpoints block parts later was_run e rows) (Err why)
+          → Asked {X = List Bindings} tells alone before after endpoints (units_in parts) (UnfilteredGiven endpoints block parts next last g) (GroupDue endpoints block parts next g) (Err why)
+      so_far_refused in_run e others is why h =
+          refused_as tells alone endpoints (units_in parts) before after (SoFar last in_run others) (GroupDue endpoints block parts next g) (UnfilteredGiven endpoints block parts next last g) (GroupDue endpoints block parts next g) why (λ graphs wanted due. due)
+          (so_far_next in_run e others is (Err why) h)
+
+      pub so_far_ended : left ≡ [] → (r : Result (List Bindings) FlowError)
+          → Asked tells alone between after endpoints (units_in parts) (EndGiven endpoints block parts later last was_run rows) (EndDue endpoints block parts later was_run rows) r
+          → Asked tells alone before after endpoints (units_in parts) (UnfilteredGiven endpoints block parts next last g) (GroupDue endpoints block parts next g) r
+      so_far_ended is r h =
+          asked_behind tells alone endpoints (units_in parts) before between after a b (SoFar later was_run left) (GroupDue endpoints block parts next g) (EndGiven endpoints block parts later last was_run rows) (EndDue endpoints block parts later was_run rows)
+          (UnfilteredGiven endpoints block parts next last g) (GroupDue endpoints block parts next g) rows r
+          (λ graphs own more y s k. at_end graphs left is later last was_run rows own more y s k)
+          (λ graphs own more s k. due_end graphs left is later last was_run rows own more s k) so h

@@ -1,0 +1,11 @@
+use Rattle.std.proofs.Common.{◌∙◌, ap, List}
+use Rattle.fx_algebra.specs.Operators.{filtered as filtered_of}
+use Rattle.fx_algebra.specs.declared.expressions.Expr.{Expr}
+use Rattle.fx_engine.proofs.ElementLemmas.{own_filters}
+use Rattle.fx_engine.proofs.groups.filtered.Goals as goal
+
+pub returns-in-Ok-filter-clause-given : goal.returns-in-Ok-filter-clause-given
+returns-in-Ok-filter-clause-given c =
+    c.in-Ok-filter.ensures
+    ∙ ap (λ (es : List Expr). filtered_of es c.as_slice.result.now) (c.as_slice-2.ensures.value ∙ c.in-Ok.ensures ∙ own_filters c.args.group.now)
+    ∙ ap (filtered_of _) c.as_slice.ensures.value

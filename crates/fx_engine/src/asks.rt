@@ -1,0 +1,139 @@
+//! The ASKs of a query, over several wires.
+ghost use Rattle.std.specs.Prelude.{◌≡◌, ◌<◌, ◌≤◌, All, IfOk, length, map, true};
+ghost use Rattle.fx_outside.specs.Endpoints.{is_sendable};
+ghost use Rattle.fx_spelling.specs.Printable.{IsTriple};
+ghost use Rattle.fx_engine.specs.AskSteps as spec;
+ghost use Rattle.fx_engine.specs.AskSteps.{AreTruthsOf, IsForAsk, IsTruthOf, truths_in};
+ghost use Rattle.fx_engine.specs.Asks.{AskedAll};
+
+use fx_outside::Endpoint;
+use fx_pool::{FlowError, Job, JobReply, RequestText, Work, run_jobs};
+use fx_sources::{Probe, ask_text};
+use fx_terms::Memory;
+use fx_wire::Wire;
+use std::alloc::Global;
+
+/// The most probes that are asked for at once.
+const MOST: usize = 65_536;
+
+/// What the endpoints answer to probes, in their order.
+///
+/// The ASK of each probe's key goes to the probe's endpoint, once. The first of these ends the call: `Member`, the exchange with the endpoint
+/// failed, and was counted as a fault at its address; `BadReply`, with the first fault of what was replied; `RequestTooLong`, the text has more
+/// than 67,108,864 bytes, and wasn't sent; `Memory`.
+pub(crate) fn ask_all<W: Wire + Send>(
+    alloc: Global,
+    probes: &[Probe],
+    endpoints: &[Endpoint],
+    wires: &mut [W],
+) -> Result<Vec<bool>, FlowError>
+    requires wired { (0 < length wires.old) × (length wires.old ≤ 16) }
+    requires sendable { All (λ e. is_sendable e ≡ true) endpoints.now }
+    requires within { All (λ p. p.at < length endpoints.now) probes.now }
+    requires triples { All (λ p. IsTriple p.key.pattern) probes.now }
+    ensures { AskedAll W.tells_log W.counts_alone (map W.seen wires.old) (map W.seen wires.new) endpoints.now probes.now (truths_in result) }
+{
+    let mut truths = Vec::new(alloc);
+    let mut start = 0;
+    while start < probes.len() {
+        let end = start + (probes.len() - start).min(MOST);
+        match ask_some(alloc, &probes[start..end], endpoints, wires) {
+            Err(error) => return Err(error),
+            Ok(mut more) => {
+                if truths.append(&mut more).is_err() {
+                    return Err(FlowError::Memory);
+                }
+            }
+        }
+        start = end;
+    }
+    Ok(truths)
+}
+
+// What the endpoints answer to probes that are asked for at once.
+fn ask_some<W: Wire + Send>(
+    alloc: Global,
+    probes: &[Probe],
+    endpoints: &[Endpoint],
+    wires: &mut [W],
+) -> Result<Vec<bool>, FlowError>
+    requires wired { (0 < length wires.old) × (length wires.old ≤ 16) }
+    requires sendable { All (λ e. is_sendable e ≡ true) endpoints.now }
+    requires few { length probes.now ≤ 65536 }
+    requires within { All (λ p. p.at < length endpoints.now) probes.now }
+    requires triples { All (λ p. IsTriple p.key.pattern) probes.now }
+    ensures { AskedAll W.tells_log W.counts_alone (map W.seen wires.old) (map W.seen wires.new) endpoints.now probes.now (truths_in result) }
+{
+    match jobs_of(alloc, probes) {
+        Err(Memory) => Err(FlowError::Memory),
+        Ok(jobs) => match run_jobs(alloc, endpoints, jobs.as_slice(), wires) {
+            Err(Memory) => Err(FlowError::Memory),
+            Ok(replies) => truths_of(alloc, probes, replies),
+        },
+    }
+}
+
+// The jobs that ask for probes.
+fn jobs_of(alloc: Global, probes: &[Probe]) -> Result<Vec<Job>, Memory>
+    ensures { IfOk result (λ jobs. jobs.items ≡ map spec.job_of probes.now) }
+{
+    let mut jobs = Vec::new(alloc);
+    for probe in probes {
+        let job = job_of(alloc, probe)?;
+        if jobs.push(job).is_err() {
+            return Err(Memory);
+        }
+    }
+    Ok(jobs)
+}
+
+fn job_of(alloc: Global, probe: &Probe) -> Result<Job, Memory>
+    ensures { IfOk result (λ job. job ≡ spec.job_of probe.now) }
+{
+    let text = ask_text(alloc, &probe.key)?;
+    Ok(Job {
+        at: probe.at,
+        work: Work::Ask {
+            text: RequestText::of(text),
+        },
+    })
+}
+
+// The truth values that the replies to probes are, or the first refusal.
+fn truths_of(
+    alloc: Global,
+    probes: &[Probe],
+    replies: Vec<JobReply>,
+) -> Result<Vec<bool>, FlowError>
+    requires many { length replies.items ≡ length probes.now }
+    requires asked { All IsForAsk replies.items }
+    ensures { AreTruthsOf probes.now replies.items (truths_in result) }
+{
+    let mut truths = Vec::new(alloc);
+    for (probe, reply) in probes.iter().zip(replies) {
+        match truth_of(probe.at, reply) {
+            Err(error) => return Err(error),
+            Ok(truth) => {
+                if truths.push(truth).is_err() {
+                    return Err(FlowError::Memory);
+                }
+            }
+        }
+    }
+    Ok(truths)
+}
+
+// The truth value that the reply of an endpoint is, or the refusal.
+fn truth_of(at: u32, reply: JobReply) -> Result<bool, FlowError>
+    requires { IsForAsk reply }
+    ensures { IsTruthOf at reply result }
+{
+    match reply {
+        JobReply::Truth(truth) => Ok(truth),
+        JobReply::Failed => Err(FlowError::Member { at }),
+        JobReply::Bad(bad) => Err(FlowError::BadReply { at, bad }),
+        JobReply::TooLong { length } => Err(FlowError::RequestTooLong { at, length }),
+        JobReply::Found(_) => unreachable!(),
+        JobReply::Table(_) => unreachable!(),
+    }
+}

@@ -1,0 +1,540 @@
+//! The rows of groups over the union of the graphs of endpoints (SPARQL 1.1 sections 18.2.2 and 18.6).
+ghost use Rattle.std.specs.Prelude.{◌≡◌, ◌<◌, ◌≤◌, All, IfErr, IfOk, IsPermutation, IsTrue, OnOk, [], ◌∷◌, length, map, true};
+ghost use Rattle.fx_algebra.specs.Groups.{groups_services, part_services};
+ghost use Rattle.fx_algebra.specs.Operators.{extend as extend_of, filtered as filtered_of, inline_rows as inline_rows_of, join as join_of, left_join as left_join_of, minus as minus_of};
+ghost use Rattle.fx_algebra.specs.Solutions.{rises};
+ghost use Rattle.fx_outside.specs.Endpoints.{is_sendable};
+ghost use Rattle.fx_pool.specs.Flows.{rows_in};
+ghost use Rattle.fx_steps.specs.Optionals.{optional_rows};
+ghost use Rattle.fx_steps.specs.Steps.{solutions_of};
+ghost use Rattle.fx_engine.specs.Asked.{Asked};
+ghost use Rattle.fx_engine.specs.GroupsAsked as spec;
+ghost use Rattle.fx_engine.specs.GroupsAsked.{CanBeAsked, solutions_in, units_in};
+ghost use Rattle.fx_engine.specs.SectionSteps.{group_of, part_of, part_patterns};
+
+use crate::optionals::or_themselves;
+use crate::sections::{filters_of, is_simple, keeps_run};
+use fx_algebra::{Element, Expr, Group, Inline, Row, Solution};
+use fx_outside::Endpoint;
+use fx_plan::Part;
+use fx_pool::{FlowError, run_flow};
+use fx_solutions::{extend, filter, inline_rows, join_with, left_join_with, minus_with};
+use fx_terms::{Memory, Name};
+use fx_wire::Wire;
+use std::alloc::Global;
+
+/// The rows of a group over the union of the endpoints' graphs, in some order.
+///
+/// The plan has the parts of the query that the group is of, in text order, and `next` is the place of the group's first part; it is moved behind the
+/// group's last. The group is gone through from left to right. The units of a run of triple patterns are asked for, from the rows before it on. A
+/// nested group, a UNION, a MINUS and an OPTIONAL begin with the one empty solution, but the run of an OPTIONAL whose group holds triple
+/// patterns and filters alone begins with the rows on its left. The filters of the group are applied at its end, those that went with
+/// units too.
+///
+/// The first refusal ends the call: its cause is that of a batch of one of the plan's units.
+#[cycle(rows)]
+pub(crate) fn group_rows<W: Wire + Send>(
+    alloc: Global,
+    group: &Group,
+    plan: &[Part],
+    next: &mut usize,
+    endpoints: &[Endpoint],
+    block: u32,
+    wires: &mut [W],
+) -> Result<Vec<Solution>, FlowError>
+    requires wired { (0 < length wires.old) × (length wires.old ≤ 16) }
+    requires sendable { All (λ e. is_sendable e ≡ true) endpoints.now }
+    requires block { (0 < block) × (block ≤ 64) }
+    requires asked { All (CanBeAsked (length endpoints.now)) plan.now }
+    requires alone { (group_of group.now).services ≡ 0 }
+    ensures { Asked W.tells_log W.counts_alone (map W.seen wires.old) (map W.seen wires.new) endpoints.now (units_in plan.now) (spec.GroupGiven endpoints.now block plan.now next.old next.new group.now) (spec.GroupDue endpoints.now block plan.now next.old group.now) (solutions_in result) }
+{
+    match unfiltered(alloc, group, plan, next, endpoints, block, wires) {
+        Err(error) => Err(error),
+        Ok(rows) => filtered(alloc, group, rows),
+    }
+}
+
+// The rows of a group before its filters, less some that these refuse.
+#[cycle(rows)]
+fn unfiltered<W: Wire + Send>(
+    alloc: Global,
+    group: &Group,
+    plan: &[Part],
+    next: &mut usize,
+    endpoints: &[Endpoint],
+    block: u32,
+    wires: &mut [W],
+) -> Result<Vec<Solution>, FlowError>
+    requires wired { (0 < length wires.old) × (length wires.old ≤ 16) }
+    requires sendable { All (λ e. is_sendable e ≡ true) endpoints.now }
+    requires block { (0 < block) × (block ≤ 64) }
+    requires asked { All (CanBeAsked (length endpoints.now)) plan.now }
+    requires alone { (group_of group.now).services ≡ 0 }
+    ensures { Asked W.tells_log W.counts_alone (map W.seen wires.old) (map W.seen wires.new) endpoints.now (units_in plan.now) (spec.UnfilteredGiven endpoints.now block plan.now next.old next.new group.now) (spec.GroupDue endpoints.now block plan.now next.old group.now) (solutions_in result) }
+{
+    let Ok(mut rows) = one_row(alloc) else {
+        return Err(FlowError::Memory);
+    };
+    let mut in_run = false;
+    for element in group.elements.as_slice() {
+        match after_element(
+            alloc,
+            element,
+            rows,
+            &mut in_run,
+            plan,
+            next,
+            endpoints,
+            block,
+            wires,
+        ) {
+            Err(error) => return Err(error),
+            Ok(found) => rows = found,
+        }
+    }
+    end_run(alloc, rows, in_run, plan, next, endpoints, block, wires)
+}
+
+// The rows behind an element, from those before it. A run that a triple pattern is in goes on until an operator comes, or the group ends.
+#[cycle(rows)]
+fn after_element<W: Wire + Send>(
+    alloc: Global,
+    element: &Element,
+    before: Vec<Solution>,
+    in_run: &mut bool,
+    plan: &[Part],
+    next: &mut usize,
+    endpoints: &[Endpoint],
+    block: u32,
+    wires: &mut [W],
+) -> Result<Vec<Solution>, FlowError>
+    requires wired { (0 < length wires.old) × (length wires.old ≤ 16) }
+    requires sendable { All (λ e. is_sendable e ≡ true) endpoints.now }
+    requires block { (0 < block) × (block ≤ 64) }
+    requires asked { All (CanBeAsked (length endpoints.now)) plan.now }
+    requires alone { part_services (part_of element.now) ≡ 0 }
+    ensures { Asked W.tells_log W.counts_alone (map W.seen wires.old) (map W.seen wires.new) endpoints.now (units_in plan.now) (spec.ElementGiven endpoints.now block plan.now next.old next.new in_run.old in_run.new element.now before.items) (spec.ElementDue endpoints.now block plan.now next.old in_run.old element.now before.items) (solutions_in result) }
+{
+    if is_pattern(element) {
+        *in_run = true;
+        return Ok(before);
+    }
+    if keeps_run(element) {
+        return Ok(before);
+    }
+    match end_run(alloc, before, *in_run, plan, next, endpoints, block, wires) {
+        Err(error) => Err(error),
+        Ok(rows) => {
+            *in_run = false;
+            after_operator(alloc, element, rows, plan, next, endpoints, block, wires)
+        }
+    }
+}
+
+// The rows behind an operator, from those before it.
+#[cycle(rows)]
+fn after_operator<W: Wire + Send>(
+    alloc: Global,
+    element: &Element,
+    before: Vec<Solution>,
+    plan: &[Part],
+    next: &mut usize,
+    endpoints: &[Endpoint],
+    block: u32,
+    wires: &mut [W],
+) -> Result<Vec<Solution>, FlowError>
+    requires wired { (0 < length wires.old) × (length wires.old ≤ 16) }
+    requires sendable { All (λ e. is_sendable e ≡ true) endpoints.now }
+    requires block { (0 < block) × (block ≤ 64) }
+    requires asked { All (CanBeAsked (length endpoints.now)) plan.now }
+    requires alone { part_services (part_of element.now) ≡ 0 }
+    ensures { Asked W.tells_log W.counts_alone (map W.seen wires.old) (map W.seen wires.new) endpoints.now (units_in plan.now) (spec.OperatorGiven endpoints.now block plan.now next.old next.new element.now before.items) (spec.OperatorDue endpoints.now block plan.now next.old element.now before.items) (solutions_in result) }
+{
+    match element {
+        Element::Triple(_) => Ok(before),
+        Element::Filter(_) => Ok(before),
+        Element::Optional(group) => {
+            optional(alloc, group, before, plan, next, endpoints, block, wires)
+        }
+        Element::Union(groups) => {
+            match alternatives(
+                alloc,
+                groups.as_slice(),
+                plan,
+                next,
+                endpoints,
+                block,
+                wires,
+            ) {
+                Err(error) => Err(error),
+                Ok(found) => joined(alloc, before.as_slice(), found),
+            }
+        }
+        Element::Minus(group) => {
+            match group_rows(alloc, group, plan, next, endpoints, block, wires) {
+                Err(error) => Err(error),
+                Ok(found) => lessened(alloc, before.as_slice(), found),
+            }
+        }
+        Element::Bind { expr, name } => extended(alloc, before.as_slice(), name, expr),
+        Element::Values(inline) => with_inline(alloc, before.as_slice(), inline),
+        Element::Service {
+            silent: _,
+            iri: _,
+            group: _,
+        } => Ok(before),
+    }
+}
+
+// The rows behind an OPTIONAL, from those before it.
+#[cycle(rows)]
+fn optional<W: Wire + Send>(
+    alloc: Global,
+    group: &Group,
+    before: Vec<Solution>,
+    plan: &[Part],
+    next: &mut usize,
+    endpoints: &[Endpoint],
+    block: u32,
+    wires: &mut [W],
+) -> Result<Vec<Solution>, FlowError>
+    requires wired { (0 < length wires.old) × (length wires.old ≤ 16) }
+    requires sendable { All (λ e. is_sendable e ≡ true) endpoints.now }
+    requires block { (0 < block) × (block ≤ 64) }
+    requires asked { All (CanBeAsked (length endpoints.now)) plan.now }
+    requires alone { (group_of group.now).services ≡ 0 }
+    ensures { Asked W.tells_log W.counts_alone (map W.seen wires.old) (map W.seen wires.new) endpoints.now (units_in plan.now) (spec.OperatorGiven endpoints.now block plan.now next.old next.new (Element.Optional group.now) before.items) (spec.OperatorDue endpoints.now block plan.now next.old (Element.Optional group.now) before.items) (solutions_in result) }
+{
+    if is_simple(group) {
+        return optional_run(alloc, group, before, plan, next, endpoints, block, wires);
+    }
+    match unfiltered(alloc, group, plan, next, endpoints, block, wires) {
+        Err(error) => Err(error),
+        Ok(found) => left_joined(alloc, before.as_slice(), found, group),
+    }
+}
+
+// The rows of groups, one after the other.
+#[cycle(rows)]
+fn alternatives<W: Wire + Send>(
+    alloc: Global,
+    groups: &[Group],
+    plan: &[Part],
+    next: &mut usize,
+    endpoints: &[Endpoint],
+    block: u32,
+    wires: &mut [W],
+) -> Result<Vec<Solution>, FlowError>
+    requires wired { (0 < length wires.old) × (length wires.old ≤ 16) }
+    requires sendable { All (λ e. is_sendable e ≡ true) endpoints.now }
+    requires block { (0 < block) × (block ≤ 64) }
+    requires asked { All (CanBeAsked (length endpoints.now)) plan.now }
+    requires alone { groups_services (map group_of groups.now) ≡ 0 }
+    ensures { Asked W.tells_log W.counts_alone (map W.seen wires.old) (map W.seen wires.new) endpoints.now (units_in plan.now) (spec.AlternativesGiven endpoints.now block plan.now next.old next.new groups.now) (spec.AlternativesDue endpoints.now block plan.now next.old groups.now) (solutions_in result) }
+{
+    let mut rows = Vec::new(alloc);
+    for group in groups {
+        match group_rows(alloc, group, plan, next, endpoints, block, wires) {
+            Err(error) => return Err(error),
+            Ok(mut found) => {
+                if rows.append(&mut found).is_err() {
+                    return Err(FlowError::Memory);
+                }
+            }
+        }
+    }
+    Ok(rows)
+}
+
+// The rows behind an OPTIONAL whose group is one run, which begins with the rows before it.
+fn optional_run<W: Wire + Send>(
+    alloc: Global,
+    group: &Group,
+    before: Vec<Solution>,
+    plan: &[Part],
+    next: &mut usize,
+    endpoints: &[Endpoint],
+    block: u32,
+    wires: &mut [W],
+) -> Result<Vec<Solution>, FlowError>
+    requires wired { (0 < length wires.old) × (length wires.old ≤ 16) }
+    requires sendable { All (λ e. is_sendable e ≡ true) endpoints.now }
+    requires block { (0 < block) × (block ≤ 64) }
+    requires asked { All (CanBeAsked (length endpoints.now)) plan.now }
+    requires simple { (group_of group.now).is_simple ≡ true }
+    ensures { Asked W.tells_log W.counts_alone (map W.seen wires.old) (map W.seen wires.new) endpoints.now (units_in plan.now) (spec.OperatorGiven endpoints.now block plan.now next.old next.new (Element.Optional group.now) before.items) (spec.OperatorDue endpoints.now block plan.now next.old (Element.Optional group.now) before.items) (solutions_in result) }
+{
+    known_to_rise(before.as_slice());
+    if !has_pattern(group) {
+        return filters_alone(alloc, before.as_slice(), group);
+    }
+    match after_run(
+        alloc,
+        before.as_slice(),
+        plan,
+        next,
+        endpoints,
+        block,
+        wires,
+    ) {
+        Err(error) => Err(error),
+        Ok(found) => with_optional(alloc, group, before, found),
+    }
+}
+
+// What comes of the run whose part of the plan is next, from these rows on: they are numbered from 0. Where one of its patterns has no source,
+// nothing does, and nothing is asked for.
+fn after_run<W: Wire + Send>(
+    alloc: Global,
+    rows: &[Solution],
+    plan: &[Part],
+    next: &mut usize,
+    endpoints: &[Endpoint],
+    block: u32,
+    wires: &mut [W],
+) -> Result<Vec<Row>, FlowError>
+    requires wired { (0 < length wires.old) × (length wires.old ≤ 16) }
+    requires sendable { All (λ e. is_sendable e ≡ true) endpoints.now }
+    requires block { (0 < block) × (block ≤ 64) }
+    requires asked { All (CanBeAsked (length endpoints.now)) plan.now }
+    ensures { Asked W.tells_log W.counts_alone (map W.seen wires.old) (map W.seen wires.new) endpoints.now (units_in plan.now) (spec.RunGiven endpoints.now block plan.now next.old next.new rows.now) (spec.RunDue endpoints.now block plan.now next.old rows.now) (rows_in result) }
+{
+    if *next >= plan.len() {
+        return Ok(Vec::new(alloc));
+    }
+    let part = &plan[*next];
+    *next += 1;
+    match part {
+        Part::Run { units, bound: _ } => {
+            run_flow(alloc, endpoints, units.as_slice(), rows, block, wires)
+        }
+        Part::EmptyRun => Ok(Vec::new(alloc)),
+        Part::Service { iri: _ } => Ok(Vec::new(alloc)),
+    }
+}
+
+// The rows behind the run that ends here, if there is one.
+fn end_run<W: Wire + Send>(
+    alloc: Global,
+    before: Vec<Solution>,
+    in_run: bool,
+    plan: &[Part],
+    next: &mut usize,
+    endpoints: &[Endpoint],
+    block: u32,
+    wires: &mut [W],
+) -> Result<Vec<Solution>, FlowError>
+    requires wired { (0 < length wires.old) × (length wires.old ≤ 16) }
+    requires sendable { All (λ e. is_sendable e ≡ true) endpoints.now }
+    requires block { (0 < block) × (block ≤ 64) }
+    requires asked { All (CanBeAsked (length endpoints.now)) plan.now }
+    ensures { Asked W.tells_log W.counts_alone (map W.seen wires.old) (map W.seen wires.new) endpoints.now (units_in plan.now) (spec.EndGiven endpoints.now block plan.now next.old next.new in_run before.items) (spec.EndDue endpoints.now block plan.now next.old in_run before.items) (solutions_in result) }
+{
+    if !in_run {
+        return Ok(before);
+    }
+    known_to_rise(before.as_slice());
+    match after_run(
+        alloc,
+        before.as_slice(),
+        plan,
+        next,
+        endpoints,
+        block,
+        wires,
+    ) {
+        Err(error) => Err(error),
+        Ok(found) => solutions(alloc, found),
+    }
+}
+
+// ---- without requests
+
+// The one empty solution.
+pub(crate) fn one_row(alloc: Global) -> Result<Vec<Solution>, Memory>
+    ensures { IfOk result (λ rows. rows.items ≡ [] ∷ []) }
+{
+    let mut rows = Vec::new(alloc);
+    rows.push(Solution::empty(alloc))?;
+    Ok(rows)
+}
+
+// The names of each row rise. It does nothing: proofs need to know.
+pub(crate) fn known_to_rise(rows: &[Solution])
+    ensures { All (λ s. IsTrue (rises s)) rows.now }
+{
+    for row in rows {
+        let _pairs = row.pairs();
+    }
+}
+
+// Whether an element is a triple pattern.
+fn is_pattern(element: &Element) -> bool
+    ensures { result ≡ spec.is_run (part_patterns (part_of element.now)) }
+{
+    match element {
+        Element::Triple(_) => true,
+        Element::Filter(_) => false,
+        Element::Optional(_) => false,
+        Element::Union(_) => false,
+        Element::Minus(_) => false,
+        Element::Bind { expr: _, name: _ } => false,
+        Element::Values(_) => false,
+        Element::Service {
+            silent: _,
+            iri: _,
+            group: _,
+        } => false,
+    }
+}
+
+// Whether a group has a triple pattern of its own.
+fn has_pattern(group: &Group) -> bool
+    ensures { result ≡ spec.is_run (spec.own_patterns group.now) }
+{
+    for element in group.elements.as_slice() {
+        if is_pattern(element) {
+            return true;
+        }
+    }
+    false
+}
+
+// The solutions of rows.
+fn solutions(alloc: Global, rows: Vec<Row>) -> Result<Vec<Solution>, FlowError>
+    ensures given { IfOk result (λ solutions. solutions.items ≡ solutions_of rows.items) }
+    ensures memory { IfErr result (λ e. e ≡ FlowError.Memory) }
+{
+    let mut solutions = Vec::new(alloc);
+    for row in rows {
+        if solutions.push(row.solution).is_err() {
+            return Err(FlowError::Memory);
+        }
+    }
+    Ok(solutions)
+}
+
+// The rows on which the filters of a group hold.
+fn filtered(alloc: Global, group: &Group, rows: Vec<Solution>) -> Result<Vec<Solution>, FlowError>
+    ensures given { IfOk result (λ kept. kept.items ≡ filtered_of (group_of group.now).filters rows.items) }
+    ensures memory { IfErr result (λ e. e ≡ FlowError.Memory) }
+{
+    let Ok(filters) = filters_of(alloc, group) else {
+        return Err(FlowError::Memory);
+    };
+    match filter(alloc, rows.as_slice(), filters.as_slice()) {
+        Ok(kept) => Ok(kept),
+        Err(Memory) => Err(FlowError::Memory),
+    }
+}
+
+fn joined(
+    alloc: Global,
+    before: &[Solution],
+    found: Vec<Solution>,
+) -> Result<Vec<Solution>, FlowError>
+    ensures given { IfOk result (λ rows. IsPermutation (join_of before.now found.items) rows.items) }
+    ensures memory { IfErr result (λ e. e ≡ FlowError.Memory) }
+{
+    match join_with(alloc, before, found) {
+        Ok(rows) => Ok(rows),
+        Err(Memory) => Err(FlowError::Memory),
+    }
+}
+
+fn lessened(
+    alloc: Global,
+    before: &[Solution],
+    found: Vec<Solution>,
+) -> Result<Vec<Solution>, FlowError>
+    ensures given { IfOk result (λ rows. rows.items ≡ minus_of before.now found.items) }
+    ensures memory { IfErr result (λ e. e ≡ FlowError.Memory) }
+{
+    match minus_with(alloc, before, found) {
+        Ok(rows) => Ok(rows),
+        Err(Memory) => Err(FlowError::Memory),
+    }
+}
+
+fn extended(
+    alloc: Global,
+    before: &[Solution],
+    name: &Name,
+    expr: &Expr,
+) -> Result<Vec<Solution>, FlowError>
+    ensures given { IfOk result (λ rows. rows.items ≡ extend_of before.now name.now expr.now) }
+    ensures memory { IfErr result (λ e. e ≡ FlowError.Memory) }
+{
+    match extend(alloc, before, name, expr) {
+        Ok(rows) => Ok(rows),
+        Err(Memory) => Err(FlowError::Memory),
+    }
+}
+
+fn with_inline(
+    alloc: Global,
+    before: &[Solution],
+    inline: &Inline,
+) -> Result<Vec<Solution>, FlowError>
+    ensures given { IfOk result (λ rows. IsPermutation (join_of before.now (inline_rows_of inline.now)) rows.items) }
+    ensures memory { IfErr result (λ e. e ≡ FlowError.Memory) }
+{
+    match inline_rows(alloc, inline) {
+        Ok(found) => joined(alloc, before, found),
+        Err(Memory) => Err(FlowError::Memory),
+    }
+}
+
+// The left join, with the filters of a group as its conditions.
+fn left_joined(
+    alloc: Global,
+    before: &[Solution],
+    found: Vec<Solution>,
+    group: &Group,
+) -> Result<Vec<Solution>, FlowError>
+    ensures given { IfOk result (λ rows. IsPermutation (left_join_of before.now found.items (group_of group.now).filters) rows.items) }
+    ensures memory { IfErr result (λ e. e ≡ FlowError.Memory) }
+{
+    let Ok(filters) = filters_of(alloc, group) else {
+        return Err(FlowError::Memory);
+    };
+    match left_join_with(alloc, before, found, filters.as_slice()) {
+        Ok(rows) => Ok(rows),
+        Err(Memory) => Err(FlowError::Memory),
+    }
+}
+
+// The left join with the one empty solution, for an OPTIONAL that has filters alone.
+fn filters_alone(
+    alloc: Global,
+    before: &[Solution],
+    group: &Group,
+) -> Result<Vec<Solution>, FlowError>
+    ensures given { IfOk result (λ rows. IsPermutation (left_join_of before.now ([] ∷ []) (group_of group.now).filters) rows.items) }
+    ensures memory { IfErr result (λ e. e ≡ FlowError.Memory) }
+{
+    match one_row(alloc) {
+        Ok(one) => left_joined(alloc, before, one, group),
+        Err(Memory) => Err(FlowError::Memory),
+    }
+}
+
+// The rows before an OPTIONAL with what its run has for each of them, or by themselves.
+fn with_optional(
+    alloc: Global,
+    group: &Group,
+    before: Vec<Solution>,
+    found: Vec<Row>,
+) -> Result<Vec<Solution>, FlowError>
+    ensures given { IfOk result (λ rows. rows.items ≡ optional_rows (group_of group.now).filters 0 before.items found.items) }
+    ensures memory { IfErr result (λ e. e ≡ FlowError.Memory) }
+{
+    let Ok(filters) = filters_of(alloc, group) else {
+        return Err(FlowError::Memory);
+    };
+    match or_themselves(alloc, before, found, filters.as_slice()) {
+        Ok(rows) => Ok(rows),
+        Err(Memory) => Err(FlowError::Memory),
+    }
+}
