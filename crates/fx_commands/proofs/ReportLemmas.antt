@@ -1,5 +1,6 @@
 -- What a refusal reports is its cause.
 use Rattle.std.proofs.Common.{◌≡◌, ap, sym, subst, refl, ℕ, List, Option, Some, None, Ok, Err, inl, inr, slice_index_or, slice_set}
+use Rattle.fx_outside.specs.Doors.{DoorSeen}
 use Rattle.fx_commands.specs.declared.refusals.QueryRefusal.TheVariants as query
 use Rattle.fx_ntriples.specs.declared.faults.NtError.TheVariants as error
 use Rattle.fx_commands.specs.declared.refusals.GraphRefusal.TheVariants as graph
@@ -14,7 +15,7 @@ use Rattle.fx_commands.specs.Lines.{usage_line, no_memory}
 use Rattle.fx_commands.specs.Local.{IsAnswer, IsReported, IsWritten, HasLines}
 use Rattle.fx_commands.specs.declared.local.Report.{Report}
 use Rattle.fx_commands.specs.Query.{IsQueryReported, IsQueryWritten}
-use Rattle.fx_commands.specs.Serving.{DoorSeen, IsMemberReported}
+use Rattle.fx_commands.specs.Serving.{IsMemberReported}
 use Rattle.fx_commands.specs.Runs.{OnFirst, Reports, Writes}
 use Rattle.fx_commands.specs.Sinks.{SinkWritten, IsCutShort}
 use Rattle.fx_commands.specs.declared.statuses.Status.{Status}

@@ -4,7 +4,7 @@ use Rattle.std.specs.Prelude.{◌⊎◌, IsTrue}
 use Rattle.std.proofs.lemmas.List.Elements.{All-append, All-cons, All-nil}
 use Rattle.std.proofs.lemmas.List.{map-append}
 use Rattle.fx_terms.specs.declared.triples.Triple.{Triple}
-use Rattle.fx_outside.specs.Doors.{Output, IsTaken}
+use Rattle.fx_outside.specs.Doors.{DoorSeen, Output, IsTaken}
 use Rattle.fx_ntriples.specs.declared.faults.NtError.TheVariants as error
 use Rattle.fx_commands.specs.Files.{FileRead}
 use Rattle.fx_commands.specs.Lines.{cannot_serve, no_memory}
@@ -12,7 +12,7 @@ use Rattle.fx_commands.specs.LocalSteps.{GivesGraph, graph_line}
 use Rattle.fx_commands.specs.RefusalStatuses.{graph_status}
 use Rattle.fx_commands.specs.declared.refusals.GraphRefusal.{GraphRefusal}
 use Rattle.fx_commands.specs.declared.refusals.GraphRefusal.TheVariants as refusal
-use Rattle.fx_commands.specs.Serving.{DoorSeen, Visit, IsVisit, IsEnded, HasVisits, Serves, ending_line, ending_lines, IsServingReported, IsUnwritten, IsCut, IsOpen, IsShut, HasStopped, IsGraphOf, IsMemberReported}
+use Rattle.fx_commands.specs.Serving.{Visit, IsVisit, IsEnded, HasVisits, Serves, ending_line, ending_lines, IsServingReported, IsUnwritten, IsCut, IsOpen, IsShut, HasStopped, IsGraphOf, IsMemberReported}
 use Rattle.fx_commands.specs.ServingSteps.{IsServedNext, IsLost, GivesEnding, end_status, end_line}
 use Rattle.fx_commands.specs.declared.serving.Ending.{Ending}
 use Rattle.fx_commands.specs.declared.statuses.Status.{Status}

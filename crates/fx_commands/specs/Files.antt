@@ -2,6 +2,7 @@
 use Rattle.std.specs.Prelude.{◌≡◌, ℕ, ◌<◌, ◌≤◌, List, Option, IfSome, Ok, Err, length, slice_get, Some}
 use Rattle.fx_terms.specs.declared.triples.Triple.{Triple}
 use Rattle.fx_outside.specs.Endpoints.{EndpointParts}
+use Rattle.fx_outside.specs.Storage.{FilesSeen}
 use Rattle.fx_algebra.specs.declared.queries.Query.{Query}
 use Rattle.fx_grammar.specs.Accepted.{Accepted}
 use Rattle.fx_grammar.specs.Refused.{IsRefused}
@@ -22,8 +23,8 @@ pub record FileRead : Type 0 where
   pub before : ℕ
   pub after : ℕ
 
-abbrev pub file_read : {S : Type 0} → (S → List ℕ → Option (List ℕ)) → (S → List ℕ → ℕ) → S → S → List ℕ → FileRead
-file_read content faults old new name = record { name = name; content = content old name; before = faults old name; after = faults new name }
+abbrev pub file_read : FilesSeen → FilesSeen → List ℕ → FileRead
+file_read before after name = record { name = name; content = before.content name; before = before.faults name; after = after.faults name }
 
 -- its reading failed in the call
 abbrev pub HasFailed : FileRead → Type 0

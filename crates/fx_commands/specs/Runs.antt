@@ -1,5 +1,6 @@
 -- What a run does, by the command that its words are.
 use Rattle.std.specs.Prelude.{◌≡◌, ℕ, List, ◌∷◌, Option, Some, None}
+use Rattle.fx_outside.specs.Doors.{DoorSeen}
 use Rattle.fx_wire.specs.Exchanges.{Seen}
 use Rattle.fx_commands.specs.declared.statuses.Status.{Status}
 use Rattle.fx_commands.specs.declared.statuses.Status.TheVariants as status
@@ -9,7 +10,7 @@ use Rattle.fx_commands.specs.Files.{FileRead}
 use Rattle.fx_commands.specs.Lines.{usage_line, no_memory}
 use Rattle.fx_commands.specs.Local.{IsAnswer, IsReported, IsWritten}
 use Rattle.fx_commands.specs.Query.{IsQueryReported, IsQueryWritten}
-use Rattle.fx_commands.specs.Serving.{DoorSeen, IsMemberReported}
+use Rattle.fx_commands.specs.Serving.{IsMemberReported}
 use Rattle.fx_commands.specs.Sinks.{SinkWritten, HasFailed, IsCutOff, IsCutShort, IsUntouched}
 
 -- words that are no command give the usage line, unless memory ran out

@@ -1,11 +1,11 @@
 -- What `fedx member` does: it serves connections one after another, with a line for each.
-use Rattle.std.specs.Prelude.{◌≡◌, ◌⊎◌, ℕ, ◌+◌, ◌<◌, ◌≤◌, Bool, List, [], ◌∷◌, ◌++◌, map, length, codes, All, Option, Some, IfSome, IsTrue}
+use Rattle.std.specs.Prelude.{◌≡◌, ◌⊎◌, ℕ, ◌+◌, ◌<◌, ◌≤◌, List, [], ◌∷◌, ◌++◌, map, length, codes, All, Some, IfSome, IsTrue}
 use Rattle.std.specs.Fmt.{decimal}
 use Rattle.std.proofs.Common.{suc}
 use Rattle.fx_terms.specs.declared.triples.Triple.{Triple}
 use Rattle.fx_ntriples.specs.Forms.{IsDocument}
 use Rattle.fx_ntriples.specs.declared.faults.NtError.{NtError}
-use Rattle.fx_outside.specs.Doors.{Output}
+use Rattle.fx_outside.specs.Doors.{DoorSeen, Output}
 use Rattle.fx_outside.specs.Streams.{AppendsFront}
 use Rattle.fx_member.specs.Served.{IsServed}
 use Rattle.fx_commands.specs.Files.{FileRead, HasFailed, IsTooLong, IsNoGraph}
@@ -15,18 +15,6 @@ use Rattle.fx_commands.specs.declared.serving.Ending.{Ending}
 use Rattle.fx_commands.specs.declared.serving.Ending.TheVariants.{Replied, ReadFault, WriteFault}
 use Rattle.fx_commands.specs.declared.statuses.Status.{Status}
 use Rattle.fx_commands.specs.declared.statuses.Status.TheVariants as status
-
--- ---- a door at a moment
-
-pub record DoorSeen : Type 0 where
-  pub tells : Bool
-  pub started : Option (List ℕ)
-  pub inputs : List (List ℕ)
-  pub outputs : List Output
-  pub faults : ℕ
-
-abbrev pub door_seen : {D : Type 0} → Bool → (D → Option (List ℕ)) → (D → List (List ℕ)) → (D → List Output) → (D → ℕ) → D → DoorSeen
-door_seen tells started inputs outputs faults door = record { tells = tells; started = started door; inputs = inputs door; outputs = outputs door; faults = faults door }
 
 -- ---- connections
 

@@ -1,10 +1,11 @@
 -- What the steps of `fedx member` give. `IsMemberReported` says what the whole gives.
 use Rattle.std.specs.Prelude.{◌≡◌, ℕ, List, [], ◌∷◌, ◌++◌, Result, Ok, Err, IsTrue}
 use Rattle.fx_terms.specs.declared.triples.Triple.{Triple}
+use Rattle.fx_outside.specs.Doors.{DoorSeen}
 use Rattle.fx_outside.specs.declared.doors.DoorError.{DoorError}
 use Rattle.fx_outside.specs.declared.doors.DoorError.TheVariants as door
 use Rattle.fx_commands.specs.Lines.{cannot_serve, no_memory}
-use Rattle.fx_commands.specs.Serving.{DoorSeen, Visit, IsVisit, IsOneAtMost}
+use Rattle.fx_commands.specs.Serving.{Visit, IsVisit, IsOneAtMost}
 use Rattle.fx_commands.specs.declared.serving.Ending.{Ending}
 use Rattle.fx_commands.specs.declared.statuses.Status.{Status}
 use Rattle.fx_commands.specs.declared.statuses.Status.TheVariants as status

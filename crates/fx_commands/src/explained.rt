@@ -2,7 +2,7 @@
 ghost use Rattle.std.specs.Prelude.{◌≡◌, ◌≤◌, [], All, IfOk, IsTrue, List, ℕ, length};
 ghost use Rattle.std.specs.Option.{option_copied};
 ghost use Rattle.fx_plan.specs.Explained.{HasMembers};
-ghost use Rattle.fx_wire.specs.Exchanges.{IsAfter, seen};
+ghost use Rattle.fx_wire.specs.Exchanges.{IsAfter};
 ghost use Rattle.fx_engine.specs.Counts.{CountsFaults};
 ghost use Rattle.fx_engine.specs.Federation.{AsksNothing, OfMissing};
 ghost use Rattle.fx_engine.specs.Planning.{Plans};
@@ -44,16 +44,16 @@ pub fn run_explain<F: Files, W: Wire, O: Sink, E: Sink>(
     out: &mut O,
     err: &mut E,
 ) -> Status
-    ensures reported { (text : List ℕ) × IsExplainReported (seen W.tells_log W.log W.graph W.faults wire.old) (seen W.tells_log W.log W.graph W.faults wire.new) (file_read F.content F.faults files.old files.new registry.now) (file_read F.content F.faults files.old files.new query.now) result text × (IsTrue E.tells_held → Gains (E.held err.old) (E.held err.new) (E.write_faults err.old) (E.write_faults err.new) text) }
-    ensures written { IsTrue O.tells_held → IsExplainWritten (seen W.tells_log W.log W.graph W.faults wire.old) (file_read F.content F.faults files.old files.new registry.now) (file_read F.content F.faults files.old files.new query.now) result (O.held out.old) (O.held out.new) }
-    ensures endpoint_faults { IsTrue W.counts_alone → CountsOnly Status.EndpointFault result (W.faults wire.old) (W.faults wire.new) }
-    ensures wired { IsAfter (seen W.tells_log W.log W.graph W.faults wire.old) (seen W.tells_log W.log W.graph W.faults wire.new) }
+    ensures reported { (text : List ℕ) × IsExplainReported (W.seen wire.old) (W.seen wire.new) (file_read (F.seen files.old) (F.seen files.new) registry.now) (file_read (F.seen files.old) (F.seen files.new) query.now) result text × (IsTrue E.tells_held → Gains (E.held err.old) (E.held err.new) (E.write_faults err.old) (E.write_faults err.new) text) }
+    ensures written { IsTrue O.tells_held → IsExplainWritten (W.seen wire.old) (file_read (F.seen files.old) (F.seen files.new) registry.now) (file_read (F.seen files.old) (F.seen files.new) query.now) result (O.held out.old) (O.held out.new) }
+    ensures endpoint_faults { IsTrue W.counts_alone → CountsOnly Status.EndpointFault result (W.seen wire.old).faults (W.seen wire.new).faults }
+    ensures wired { IsAfter (W.seen wire.old) (W.seen wire.new) }
     ensures write_fault { result ≡ Status.WriteFault → IsCutOff (sink_written O.tells_held O.held O.write_faults out.old out.new) (sink_written E.tells_held E.held E.write_faults err.old err.new) }
     ensures unfailed { ¬ (result ≡ Status.WriteFault) → O.write_faults out.new ≡ O.write_faults out.old }
     ensures unfailed_lines { result ≡ Status.Done → E.write_faults err.new ≡ E.write_faults err.old }
-    ensures read_faults { CountsOnly Status.ReadFault result (F.faults files.old) (F.faults files.new) }
-    ensures kept { (name : List ℕ) → F.faults files.old name ≤ F.faults files.new name }
-    ensures same { (name : List ℕ) → F.content files.new name ≡ F.content files.old name }
+    ensures read_faults { CountsOnly Status.ReadFault result (F.seen files.old).faults (F.seen files.new).faults }
+    ensures kept { (name : List ℕ) → (F.seen files.old).faults name ≤ (F.seen files.new).faults name }
+    ensures same { (name : List ℕ) → (F.seen files.new).content name ≡ (F.seen files.old).content name }
 {
     match load_registry(alloc, files, registry) {
         Err(refusal) => {
@@ -79,11 +79,11 @@ fn explain_over<W: Wire, O: Sink, E: Sink>(
     out: &mut O,
     err: &mut E,
 ) -> Status
-    ensures reported { (text : List ℕ) × IsPlanReported (seen W.tells_log W.log W.graph W.faults wire.old) (seen W.tells_log W.log W.graph W.faults wire.new) members.now query.now result text × (IsTrue E.tells_held → Gains (E.held err.old) (E.held err.new) (E.write_faults err.old) (E.write_faults err.new) text) }
-    ensures written { IsTrue O.tells_held → IsPlanWritten (seen W.tells_log W.log W.graph W.faults wire.old) members.now query.now result (O.held out.old) (O.held out.new) }
-    ensures begun { AsksFitsInTurn (seen W.tells_log W.log W.graph W.faults wire.old) (seen W.tells_log W.log W.graph W.faults wire.new) members.now query.now }
-    ensures endpoint_faults { IsTrue W.counts_alone → CountsOnly Status.EndpointFault result (W.faults wire.old) (W.faults wire.new) }
-    ensures wired { IsAfter (seen W.tells_log W.log W.graph W.faults wire.old) (seen W.tells_log W.log W.graph W.faults wire.new) }
+    ensures reported { (text : List ℕ) × IsPlanReported (W.seen wire.old) (W.seen wire.new) members.now query.now result text × (IsTrue E.tells_held → Gains (E.held err.old) (E.held err.new) (E.write_faults err.old) (E.write_faults err.new) text) }
+    ensures written { IsTrue O.tells_held → IsPlanWritten (W.seen wire.old) members.now query.now result (O.held out.old) (O.held out.new) }
+    ensures begun { AsksFitsInTurn (W.seen wire.old) (W.seen wire.new) members.now query.now }
+    ensures endpoint_faults { IsTrue W.counts_alone → CountsOnly Status.EndpointFault result (W.seen wire.old).faults (W.seen wire.new).faults }
+    ensures wired { IsAfter (W.seen wire.old) (W.seen wire.new) }
     ensures write_fault { result ≡ Status.WriteFault → IsCutOff (sink_written O.tells_held O.held O.write_faults out.old out.new) (sink_written E.tells_held E.held E.write_faults err.old err.new) }
     ensures unfailed { ¬ (result ≡ Status.WriteFault) → O.write_faults out.new ≡ O.write_faults out.old }
     ensures unfailed_lines { result ≡ Status.Done → E.write_faults err.new ≡ E.write_faults err.old }
@@ -130,11 +130,11 @@ fn explain_members<W: Wire, O: Sink, E: Sink>(
     out: &mut O,
     err: &mut E,
 ) -> Status
-    ensures reported { (text : List ℕ) × IsAskReported AsksNothing (OfMissing query.now (length members.now) []) (seen W.tells_log W.log W.graph W.faults wire.old) (seen W.tells_log W.log W.graph W.faults wire.new) members.now query.now result text × (IsTrue E.tells_held → Gains (E.held err.old) (E.held err.new) (E.write_faults err.old) (E.write_faults err.new) text) }
-    ensures written { IsTrue O.tells_held → IsPlanWritten (seen W.tells_log W.log W.graph W.faults wire.old) members.now query.now result (O.held out.old) (O.held out.new) }
-    ensures begun { AsksFitsInTurn (seen W.tells_log W.log W.graph W.faults wire.old) (seen W.tells_log W.log W.graph W.faults wire.new) members.now query.now }
-    ensures endpoint_faults { IsTrue W.counts_alone → CountsOnly Status.EndpointFault result (W.faults wire.old) (W.faults wire.new) }
-    ensures wired { IsAfter (seen W.tells_log W.log W.graph W.faults wire.old) (seen W.tells_log W.log W.graph W.faults wire.new) }
+    ensures reported { (text : List ℕ) × IsAskReported AsksNothing (OfMissing query.now (length members.now) []) (W.seen wire.old) (W.seen wire.new) members.now query.now result text × (IsTrue E.tells_held → Gains (E.held err.old) (E.held err.new) (E.write_faults err.old) (E.write_faults err.new) text) }
+    ensures written { IsTrue O.tells_held → IsPlanWritten (W.seen wire.old) members.now query.now result (O.held out.old) (O.held out.new) }
+    ensures begun { AsksFitsInTurn (W.seen wire.old) (W.seen wire.new) members.now query.now }
+    ensures endpoint_faults { IsTrue W.counts_alone → CountsOnly Status.EndpointFault result (W.seen wire.old).faults (W.seen wire.new).faults }
+    ensures wired { IsAfter (W.seen wire.old) (W.seen wire.new) }
     ensures write_fault { result ≡ Status.WriteFault → IsCutOff (sink_written O.tells_held O.held O.write_faults out.old out.new) (sink_written E.tells_held E.held E.write_faults err.old err.new) }
     ensures unfailed { ¬ (result ≡ Status.WriteFault) → O.write_faults out.new ≡ O.write_faults out.old }
     ensures unfailed_lines { result ≡ Status.Done → E.write_faults err.new ≡ E.write_faults err.old }
@@ -158,11 +158,11 @@ fn plan_text<W: Wire>(
     query: &Query,
     wire: &mut W,
 ) -> Result<String, FedError>
-    ensures text { GivesPlanText (seen W.tells_log W.log W.graph W.faults wire.old) (seen W.tells_log W.log W.graph W.faults wire.new) members.now query.now result }
-    ensures asked { GivesAsked AsksNothing (seen W.tells_log W.log W.graph W.faults wire.old) (seen W.tells_log W.log W.graph W.faults wire.new) members.now query.now result }
-    ensures begun { AsksFitsInTurn (seen W.tells_log W.log W.graph W.faults wire.old) (seen W.tells_log W.log W.graph W.faults wire.new) members.now query.now }
-    ensures counted { IsTrue W.counts_alone → CountsFaults members.now (W.faults wire.old) (W.faults wire.new) result }
-    ensures wired { IsAfter (seen W.tells_log W.log W.graph W.faults wire.old) (seen W.tells_log W.log W.graph W.faults wire.new) }
+    ensures text { GivesPlanText (W.seen wire.old) (W.seen wire.new) members.now query.now result }
+    ensures asked { GivesAsked AsksNothing (W.seen wire.old) (W.seen wire.new) members.now query.now result }
+    ensures begun { AsksFitsInTurn (W.seen wire.old) (W.seen wire.new) members.now query.now }
+    ensures counted { IsTrue W.counts_alone → CountsFaults members.now (W.seen wire.old).faults (W.seen wire.new).faults result }
+    ensures wired { IsAfter (W.seen wire.old) (W.seen wire.new) }
 {
     match plan(alloc, members, query, wire) {
         Err(error) => Err(error),
@@ -180,12 +180,12 @@ fn plan<W: Wire>(
     query: &Query,
     wire: &mut W,
 ) -> Result<Vec<Part>, FedError>
-    ensures parts { Plans (seen W.tells_log W.log W.graph W.faults wire.old) (seen W.tells_log W.log W.graph W.faults wire.new) members.now query.now [] result }
-    ensures asked { GivesAsked AsksNothing (seen W.tells_log W.log W.graph W.faults wire.old) (seen W.tells_log W.log W.graph W.faults wire.new) members.now query.now result }
+    ensures parts { Plans (W.seen wire.old) (W.seen wire.new) members.now query.now [] result }
+    ensures asked { GivesAsked AsksNothing (W.seen wire.old) (W.seen wire.new) members.now query.now result }
     ensures within { IfOk result (λ parts. All (HasMembers (length members.now)) parts.items) }
-    ensures begun { AsksFitsInTurn (seen W.tells_log W.log W.graph W.faults wire.old) (seen W.tells_log W.log W.graph W.faults wire.new) members.now query.now }
-    ensures counted { IsTrue W.counts_alone → CountsFaults members.now (W.faults wire.old) (W.faults wire.new) result }
-    ensures wired { IsAfter (seen W.tells_log W.log W.graph W.faults wire.old) (seen W.tells_log W.log W.graph W.faults wire.new) }
+    ensures begun { AsksFitsInTurn (W.seen wire.old) (W.seen wire.new) members.now query.now }
+    ensures counted { IsTrue W.counts_alone → CountsFaults members.now (W.seen wire.old).faults (W.seen wire.new).faults result }
+    ensures wired { IsAfter (W.seen wire.old) (W.seen wire.new) }
 {
     match AskCache::new(alloc) {
         Ok(mut cache) => plan_parts(alloc, query, members, &mut cache, wire),

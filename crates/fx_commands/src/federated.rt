@@ -3,7 +3,7 @@ ghost use Rattle.std.specs.Prelude.{◌≡◌, ◌≤◌, [], IsTrue, List, ℕ,
 ghost use Rattle.fx_algebra.specs.Answers.{IsPlain};
 ghost use Rattle.fx_engine.specs.Counts.{CountsFaults};
 ghost use Rattle.fx_engine.specs.Federation.{AsksSources, Federates, OfQuery};
-ghost use Rattle.fx_wire.specs.Exchanges.{IsAfter, seen};
+ghost use Rattle.fx_wire.specs.Exchanges.{IsAfter};
 ghost use Rattle.fx_commands.specs.Asking.{AsksInTurn, GivesAsked};
 ghost use Rattle.fx_commands.specs.Counts.{CountsOnly};
 ghost use Rattle.fx_commands.specs.Files.{file_read};
@@ -39,16 +39,16 @@ pub fn run_query<F: Files, W: Wire, O: Sink, E: Sink>(
     out: &mut O,
     err: &mut E,
 ) -> Status
-    ensures reported { (text : List ℕ) × IsQueryReported (seen W.tells_log W.log W.graph W.faults wire.old) (seen W.tells_log W.log W.graph W.faults wire.new) (file_read F.content F.faults files.old files.new registry.now) (file_read F.content F.faults files.old files.new query.now) result text × (IsTrue E.tells_held → Gains (E.held err.old) (E.held err.new) (E.write_faults err.old) (E.write_faults err.new) text) }
-    ensures written { IsTrue O.tells_held → IsQueryWritten (seen W.tells_log W.log W.graph W.faults wire.old) (file_read F.content F.faults files.old files.new registry.now) (file_read F.content F.faults files.old files.new query.now) result (O.held out.old) (O.held out.new) }
-    ensures endpoint_faults { IsTrue W.counts_alone → CountsOnly Status.EndpointFault result (W.faults wire.old) (W.faults wire.new) }
-    ensures wired { IsAfter (seen W.tells_log W.log W.graph W.faults wire.old) (seen W.tells_log W.log W.graph W.faults wire.new) }
+    ensures reported { (text : List ℕ) × IsQueryReported (W.seen wire.old) (W.seen wire.new) (file_read (F.seen files.old) (F.seen files.new) registry.now) (file_read (F.seen files.old) (F.seen files.new) query.now) result text × (IsTrue E.tells_held → Gains (E.held err.old) (E.held err.new) (E.write_faults err.old) (E.write_faults err.new) text) }
+    ensures written { IsTrue O.tells_held → IsQueryWritten (W.seen wire.old) (file_read (F.seen files.old) (F.seen files.new) registry.now) (file_read (F.seen files.old) (F.seen files.new) query.now) result (O.held out.old) (O.held out.new) }
+    ensures endpoint_faults { IsTrue W.counts_alone → CountsOnly Status.EndpointFault result (W.seen wire.old).faults (W.seen wire.new).faults }
+    ensures wired { IsAfter (W.seen wire.old) (W.seen wire.new) }
     ensures write_fault { result ≡ Status.WriteFault → IsCutOff (sink_written O.tells_held O.held O.write_faults out.old out.new) (sink_written E.tells_held E.held E.write_faults err.old err.new) }
     ensures unfailed { ¬ (result ≡ Status.WriteFault) → O.write_faults out.new ≡ O.write_faults out.old }
     ensures unfailed_lines { result ≡ Status.Done → E.write_faults err.new ≡ E.write_faults err.old }
-    ensures read_faults { CountsOnly Status.ReadFault result (F.faults files.old) (F.faults files.new) }
-    ensures kept { (name : List ℕ) → F.faults files.old name ≤ F.faults files.new name }
-    ensures same { (name : List ℕ) → F.content files.new name ≡ F.content files.old name }
+    ensures read_faults { CountsOnly Status.ReadFault result (F.seen files.old).faults (F.seen files.new).faults }
+    ensures kept { (name : List ℕ) → (F.seen files.old).faults name ≤ (F.seen files.new).faults name }
+    ensures same { (name : List ℕ) → (F.seen files.new).content name ≡ (F.seen files.old).content name }
 {
     match load_registry(alloc, files, registry) {
         Err(refusal) => {
@@ -82,11 +82,11 @@ fn ask_members<W: Wire, O: Sink, E: Sink>(
     err: &mut E,
 ) -> Status
     requires { IsPlain query.now }
-    ensures reported { (text : List ℕ) × IsAskReported (AsksSources members.now query.now []) (OfQuery query.now (length members.now) []) (seen W.tells_log W.log W.graph W.faults wire.old) (seen W.tells_log W.log W.graph W.faults wire.new) members.now query.now result text × (IsTrue E.tells_held → Gains (E.held err.old) (E.held err.new) (E.write_faults err.old) (E.write_faults err.new) text) }
-    ensures written { IsTrue O.tells_held → IsAskWritten (seen W.tells_log W.log W.graph W.faults wire.old) members.now query.now result (O.held out.old) (O.held out.new) }
-    ensures begun { AsksInTurn (seen W.tells_log W.log W.graph W.faults wire.old) (seen W.tells_log W.log W.graph W.faults wire.new) members.now query.now }
-    ensures endpoint_faults { IsTrue W.counts_alone → CountsOnly Status.EndpointFault result (W.faults wire.old) (W.faults wire.new) }
-    ensures wired { IsAfter (seen W.tells_log W.log W.graph W.faults wire.old) (seen W.tells_log W.log W.graph W.faults wire.new) }
+    ensures reported { (text : List ℕ) × IsAskReported (AsksSources members.now query.now []) (OfQuery query.now (length members.now) []) (W.seen wire.old) (W.seen wire.new) members.now query.now result text × (IsTrue E.tells_held → Gains (E.held err.old) (E.held err.new) (E.write_faults err.old) (E.write_faults err.new) text) }
+    ensures written { IsTrue O.tells_held → IsAskWritten (W.seen wire.old) members.now query.now result (O.held out.old) (O.held out.new) }
+    ensures begun { AsksInTurn (W.seen wire.old) (W.seen wire.new) members.now query.now }
+    ensures endpoint_faults { IsTrue W.counts_alone → CountsOnly Status.EndpointFault result (W.seen wire.old).faults (W.seen wire.new).faults }
+    ensures wired { IsAfter (W.seen wire.old) (W.seen wire.new) }
     ensures write_fault { result ≡ Status.WriteFault → IsCutOff (sink_written O.tells_held O.held O.write_faults out.old out.new) (sink_written E.tells_held E.held E.write_faults err.old err.new) }
     ensures unfailed { ¬ (result ≡ Status.WriteFault) → O.write_faults out.new ≡ O.write_faults out.old }
     ensures unfailed_lines { result ≡ Status.Done → E.write_faults err.new ≡ E.write_faults err.old }
@@ -111,11 +111,11 @@ fn union_document<W: Wire>(
     wire: &mut W,
 ) -> Result<Vec<u8>, FedError>
     requires { IsPlain query.now }
-    ensures document { GivesUnionDocument (seen W.tells_log W.log W.graph W.faults wire.old) (seen W.tells_log W.log W.graph W.faults wire.new) members.now query.now result }
-    ensures asked { GivesAsked (AsksSources members.now query.now []) (seen W.tells_log W.log W.graph W.faults wire.old) (seen W.tells_log W.log W.graph W.faults wire.new) members.now query.now result }
-    ensures begun { AsksInTurn (seen W.tells_log W.log W.graph W.faults wire.old) (seen W.tells_log W.log W.graph W.faults wire.new) members.now query.now }
-    ensures counted { IsTrue W.counts_alone → CountsFaults members.now (W.faults wire.old) (W.faults wire.new) result }
-    ensures wired { IsAfter (seen W.tells_log W.log W.graph W.faults wire.old) (seen W.tells_log W.log W.graph W.faults wire.new) }
+    ensures document { GivesUnionDocument (W.seen wire.old) (W.seen wire.new) members.now query.now result }
+    ensures asked { GivesAsked (AsksSources members.now query.now []) (W.seen wire.old) (W.seen wire.new) members.now query.now result }
+    ensures begun { AsksInTurn (W.seen wire.old) (W.seen wire.new) members.now query.now }
+    ensures counted { IsTrue W.counts_alone → CountsFaults members.now (W.seen wire.old).faults (W.seen wire.new).faults result }
+    ensures wired { IsAfter (W.seen wire.old) (W.seen wire.new) }
 {
     match union_answer(alloc, members, query, wire) {
         Err(error) => Err(error),
@@ -134,11 +134,11 @@ fn union_answer<W: Wire>(
     wire: &mut W,
 ) -> Result<Answer, FedError>
     requires { IsPlain query.now }
-    ensures answer { Federates (seen W.tells_log W.log W.graph W.faults wire.old) (seen W.tells_log W.log W.graph W.faults wire.new) members.now query.now [] result }
-    ensures asked { GivesAsked (AsksSources members.now query.now []) (seen W.tells_log W.log W.graph W.faults wire.old) (seen W.tells_log W.log W.graph W.faults wire.new) members.now query.now result }
-    ensures begun { AsksInTurn (seen W.tells_log W.log W.graph W.faults wire.old) (seen W.tells_log W.log W.graph W.faults wire.new) members.now query.now }
-    ensures counted { IsTrue W.counts_alone → CountsFaults members.now (W.faults wire.old) (W.faults wire.new) result }
-    ensures wired { IsAfter (seen W.tells_log W.log W.graph W.faults wire.old) (seen W.tells_log W.log W.graph W.faults wire.new) }
+    ensures answer { Federates (W.seen wire.old) (W.seen wire.new) members.now query.now [] result }
+    ensures asked { GivesAsked (AsksSources members.now query.now []) (W.seen wire.old) (W.seen wire.new) members.now query.now result }
+    ensures begun { AsksInTurn (W.seen wire.old) (W.seen wire.new) members.now query.now }
+    ensures counted { IsTrue W.counts_alone → CountsFaults members.now (W.seen wire.old).faults (W.seen wire.new).faults result }
+    ensures wired { IsAfter (W.seen wire.old) (W.seen wire.new) }
 {
     match AskCache::new(alloc) {
         Ok(mut cache) => federate(alloc, query, members, &mut cache, wire),

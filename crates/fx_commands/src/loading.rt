@@ -19,10 +19,10 @@ use std::alloc::Global;
 
 // The graph of a file.
 fn load_graph<F: Files>(alloc: Global, files: &mut F, name: &str) -> Result<Graph, GraphRefusal>
-    ensures outcome { GivesGraph (file_read F.content F.faults files.old files.new name.now) result }
-    ensures counted { CountsLoad graph_status name.now (F.faults files.old) (F.faults files.new) result }
-    ensures kept { (other : List ℕ) → F.faults files.old other ≤ F.faults files.new other }
-    ensures same { (other : List ℕ) → F.content files.new other ≡ F.content files.old other }
+    ensures outcome { GivesGraph (file_read (F.seen files.old) (F.seen files.new) name.now) result }
+    ensures counted { CountsLoad graph_status name.now (F.seen files.old).faults (F.seen files.new).faults result }
+    ensures kept { (other : List ℕ) → (F.seen files.old).faults other ≤ (F.seen files.new).faults other }
+    ensures same { (other : List ℕ) → (F.seen files.new).content other ≡ (F.seen files.old).content other }
 {
     match load(alloc, files, name, GRAPH_LIMIT) {
         Err(FileRefusal::Fault) => Err(GraphRefusal::Fault),
@@ -37,10 +37,10 @@ fn load_graph<F: Files>(alloc: Global, files: &mut F, name: &str) -> Result<Grap
 
 /// The graph of a file, in a store.
 pub fn load_store<F: Files>(alloc: Global, files: &mut F, name: &str) -> Result<Store, GraphRefusal>
-    ensures outcome { GivesGraph (file_read F.content F.faults files.old files.new name.now) result }
-    ensures counted { CountsLoad graph_status name.now (F.faults files.old) (F.faults files.new) result }
-    ensures kept { (other : List ℕ) → F.faults files.old other ≤ F.faults files.new other }
-    ensures same { (other : List ℕ) → F.content files.new other ≡ F.content files.old other }
+    ensures outcome { GivesGraph (file_read (F.seen files.old) (F.seen files.new) name.now) result }
+    ensures counted { CountsLoad graph_status name.now (F.seen files.old).faults (F.seen files.new).faults result }
+    ensures kept { (other : List ℕ) → (F.seen files.old).faults other ≤ (F.seen files.new).faults other }
+    ensures same { (other : List ℕ) → (F.seen files.new).content other ≡ (F.seen files.old).content other }
 {
     match load_graph(alloc, files, name) {
         Err(refusal) => Err(refusal),
@@ -64,10 +64,10 @@ pub fn load_query<F: Files>(
     files: &mut F,
     name: &str,
 ) -> Result<Boxed<Query>, QueryRefusal>
-    ensures outcome { GivesQuery (file_read F.content F.faults files.old files.new name.now) result }
-    ensures counted { CountsLoad query_status name.now (F.faults files.old) (F.faults files.new) result }
-    ensures kept { (other : List ℕ) → F.faults files.old other ≤ F.faults files.new other }
-    ensures same { (other : List ℕ) → F.content files.new other ≡ F.content files.old other }
+    ensures outcome { GivesQuery (file_read (F.seen files.old) (F.seen files.new) name.now) result }
+    ensures counted { CountsLoad query_status name.now (F.seen files.old).faults (F.seen files.new).faults result }
+    ensures kept { (other : List ℕ) → (F.seen files.old).faults other ≤ (F.seen files.new).faults other }
+    ensures same { (other : List ℕ) → (F.seen files.new).content other ≡ (F.seen files.old).content other }
 {
     match load(alloc, files, name, QUERY_LIMIT) {
         Err(FileRefusal::Fault) => Err(QueryRefusal::Fault),
@@ -96,10 +96,10 @@ pub fn load_registry<F: Files>(
     files: &mut F,
     name: &str,
 ) -> Result<Registry, RegistryRefusal>
-    ensures outcome { GivesRegistry (file_read F.content F.faults files.old files.new name.now) result }
-    ensures counted { CountsLoad registry_status name.now (F.faults files.old) (F.faults files.new) result }
-    ensures kept { (other : List ℕ) → F.faults files.old other ≤ F.faults files.new other }
-    ensures same { (other : List ℕ) → F.content files.new other ≡ F.content files.old other }
+    ensures outcome { GivesRegistry (file_read (F.seen files.old) (F.seen files.new) name.now) result }
+    ensures counted { CountsLoad registry_status name.now (F.seen files.old).faults (F.seen files.new).faults result }
+    ensures kept { (other : List ℕ) → (F.seen files.old).faults other ≤ (F.seen files.new).faults other }
+    ensures same { (other : List ℕ) → (F.seen files.new).content other ≡ (F.seen files.old).content other }
 {
     match load(alloc, files, name, REGISTRY_LIMIT) {
         Err(FileRefusal::Fault) => Err(RegistryRefusal::Fault),
@@ -120,10 +120,10 @@ fn load<F: Files>(
     limit: u64,
 ) -> Result<Vec<u8>, FileRefusal>
     requires { limit ≤ 134217728 }
-    ensures outcome { GivesFile (file_read F.content F.faults files.old files.new name.now) limit result }
-    ensures counted { CountsLoad file_status name.now (F.faults files.old) (F.faults files.new) result }
-    ensures kept { (other : List ℕ) → F.faults files.old other ≤ F.faults files.new other }
-    ensures same { (other : List ℕ) → F.content files.new other ≡ F.content files.old other }
+    ensures outcome { GivesFile (file_read (F.seen files.old) (F.seen files.new) name.now) limit result }
+    ensures counted { CountsLoad file_status name.now (F.seen files.old).faults (F.seen files.new).faults result }
+    ensures kept { (other : List ℕ) → (F.seen files.old).faults other ≤ (F.seen files.new).faults other }
+    ensures same { (other : List ℕ) → (F.seen files.new).content other ≡ (F.seen files.old).content other }
 {
     match files.take(alloc, name, limit) {
         Err(FileError::Failed) => Err(FileRefusal::Fault),

@@ -39,10 +39,10 @@ pub fn local<F: Files>(
     graph: &str,
     query: &str,
 ) -> Result<Report, Refusal>
-    ensures outcome { GivesAnswer (file_read F.content F.faults files.old files.new graph.now) (file_read F.content F.faults files.old files.new query.now) result }
-    ensures counted { CountsLoads status_of (F.faults files.old) (F.faults files.new) result }
-    ensures kept { (other : List ℕ) → F.faults files.old other ≤ F.faults files.new other }
-    ensures same { (other : List ℕ) → F.content files.new other ≡ F.content files.old other }
+    ensures outcome { GivesAnswer (file_read (F.seen files.old) (F.seen files.new) graph.now) (file_read (F.seen files.old) (F.seen files.new) query.now) result }
+    ensures counted { CountsLoads status_of (F.seen files.old).faults (F.seen files.new).faults result }
+    ensures kept { (other : List ℕ) → (F.seen files.old).faults other ≤ (F.seen files.new).faults other }
+    ensures same { (other : List ℕ) → (F.seen files.new).content other ≡ (F.seen files.old).content other }
 {
     match load_store(alloc, files, graph) {
         Err(refusal) => Err(Refusal::Graph(refusal)),
@@ -56,10 +56,10 @@ fn answer_over<F: Files>(
     store: &Store,
     query: &str,
 ) -> Result<Report, Refusal>
-    ensures outcome { GivesDocument store.now (file_read F.content F.faults files.old files.new query.now) result }
-    ensures counted { CountsLoads status_of (F.faults files.old) (F.faults files.new) result }
-    ensures kept { (other : List ℕ) → F.faults files.old other ≤ F.faults files.new other }
-    ensures same { (other : List ℕ) → F.content files.new other ≡ F.content files.old other }
+    ensures outcome { GivesDocument store.now (file_read (F.seen files.old) (F.seen files.new) query.now) result }
+    ensures counted { CountsLoads status_of (F.seen files.old).faults (F.seen files.new).faults result }
+    ensures kept { (other : List ℕ) → (F.seen files.old).faults other ≤ (F.seen files.new).faults other }
+    ensures same { (other : List ℕ) → (F.seen files.new).content other ≡ (F.seen files.old).content other }
 {
     match load_query(alloc, files, query) {
         Err(refusal) => Err(Refusal::Query(refusal)),

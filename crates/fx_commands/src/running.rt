@@ -1,6 +1,6 @@
 //! The program over files, wires and streams that are handed in.
 ghost use Rattle.std.specs.Prelude.{◌≡◌, ◌≤◌, ◌<◌, IsTrue, List, ℕ, length, map, string_bytes};
-ghost use Rattle.fx_wire.specs.Exchanges.{IsAfter, seen};
+ghost use Rattle.fx_wire.specs.Exchanges.{IsAfter};
 ghost use Rattle.fx_commands.specs.Commands.{asked};
 ghost use Rattle.fx_commands.specs.Counts.{CountsDoor, CountsOnly};
 ghost use Rattle.fx_commands.specs.Files.{file_read};
@@ -8,7 +8,6 @@ ghost use Rattle.fx_commands.specs.Lines.{Gains};
 ghost use Rattle.fx_commands.specs.Local.{IsAnswer, IsReported, IsWritten};
 ghost use Rattle.fx_commands.specs.LocalSteps.{IsDocumentWritten, IsLineReported};
 ghost use Rattle.fx_commands.specs.Runs.{FailsToWrite, OnFirst, Reports, Writes};
-ghost use Rattle.fx_commands.specs.Serving.{door_seen};
 ghost use Rattle.fx_commands.specs.Sinks.{IsCutShort, sink_written};
 
 use crate::commands::{Command, CommandError, read_command};
@@ -43,26 +42,26 @@ pub fn run<F: Files, W: Wire, D: Door, O: Sink, E: Sink>(
 
     // Each status comes with its cause alone, and with its line on `err`. With `Done` and `WriteFault`
     // it also says what the members were asked.
-    ensures reported { OnFirst wires.old wires.new (λ wire later. (text : List ℕ) × Reports (file_read F.content F.faults files.old files.new) (seen W.tells_log W.log W.graph W.faults wire) (seen W.tells_log W.log W.graph W.faults later) (door_seen D.tells D.started D.inputs D.outputs D.faults door.old) (door_seen D.tells D.started D.inputs D.outputs D.faults door.new) (asked (map (λ w. string_bytes w) words.now)) result text × (IsTrue E.tells_held → Gains (E.held err.old) (E.held err.new) (E.write_faults err.old) (E.write_faults err.new) text)) }
+    ensures reported { OnFirst wires.old wires.new (λ wire later. (text : List ℕ) × Reports (file_read (F.seen files.old) (F.seen files.new)) (W.seen wire) (W.seen later) (D.seen door.old) (D.seen door.new) (asked (map (λ w. string_bytes w) words.now)) result text × (IsTrue E.tells_held → Gains (E.held err.old) (E.held err.new) (E.write_faults err.old) (E.write_faults err.new) text)) }
 
     // With `Done`, `out` gained exactly the document of the query's answer, over the file's graph or over the union of the
     // members' graphs, or the text of the query's plan over these graphs; with `WriteFault` a front of it; else nothing.
-    ensures written { OnFirst wires.old wires.new (λ wire _. IsTrue O.tells_held → Writes (file_read F.content F.faults files.old files.new) (seen W.tells_log W.log W.graph W.faults wire) (asked (map (λ w. string_bytes w) words.now)) result (O.held out.old) (O.held out.new)) }
-    ensures wired { OnFirst wires.old wires.new (λ wire later. IsAfter (seen W.tells_log W.log W.graph W.faults wire) (seen W.tells_log W.log W.graph W.faults later)) }
+    ensures written { OnFirst wires.old wires.new (λ wire _. IsTrue O.tells_held → Writes (file_read (F.seen files.old) (F.seen files.new)) (W.seen wire) (asked (map (λ w. string_bytes w) words.now)) result (O.held out.old) (O.held out.new)) }
+    ensures wired { OnFirst wires.old wires.new (λ wire later. IsAfter (W.seen wire) (W.seen later)) }
 
     // `WriteFault` comes where a write of the document failed, and then nothing was written on `err`, or where it is whole and one
     // of the lines behind it failed.
-    ensures write_fault { result ≡ Status.WriteFault → FailsToWrite (file_read F.content F.faults files.old files.new) (asked (map (λ w. string_bytes w) words.now)) (sink_written O.tells_held O.held O.write_faults out.old out.new) (sink_written E.tells_held E.held E.write_faults err.old err.new) }
+    ensures write_fault { result ≡ Status.WriteFault → FailsToWrite (file_read (F.seen files.old) (F.seen files.new)) (asked (map (λ w. string_bytes w) words.now)) (sink_written O.tells_held O.held O.write_faults out.old out.new) (sink_written E.tells_held E.held E.write_faults err.old err.new) }
     ensures unfailed { ¬ (result ≡ Status.WriteFault) → O.write_faults out.new ≡ O.write_faults out.old }
     ensures unfailed_lines { result ≡ Status.Done → E.write_faults err.new ≡ E.write_faults err.old }
 
     // No fault of files, of the door, and of the first wire, if it counts each address alone, is hidden: each count is as it was,
     // or the status names the one fault, which is counted once.
-    ensures read_faults { CountsOnly Status.ReadFault result (F.faults files.old) (F.faults files.new) }
-    ensures endpoint_faults { IsTrue W.counts_alone → OnFirst wires.old wires.new (λ wire later. CountsOnly Status.EndpointFault result (W.faults wire) (W.faults later)) }
-    ensures door_faults { CountsDoor result (D.faults door.old) (D.faults door.new) }
-    ensures kept { (name : List ℕ) → F.faults files.old name ≤ F.faults files.new name }
-    ensures same { (name : List ℕ) → F.content files.new name ≡ F.content files.old name }
+    ensures read_faults { CountsOnly Status.ReadFault result (F.seen files.old).faults (F.seen files.new).faults }
+    ensures endpoint_faults { IsTrue W.counts_alone → OnFirst wires.old wires.new (λ wire later. CountsOnly Status.EndpointFault result (W.seen wire).faults (W.seen later).faults) }
+    ensures door_faults { CountsDoor result (D.seen door.old).faults (D.seen door.new).faults }
+    ensures kept { (name : List ℕ) → (F.seen files.old).faults name ≤ (F.seen files.new).faults name }
+    ensures same { (name : List ℕ) → (F.seen files.new).content name ≡ (F.seen files.old).content name }
 {
     match read_command(alloc, words) {
         Err(CommandError::Usage) => {
@@ -98,14 +97,14 @@ fn run_local<F: Files, O: Sink, E: Sink>(
     out: &mut O,
     err: &mut E,
 ) -> Status
-    ensures reported { (text : List ℕ) × IsReported (file_read F.content F.faults files.old files.new graph.now) (file_read F.content F.faults files.old files.new query.now) result text × (IsTrue E.tells_held → Gains (E.held err.old) (E.held err.new) (E.write_faults err.old) (E.write_faults err.new) text) }
-    ensures written { IsTrue O.tells_held → IsWritten (file_read F.content F.faults files.old files.new graph.now) (file_read F.content F.faults files.old files.new query.now) result (O.held out.old) (O.held out.new) }
-    ensures write_fault { result ≡ Status.WriteFault → IsCutShort (IsAnswer (file_read F.content F.faults files.old files.new graph.now) (file_read F.content F.faults files.old files.new query.now)) (sink_written O.tells_held O.held O.write_faults out.old out.new) (sink_written E.tells_held E.held E.write_faults err.old err.new) }
+    ensures reported { (text : List ℕ) × IsReported (file_read (F.seen files.old) (F.seen files.new) graph.now) (file_read (F.seen files.old) (F.seen files.new) query.now) result text × (IsTrue E.tells_held → Gains (E.held err.old) (E.held err.new) (E.write_faults err.old) (E.write_faults err.new) text) }
+    ensures written { IsTrue O.tells_held → IsWritten (file_read (F.seen files.old) (F.seen files.new) graph.now) (file_read (F.seen files.old) (F.seen files.new) query.now) result (O.held out.old) (O.held out.new) }
+    ensures write_fault { result ≡ Status.WriteFault → IsCutShort (IsAnswer (file_read (F.seen files.old) (F.seen files.new) graph.now) (file_read (F.seen files.old) (F.seen files.new) query.now)) (sink_written O.tells_held O.held O.write_faults out.old out.new) (sink_written E.tells_held E.held E.write_faults err.old err.new) }
     ensures unfailed { ¬ (result ≡ Status.WriteFault) → O.write_faults out.new ≡ O.write_faults out.old }
     ensures unfailed_lines { result ≡ Status.Done → E.write_faults err.new ≡ E.write_faults err.old }
-    ensures read_faults { CountsOnly Status.ReadFault result (F.faults files.old) (F.faults files.new) }
-    ensures kept { (name : List ℕ) → F.faults files.old name ≤ F.faults files.new name }
-    ensures same { (name : List ℕ) → F.content files.new name ≡ F.content files.old name }
+    ensures read_faults { CountsOnly Status.ReadFault result (F.seen files.old).faults (F.seen files.new).faults }
+    ensures kept { (name : List ℕ) → (F.seen files.old).faults name ≤ (F.seen files.new).faults name }
+    ensures same { (name : List ℕ) → (F.seen files.new).content name ≡ (F.seen files.old).content name }
 {
     match local(alloc, files, graph, query) {
         Ok(report) => write_report(&report, out, err),

@@ -6,7 +6,7 @@ ghost use Rattle.fx_outside.specs.Streams.{AppendsFront};
 ghost use Rattle.fx_commands.specs.Counts.{CountsDoor, CountsOnly};
 ghost use Rattle.fx_commands.specs.Files.{file_read};
 ghost use Rattle.fx_commands.specs.Lines.{Gains};
-ghost use Rattle.fx_commands.specs.Serving.{door_seen, ending_line, ending_text, IsEnded, IsMemberReported, IsServingReported};
+ghost use Rattle.fx_commands.specs.Serving.{ending_line, ending_text, IsEnded, IsMemberReported, IsServingReported};
 ghost use Rattle.fx_commands.specs.ServingSteps.{end_line, end_status, GivesEnding};
 
 use crate::loading::load_store;
@@ -39,14 +39,14 @@ pub fn run_member<F: Files, D: Door, E: Sink>(
     count: u64,
     err: &mut E,
 ) -> Status
-    ensures reported { (text : List ℕ) × IsMemberReported (file_read F.content F.faults files.old files.new graph.now) (door_seen D.tells D.started D.inputs D.outputs D.faults door.old) (door_seen D.tells D.started D.inputs D.outputs D.faults door.new) address.now count result text × (IsTrue E.tells_held → Gains (E.held err.old) (E.held err.new) (E.write_faults err.old) (E.write_faults err.new) text) }
+    ensures reported { (text : List ℕ) × IsMemberReported (file_read (F.seen files.old) (F.seen files.new) graph.now) (D.seen door.old) (D.seen door.new) address.now count result text × (IsTrue E.tells_held → Gains (E.held err.old) (E.held err.new) (E.write_faults err.old) (E.write_faults err.new) text) }
     ensures write_fault { result ≡ Status.WriteFault → HasRisen (E.write_faults err.old) (E.write_faults err.new) }
     ensures unfailed_lines { result ≡ Status.Done → E.write_faults err.new ≡ E.write_faults err.old }
-    ensures door_faults { CountsDoor result (D.faults door.old) (D.faults door.new) }
-    ensures opened { D.faults door.old ≤ D.faults door.new }
-    ensures read_faults { CountsOnly Status.ReadFault result (F.faults files.old) (F.faults files.new) }
-    ensures kept { (name : List ℕ) → F.faults files.old name ≤ F.faults files.new name }
-    ensures same { (name : List ℕ) → F.content files.new name ≡ F.content files.old name }
+    ensures door_faults { CountsDoor result (D.seen door.old).faults (D.seen door.new).faults }
+    ensures opened { (D.seen door.old).faults ≤ (D.seen door.new).faults }
+    ensures read_faults { CountsOnly Status.ReadFault result (F.seen files.old).faults (F.seen files.new).faults }
+    ensures kept { (name : List ℕ) → (F.seen files.old).faults name ≤ (F.seen files.new).faults name }
+    ensures same { (name : List ℕ) → (F.seen files.new).content name ≡ (F.seen files.old).content name }
 {
     match load_store(alloc, files, graph) {
         Err(refusal) => {
@@ -66,11 +66,11 @@ fn serve_store<D: Door, E: Sink>(
     count: u64,
     err: &mut E,
 ) -> Status
-    ensures reported { (text : List ℕ) × IsServingReported (door_seen D.tells D.started D.inputs D.outputs D.faults door.old) (door_seen D.tells D.started D.inputs D.outputs D.faults door.new) address.now count store.now result text × (IsTrue E.tells_held → Gains (E.held err.old) (E.held err.new) (E.write_faults err.old) (E.write_faults err.new) text) }
+    ensures reported { (text : List ℕ) × IsServingReported (D.seen door.old) (D.seen door.new) address.now count store.now result text × (IsTrue E.tells_held → Gains (E.held err.old) (E.held err.new) (E.write_faults err.old) (E.write_faults err.new) text) }
     ensures write_fault { result ≡ Status.WriteFault → HasRisen (E.write_faults err.old) (E.write_faults err.new) }
     ensures unfailed_lines { result ≡ Status.Done → E.write_faults err.new ≡ E.write_faults err.old }
-    ensures door_faults { CountsDoor result (D.faults door.old) (D.faults door.new) }
-    ensures opened { D.faults door.old ≤ D.faults door.new }
+    ensures door_faults { CountsDoor result (D.seen door.old).faults (D.seen door.new).faults }
+    ensures opened { (D.seen door.old).faults ≤ (D.seen door.new).faults }
 {
     match door.start(alloc, address) {
         Ok(()) => serve(alloc, store, door, address, count, err),
@@ -87,12 +87,12 @@ fn serve<D: Door, E: Sink>(
     count: u64,
     err: &mut E,
 ) -> Status
-    requires { IsTrue D.tells → D.started door.old ≡ Some address.now }
-    ensures reported { (text : List ℕ) × IsServingReported (door_seen D.tells D.started D.inputs D.outputs D.faults door.old) (door_seen D.tells D.started D.inputs D.outputs D.faults door.new) address.now count store.now result text × (IsTrue E.tells_held → Gains (E.held err.old) (E.held err.new) (E.write_faults err.old) (E.write_faults err.new) text) }
+    requires { IsTrue (D.seen door.old).tells → (D.seen door.old).started ≡ Some address.now }
+    ensures reported { (text : List ℕ) × IsServingReported (D.seen door.old) (D.seen door.new) address.now count store.now result text × (IsTrue E.tells_held → Gains (E.held err.old) (E.held err.new) (E.write_faults err.old) (E.write_faults err.new) text) }
     ensures write_fault { result ≡ Status.WriteFault → HasRisen (E.write_faults err.old) (E.write_faults err.new) }
     ensures unfailed_lines { result ≡ Status.Done → E.write_faults err.new ≡ E.write_faults err.old }
-    ensures door_faults { CountsDoor result (D.faults door.old) (D.faults door.new) }
-    ensures opened { D.faults door.old ≤ D.faults door.new }
+    ensures door_faults { CountsDoor result (D.seen door.old).faults (D.seen door.new).faults }
+    ensures opened { (D.seen door.old).faults ≤ (D.seen door.new).faults }
 {
     for number in 0..count {
         match serve_next(alloc, store, door) {
@@ -108,11 +108,11 @@ fn serve<D: Door, E: Sink>(
 
 // Serves the next connection, and ends it.
 fn serve_next<D: Door>(alloc: Global, store: &Store, door: &mut D) -> Result<Ending, DoorError>
-    ensures ended { GivesEnding store.now (door_seen D.tells D.started D.inputs D.outputs D.faults door.old) (door_seen D.tells D.started D.inputs D.outputs D.faults door.new) result }
-    ensures started { IsTrue D.tells → D.started door.new ≡ D.started door.old }
-    ensures opened { D.faults door.old ≤ D.faults door.new }
-    ensures counted { result ≡ Err DoorError.Failed → D.faults door.new ≡ D.faults door.old + 1 }
-    ensures faultless { ¬ (result ≡ Err DoorError.Failed) → D.faults door.new ≡ D.faults door.old }
+    ensures ended { GivesEnding store.now (D.seen door.old) (D.seen door.new) result }
+    ensures started { IsTrue (D.seen door.old).tells → (D.seen door.new).started ≡ (D.seen door.old).started }
+    ensures opened { (D.seen door.old).faults ≤ (D.seen door.new).faults }
+    ensures counted { result ≡ Err DoorError.Failed → (D.seen door.new).faults ≡ (D.seen door.old).faults + 1 }
+    ensures faultless { ¬ (result ≡ Err DoorError.Failed) → (D.seen door.new).faults ≡ (D.seen door.old).faults }
 {
     let mut conn = door.accept(alloc)?;
     match serve_conn(alloc, store, &mut conn) {

@@ -1,5 +1,4 @@
 use Rattle.std.proofs.Common.{sym, subst, [], length}
-use Rattle.fx_wire.specs.Exchanges.{seen}
 use Rattle.fx_engine.specs.Federation.{AsksNothing, OfMissing}
 use Rattle.fx_commands.specs.declared.statuses.Status.{Status}
 use Rattle.fx_commands.specs.declared.statuses.Status.TheVariants as status
@@ -12,7 +11,7 @@ use Rattle.fx_commands.proofs.explained.explain_members.Goals as goal
 
 pub returns-clause-reported : goal.returns-clause-reported
 returns-clause-reported g c =
-    let of = seen g.W.Wire.tells_log g.W.Wire.log g.W.Wire.graph g.W.Wire.faults in
+    let of = g.W.Wire.seen in
     let before = of c.args.wire.now in
     let after = of c.plan_text.new.wire in
     let asks = OfMissing c.args.query.now (length c.args.members.now) [] in
@@ -25,6 +24,6 @@ returns-clause-reported g c =
 pub returns-clause-endpoint_faults : goal.returns-clause-endpoint_faults
 returns-clause-endpoint_faults g c =
     λ alone.
-    let before = g.W.Wire.faults c.args.wire.now in
-    let after = g.W.Wire.faults c.plan_text.new.wire in
+    let before = (g.W.Wire.seen c.args.wire.now).faults in
+    let after = (g.W.Wire.seen c.plan_text.new.wire).faults in
     subst (λ (s : Status). CountsOnly status.EndpointFault s before after) (sym c.fed_status.ensures) (fed_counts c.args.members.now before after c.in-Err.error (c.in-Err.ensures.counted alone))

@@ -1,5 +1,4 @@
 use Rattle.std.proofs.Common.{refl, Some, None}
-use Rattle.fx_wire.specs.Exchanges.{seen}
 use Rattle.fx_commands.specs.Lines.{unknown_service}
 use Rattle.fx_commands.proofs.ExplainLemmas.{first_said, known_reported}
 use Rattle.fx_commands.proofs.explained.explain_over.Goals as goal
@@ -12,7 +11,7 @@ returns-in-Some-clause-reported g c =
 
 pub returns-clause-reported : goal.returns-clause-reported
 returns-clause-reported g c =
-    let of = seen g.W.Wire.tells_log g.W.Wire.log g.W.Wire.graph g.W.Wire.faults in
+    let of = g.W.Wire.seen in
     let none = first_said c.args.members.now c.args.query.now c.as_slice.result.now c.in-Ok.occurrences.items None c.as_slice.ensures.value c.in-Ok.ensures c.in-None.ensures in
     let told = c.explain_members.ensures.reported in (
       told.0,

@@ -1,5 +1,4 @@
 use Rattle.std.proofs.Common.{sym, subst, Ok, Err, inl}
-use Rattle.fx_wire.specs.Exchanges.{seen}
 use Rattle.fx_commands.specs.declared.statuses.Status.{Status}
 use Rattle.fx_commands.specs.Explain.{IsExplainReported}
 use Rattle.fx_outside.proofs.CountLemmas.{stayed_both}
@@ -17,8 +16,8 @@ use Rattle.fx_commands.proofs.explained.run_explain.Goals as goal
 
 pub returns-in-Err-clause-reported : goal.returns-in-Err-clause-reported
 returns-in-Err-clause-reported g c =
-    let wire = seen g.W.Wire.tells_log g.W.Wire.log g.W.Wire.graph g.W.Wire.faults c.args.wire.now in
-    let read = file_read g.F.Files.content g.F.Files.faults c.args.files.now c.load_registry.new.files in
+    let wire = g.W.Wire.seen c.args.wire.now in
+    let read = file_read (g.F.Files.seen c.args.files.now) (g.F.Files.seen c.load_registry.new.files) in
     let registry = read c.args.registry.now in
     let query = read c.args.query.now in
     let text = registry_line c.in-Err.refusal c.args.registry.now in (
@@ -29,30 +28,30 @@ returns-in-Err-clause-reported g c =
 
 pub returns-in-Err-load_query-clause-reported : goal.returns-in-Err-load_query-clause-reported
 returns-in-Err-load_query-clause-reported g c =
-    let wire = seen g.W.Wire.tells_log g.W.Wire.log g.W.Wire.graph g.W.Wire.faults c.args.wire.now in
-    let read = file_read g.F.Files.content g.F.Files.faults c.args.files.now c.load_query.new.files in
+    let wire = g.W.Wire.seen c.args.wire.now in
+    let read = file_read (g.F.Files.seen c.args.files.now) (g.F.Files.seen c.load_query.new.files) in
     let registry = read c.args.registry.now in
     let query = read c.args.query.now in
     let text = query_line c.in-Err-load_query.refusal c.args.query.now in (
       text,
       subst (λ (s : Status). IsExplainReported wire wire registry query s text) (sym c.status-in-Err-load_query.ensures) (
           query_explained wire registry query _ c.in-Err-load_query.refusal c.in-Ok.ensures.outcome
-          (query_since c.args.query.now _ _ (g.F.Files.faults c.args.files.now c.args.query.now) (g.F.Files.faults c.load_registry.new.files c.args.query.now) (g.F.Files.faults c.load_query.new.files c.args.query.now) (Err c.in-Err-load_query.refusal) (c.load_registry.ensures.same c.args.query.now) (c.load_registry.ensures.kept c.args.query.now) c.in-Err-load_query.ensures.outcome)
+          (query_since c.args.query.now _ _ ((g.F.Files.seen c.args.files.now).faults c.args.query.now) ((g.F.Files.seen c.load_registry.new.files).faults c.args.query.now) ((g.F.Files.seen c.load_query.new.files).faults c.args.query.now) (Err c.in-Err-load_query.refusal) (c.load_registry.ensures.same c.args.query.now) (c.load_registry.ensures.kept c.args.query.now) c.in-Err-load_query.ensures.outcome)
           ),
       c.write_query_refusal.ensures,
     )
 
 pub returns-clause-reported : goal.returns-clause-reported
 returns-clause-reported g c =
-    let of = seen g.W.Wire.tells_log g.W.Wire.log g.W.Wire.graph g.W.Wire.faults in
-    let read = file_read g.F.Files.content g.F.Files.faults c.args.files.now c.load_query.new.files in
+    let of = g.W.Wire.seen in
+    let read = file_read (g.F.Files.seen c.args.files.now) (g.F.Files.seen c.load_query.new.files) in
     let registry = read c.args.registry.now in
     let query = read c.args.query.now in
     let told = c.explain_over.ensures.reported in (
       told.0,
       plan_explained (of c.args.wire.now) (of c.explain_over.new.wire) registry query _ c.get.result.now c.explain_over.result told.0
           c.in-Ok.ensures.outcome
-          (subst (λ (q : Query). GivesQuery query (Ok q)) (sym c.get.ensures) (query_since c.args.query.now _ _ (g.F.Files.faults c.args.files.now c.args.query.now) (g.F.Files.faults c.load_registry.new.files c.args.query.now) (g.F.Files.faults c.load_query.new.files c.args.query.now) (Ok c.in-Ok-load_query.asked) (c.load_registry.ensures.same c.args.query.now) (c.load_registry.ensures.kept c.args.query.now) c.in-Ok-load_query.ensures.outcome))
+          (subst (λ (q : Query). GivesQuery query (Ok q)) (sym c.get.ensures) (query_since c.args.query.now _ _ ((g.F.Files.seen c.args.files.now).faults c.args.query.now) ((g.F.Files.seen c.load_registry.new.files).faults c.args.query.now) ((g.F.Files.seen c.load_query.new.files).faults c.args.query.now) (Ok c.in-Ok-load_query.asked) (c.load_registry.ensures.same c.args.query.now) (c.load_registry.ensures.kept c.args.query.now) c.in-Ok-load_query.ensures.outcome))
           told.1
           c.explain_over.ensures.begun,
       told.2,
@@ -60,17 +59,17 @@ returns-clause-reported g c =
 
 pub returns-in-Err-clause-read_faults : goal.returns-in-Err-clause-read_faults
 returns-in-Err-clause-read_faults g c =
-    let before = g.F.Files.faults c.args.files.now in
-    let after = g.F.Files.faults c.load_registry.new.files in
+    let before = (g.F.Files.seen c.args.files.now).faults in
+    let after = (g.F.Files.seen c.load_registry.new.files).faults in
     subst (λ (s : Status). CountsOnly status.ReadFault s before after) (sym c.status.ensures) (only_read c.args.registry.now (registry_status c.in-Err.refusal) before after c.in-Err.ensures.counted)
 
 pub returns-in-Err-load_query-clause-read_faults : goal.returns-in-Err-load_query-clause-read_faults
 returns-in-Err-load_query-clause-read_faults g c =
-    let before = g.F.Files.faults c.args.files.now in
-    let mid = g.F.Files.faults c.load_registry.new.files in
-    let after = g.F.Files.faults c.load_query.new.files in
+    let before = (g.F.Files.seen c.args.files.now).faults in
+    let mid = (g.F.Files.seen c.load_registry.new.files).faults in
+    let after = (g.F.Files.seen c.load_query.new.files).faults in
     subst (λ (s : Status). CountsOnly status.ReadFault s before after) (sym c.status-in-Err-load_query.ensures)
     (only_later status.ReadFault (query_status c.in-Err-load_query.refusal) before mid after c.in-Ok.ensures.counted (only_read c.args.query.now (query_status c.in-Err-load_query.refusal) mid after c.in-Err-load_query.ensures.counted))
 
 pub returns-clause-read_faults : goal.returns-clause-read_faults
-returns-clause-read_faults g c = inl (stayed_both (g.F.Files.faults c.args.files.now) (g.F.Files.faults c.load_registry.new.files) (g.F.Files.faults c.load_query.new.files) c.in-Ok.ensures.counted c.in-Ok-load_query.ensures.counted)
+returns-clause-read_faults g c = inl (stayed_both (g.F.Files.seen c.args.files.now).faults (g.F.Files.seen c.load_registry.new.files).faults (g.F.Files.seen c.load_query.new.files).faults c.in-Ok.ensures.counted c.in-Ok-load_query.ensures.counted)

@@ -18,7 +18,7 @@ returns-in-Ok-Query-clause-reported g c = on_first _ c.args.wires.now c.index-wi
 
 pub returns-in-Ok-Query-clause-written : goal.returns-in-Ok-Query-clause-written
 returns-in-Ok-Query-clause-written g c = on_first _ c.args.wires.now c.index-wires-0.result c.run_query.new.wire (
-    λ told. members_written (file_read g.F.Files.content g.F.Files.faults c.args.files.now c.run_query.new.files) _ _ c.in-Ok-Query.registry.now c.in-Ok-Query.query.now _ _ _ (rw c.in-Ok-Query.field-0-is at c.in-Ok-Query.ensures) (c.run_query.ensures.written told)
+    λ told. members_written (file_read (g.F.Files.seen c.args.files.now) (g.F.Files.seen c.run_query.new.files)) _ _ c.in-Ok-Query.registry.now c.in-Ok-Query.query.now _ _ _ (rw c.in-Ok-Query.field-0-is at c.in-Ok-Query.ensures) (c.run_query.ensures.written told)
     )
 
 pub returns-in-Ok-Explain-clause-reported : goal.returns-in-Ok-Explain-clause-reported
@@ -30,7 +30,7 @@ returns-in-Ok-Explain-clause-reported g c = on_first _ c.args.wires.now c.index-
 
 pub returns-in-Ok-Explain-clause-written : goal.returns-in-Ok-Explain-clause-written
 returns-in-Ok-Explain-clause-written g c = on_first _ c.args.wires.now c.index-wires-0-in-Ok-Explain.result c.run_explain.new.wire (
-    λ told. plan_written (file_read g.F.Files.content g.F.Files.faults c.args.files.now c.run_explain.new.files) _ _ c.in-Ok-Explain.registry.now c.in-Ok-Explain.query.now _ _ _ (rw c.in-Ok-Explain.field-0-is at c.in-Ok-Explain.ensures) (c.run_explain.ensures.written told)
+    λ told. plan_written (file_read (g.F.Files.seen c.args.files.now) (g.F.Files.seen c.run_explain.new.files)) _ _ c.in-Ok-Explain.registry.now c.in-Ok-Explain.query.now _ _ _ (rw c.in-Ok-Explain.field-0-is at c.in-Ok-Explain.ensures) (c.run_explain.ensures.written told)
     )
 
 pub returns-in-Ok-Query-clause-endpoint_faults : goal.returns-in-Ok-Query-clause-endpoint_faults

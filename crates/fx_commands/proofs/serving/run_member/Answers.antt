@@ -2,7 +2,7 @@ use Rattle.std.proofs.Common.{sym, subst, inl}
 use Rattle.fx_commands.specs.Counts.{CountsOnly}
 use Rattle.fx_commands.specs.Files.{file_read}
 use Rattle.fx_commands.specs.LocalSteps.{graph_line}
-use Rattle.fx_commands.specs.Serving.{door_seen, IsMemberReported}
+use Rattle.fx_commands.specs.Serving.{IsMemberReported}
 use Rattle.fx_commands.specs.declared.statuses.Status.{Status}
 use Rattle.fx_commands.specs.RefusalStatuses.{graph_status}
 use Rattle.fx_commands.specs.declared.statuses.Status.TheVariants as status
@@ -12,8 +12,8 @@ use Rattle.fx_commands.proofs.serving.run_member.Goals as goal
 
 pub returns-in-Err-clause-reported : goal.returns-in-Err-clause-reported
 returns-in-Err-clause-reported g c =
-    let read = file_read g.F.Files.content g.F.Files.faults c.args.files.now c.load_store.new.files c.args.graph.now in
-    let seen = door_seen g.D.Door.tells g.D.Door.started g.D.Door.inputs g.D.Door.outputs g.D.Door.faults c.args.door.now in
+    let read = file_read (g.F.Files.seen c.args.files.now) (g.F.Files.seen c.load_store.new.files) c.args.graph.now in
+    let seen = g.D.Door.seen c.args.door.now in
     let text = graph_line c.in-Err.refusal c.args.graph.now in (
       text,
       subst (λ (s : Status). IsMemberReported read seen seen c.args.address.now c.args.count s text) (sym c.status.ensures) (no_graph_reported read seen c.args.address.now c.args.count c.in-Err.refusal c.in-Err.ensures.outcome),
@@ -22,8 +22,8 @@ returns-in-Err-clause-reported g c =
 
 pub returns-in-Err-clause-read_faults : goal.returns-in-Err-clause-read_faults
 returns-in-Err-clause-read_faults g c =
-    let before = g.F.Files.faults c.args.files.now in
-    let after = g.F.Files.faults c.load_store.new.files in
+    let before = (g.F.Files.seen c.args.files.now).faults in
+    let after = (g.F.Files.seen c.load_store.new.files).faults in
     subst (λ (s : Status). CountsOnly status.ReadFault s before after) (sym c.status.ensures) (only_read c.args.graph.now (graph_status c.in-Err.refusal) before after c.in-Err.ensures.counted)
 
 pub returns-in-Ok-clause-read_faults : goal.returns-in-Ok-clause-read_faults

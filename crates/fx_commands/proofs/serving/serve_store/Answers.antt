@@ -1,17 +1,22 @@
 use Rattle.std.proofs.Common.{◌≡◌, ap, sym, subst, refl, Err, arith}
 use Rattle.fx_outside.specs.declared.doors.DoorError.TheVariants as door
+use Rattle.std.specs.Prelude.{IsTrue}
+use Rattle.fx_outside.proofs.AlikeLemmas.{alike}
 use Rattle.fx_commands.specs.Counts.{CountsDoor}
-use Rattle.fx_commands.specs.Serving.{door_seen, IsServingReported}
+use Rattle.fx_commands.specs.Serving.{IsServingReported}
 use Rattle.fx_commands.specs.ServingSteps.{end_line}
 use Rattle.fx_commands.specs.declared.statuses.Status.{Status}
 use Rattle.fx_commands.proofs.CountLemmas.{door_later, end_counts}
 use Rattle.fx_commands.proofs.ServingLemmas.{not_opened, ended}
 use Rattle.fx_commands.proofs.serving.serve_store.Goals as goal
 
+pub serve-requires : goal.serve-requires
+serve-requires g c = λ tells. c.in-Ok.ensures.started (subst IsTrue (alike g.met.D.Door.told c.start.new.self c.args.door.now) tells)
+
 pub returns-in-Err-clause-reported : goal.returns-in-Err-clause-reported
 returns-in-Err-clause-reported g c =
-    let before = door_seen g.D.Door.tells g.D.Door.started g.D.Door.inputs g.D.Door.outputs g.D.Door.faults c.args.door.now in
-    let after = door_seen g.D.Door.tells g.D.Door.started g.D.Door.inputs g.D.Door.outputs g.D.Door.faults c.start.new.self in
+    let before = g.D.Door.seen c.args.door.now in
+    let after = g.D.Door.seen c.start.new.self in
     let e = c.in-Err.error in (
       end_line e,
       subst (λ (s : Status). IsServingReported before after c.args.address.now c.args.count c.args.store.now s (end_line e)) (sym c.end.ensures.status)
@@ -21,11 +26,11 @@ returns-in-Err-clause-reported g c =
 
 pub returns-in-Err-clause-door_faults : goal.returns-in-Err-clause-door_faults
 returns-in-Err-clause-door_faults g c =
-    let faults = g.D.Door.faults in
-    subst (λ (s : Status). CountsDoor s (faults c.args.door.now) (faults c.start.new.self)) (sym c.end.ensures.status)
-    (end_counts (faults c.args.door.now) (faults c.args.door.now) (faults c.start.new.self) c.in-Err.error refl (λ is. c.in-Err.ensures.counted (ap Err is)) (λ not. c.in-Err.ensures.faultless (λ is. let same : c.in-Err.error ≡ door.Failed = cc in not same)))
+    let see = g.D.Door.seen in
+    subst (λ (s : Status). CountsDoor s (see c.args.door.now).faults (see c.start.new.self).faults) (sym c.end.ensures.status)
+    (end_counts (see c.args.door.now).faults (see c.args.door.now).faults (see c.start.new.self).faults c.in-Err.error refl (λ is. c.in-Err.ensures.counted (ap Err is)) (λ not. c.in-Err.ensures.faultless (λ is. let same : c.in-Err.error ≡ door.Failed = cc in not same)))
 
 pub returns-in-Ok-clause-door_faults : goal.returns-in-Ok-clause-door_faults
 returns-in-Ok-clause-door_faults g c =
-    let faults = g.D.Door.faults in
-    door_later c.serve.result (faults c.args.door.now) (faults c.start.new.self) (faults c.serve.new.door) (c.in-Ok.ensures.faultless (λ failed. cc)) c.serve.ensures.door_faults
+    let see = g.D.Door.seen in
+    door_later c.serve.result (see c.args.door.now).faults (see c.start.new.self).faults (see c.serve.new.door).faults (c.in-Ok.ensures.faultless (λ failed. cc)) c.serve.ensures.door_faults
