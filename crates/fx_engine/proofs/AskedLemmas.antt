@@ -88,7 +88,7 @@ module _ (before between after : List Seen) (h : AreAfter before between) (xs al
       cause = cause_behind k.endpoint (record { unit = k.unit; rows = k.batch }) why k.cause;
     }
 
-    flow_cause_behind : (why : FlowError) → HasFlowCause between after endpoints us wanted xs why → HasFlowCause before after endpoints us (own ++ wanted) all why
+    pub flow_cause_behind : (why : FlowError) → HasFlowCause between after endpoints us wanted xs why → HasFlowCause before after endpoints us (own ++ wanted) all why
     flow_cause_behind (flow.Member at) k = its_cause (flow.Member at) k
     flow_cause_behind (flow.BadReply at bad) k = its_cause (flow.BadReply at bad) k
     flow_cause_behind (flow.RequestTooLong at size) k = its_cause (flow.RequestTooLong at size) k

@@ -34,3 +34,8 @@ pub mod ProbeLemmas
 pub mod RepliesLemmas
 pub mod AsksLemmas
 pub mod AnsweredLemmas
+pub mod KeyLemmas
+pub mod AskableLemmas
+pub mod ChoiceLemmas
+pub mod BatchCauseLemmas
+pub mod MediationLemmas

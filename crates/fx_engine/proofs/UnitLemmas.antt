@@ -72,7 +72,7 @@ module _ (members : Pattern → List ℕ) where
   IsAskedOf ps p ms = plans.IsAsked (zip ps (map members ps)) (p, ms)
 
   -- what holds of each pattern of the run holds of one that is asked
-  of_asked : (P : Pattern → Type 0) (ps : List Pattern) (p : Pattern) (ms : List ℕ) → AllByRecursion P ps → IsAskedOf ps p ms → P p
+  pub of_asked : (P : Pattern → Type 0) (ps : List Pattern) (p : Pattern) (ms : List ℕ) → AllByRecursion P ps → IsAskedOf ps p ms → P p
   of_asked P [] p ms h m = absurd m
   of_asked P (q ∷ ps) p ms h (inl e) = subst P (ap (λ (a : Asked). a.0) e) h.0
   of_asked P (q ∷ ps) p ms h (inr m) = of_asked P ps p ms h.1 m
@@ -139,7 +139,7 @@ units_are_fit text q members accepted rise =
 
 -- ---- sources
 
-range_rises : (a n : ℕ) → AllPairs ◌<◌ (range_with_len a n)
+pub range_rises : (a n : ℕ) → AllPairs ◌<◌ (range_with_len a n)
 range_rises a n i j d before within =
     let long = length-range_with_len a n in
     let low = get_or-range_with_len a n i d (omega arith) in

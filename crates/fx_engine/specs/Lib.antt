@@ -2,12 +2,14 @@ pub mod AnswersAsked
 pub mod AskSteps
 pub mod Asked
 pub mod Asks
+pub mod Choices
 pub mod Counts
 pub mod FaultTexts
 pub mod Federation
 pub mod GroupsAsked
 pub mod Laws
 pub mod LeftRows
+pub mod Mediation
 pub mod MemberQueries
 pub mod Planning
 pub mod Refusals

@@ -4,11 +4,13 @@
 mod answers;
 mod asking;
 mod asks;
+mod choices;
 pub mod errors;
 pub mod federation;
 mod gathering;
 mod groups;
 pub mod laws;
+pub mod mediator;
 mod optionals;
 mod parts;
 pub mod planning;

@@ -65,7 +65,7 @@ pub fn plan_parts<W: Wire>(
 }
 
 // The parts of a query, by what the cache holds and the truths that answer the probes that it misses.
-fn parts_by(
+pub(crate) fn parts_by(
     alloc: Global,
     query: &Query,
     registry: &Registry,

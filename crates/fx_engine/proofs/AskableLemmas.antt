@@ -1,0 +1,75 @@
+-- The parts of an accepted query's plan can be asked for, whatever is known of its probes, and their units have patterns of the query.
+use Rattle.std.proofs.Common.{◌≡◌, ◌∙◌, ap, sym, subst, refl, ℕ, ◌<◌, inl, inr, Bool, true, false, cond, List, [], ◌∷◌, map, arith}
+use Rattle.std.specs.Prelude.{All, AllPairs, Contains}
+use Rattle.std.specs.List.{AllByRecursion, list_any, range_with_len}
+use Rattle.std.proofs.lemmas.List.{length-map}
+use Rattle.std.proofs.lemmas.List.Elements.{All-contains, All-filter, All-from_recursion}
+use Rattle.std.proofs.lemmas.List.FromFn.{get_or-range_with_len, length-range_with_len}
+use Rattle.std.proofs.lemmas.List.Kept.{AllPairs-filter}
+use Rattle.fx_terms.specs.declared.patterns.Pattern.{Pattern}
+use Rattle.fx_terms.proofs.SetLemmas.{Among, contains_from}
+use Rattle.fx_algebra.specs.Answers.{is_empty_list}
+use Rattle.fx_algebra.specs.Cuts.{stations}
+use Rattle.fx_algebra.specs.Stations.{Station}
+use Rattle.fx_algebra.specs.Stations as station
+use Rattle.fx_algebra.specs.declared.expressions.Expr.{Expr}
+use Rattle.fx_algebra.specs.declared.queries.Query.{Query}
+use Rattle.fx_grammar.specs.Accepted.{Accepted}
+use Rattle.fx_spelling.specs.Runs.{HasRun, IsRun}
+use Rattle.fx_spelling.proofs.Runs.{runs_are_of_the_grammar}
+use Rattle.fx_sources.specs.Probes.{Entry, chosen, is_yes, key_of, known, members_of, probe}
+use Rattle.fx_plan.specs.Plans.{plan}
+use Rattle.fx_plan.specs.declared.parts.Part.TheVariants.{Run, EmptyRun}
+use Rattle.fx_traffic.proofs.PlannedLemmas.{planned_laws}
+use Rattle.fx_engine.specs.GroupsAsked.{CanBeAsked}
+use Rattle.fx_engine.specs.Sections.{part_with, parts_by, section_of, sections}
+use Rattle.fx_engine.proofs.PartLemmas.{by_function}
+use Rattle.fx_engine.proofs.SectionLemmas.{runs_have}
+use Rattle.fx_engine.proofs.UnitLemmas.{range_rises}
+
+-- parts by what is known of each member and key
+pub by_members : (q : Query) (members : ℕ) (entries : List Entry) → parts_by (sections q) (chosen q members entries) ≡ map (part_with (λ p. members_of entries members (key_of p))) (sections q)
+by_members q members entries =
+    let f : Pattern → List ℕ = λ p. members_of entries members (key_of p) in
+    ap (λ (ps : List Pattern). parts_by (sections q) (map f ps)) (sym (runs_have q)) ∙ by_function f (sections q)
+
+all_mapped : (P : List ℕ → Type 0) (f : Pattern → List ℕ) → ((p : Pattern) → P (f p)) → (ps : List Pattern) → AllByRecursion P (map f ps)
+all_mapped P f h [] = tt
+all_mapped P f h (p ∷ ps) = (h p, all_mapped P f h ps)
+
+module _ (text : List ℕ) (q : Query) (accepted : Accepted text q) (members : ℕ) (f : Pattern → List ℕ) (rising : (p : Pattern) → AllPairs ◌<◌ (f p)) (below : (p : Pattern) → All (λ at. at < members) (f p)) where
+  run_asked : (ps : List Pattern) (filters : List Expr) (before : List (List ℕ)) → Contains (stations q) (station.run ps filters before) → (b : Bool) → list_any is_empty_list (map f ps) ≡ b
+      → CanBeAsked members (cond b EmptyRun (Run (plan ps (map f ps) filters before) before))
+  run_asked ps filters before m true e = tt
+  run_asked ps filters before m false e =
+      let run : IsRun ps filters = All-contains HasRun (stations q) (station.run ps filters before) (runs_are_of_the_grammar text q accepted) m in
+      record {
+        some = planned_laws.some ps (map f ps) filters before run.some (length-map ps f);
+        fit = planned_laws.of_queries text q ps (map f ps) filters before accepted m (record { some = e; rising = All-from_recursion (AllPairs ◌<◌) (map f ps) (all_mapped (AllPairs ◌<◌) f rising ps) });
+        within = planned_laws.within members ps (map f ps) filters before (All-from_recursion (All (λ at. at < members)) (map f ps) (all_mapped (All (λ at. at < members)) f below ps));
+      }
+
+  station_asked : (s : Station) → Contains (stations q) s → CanBeAsked members (part_with f (section_of s))
+  station_asked (station.run ps filters before) m = run_asked ps filters before m (list_any is_empty_list (map f ps)) refl
+  station_asked (station.service number silent iri g) m = tt
+
+  stations_asked : (ss : List Station) → ((s : Station) → Among s ss → Contains (stations q) s) → AllByRecursion (CanBeAsked members) (map (part_with f) (map section_of ss))
+  stations_asked [] h = tt
+  stations_asked (s ∷ ss) h = (station_asked s (h s (inl refl)), stations_asked ss (λ t m. h t (inr m)))
+
+  all_asked : All (CanBeAsked members) (map (part_with f) (sections q))
+  all_asked = All-from_recursion (CanBeAsked members) (map (part_with f) (sections q)) (stations_asked (stations q) (λ s m. contains_from (stations q) s m))
+
+range_below : (n : ℕ) → All (λ at. at < n) (range_with_len 0 n)
+range_below n k d low =
+    let long = length-range_with_len 0 n in
+    let is = get_or-range_with_len 0 n k d (omega arith) in
+    omega arith
+
+pub parts_can_be_asked : (text : List ℕ) (q : Query) → Accepted text q → (members : ℕ) (entries : List Entry) → All (CanBeAsked members) (parts_by (sections q) (chosen q members entries))
+parts_can_be_asked text q accepted members entries =
+    let f : Pattern → List ℕ = λ p. members_of entries members (key_of p) in
+    subst (All (CanBeAsked members)) (sym (by_members q members entries))
+    (all_asked text q accepted members f
+    (λ p. AllPairs-filter ◌<◌ (λ at. is_yes (known entries (probe at (key_of p)))) (range_with_len 0 members) (range_rises 0 members))
+    (λ p. All-filter (λ at. is_yes (known entries (probe at (key_of p)))) (λ at. at < members) (range_with_len 0 members) (range_below members)))

@@ -1,0 +1,161 @@
+-- The cause of a refusal of a query's batches, with the name of the endpoint.
+use Rattle.std.proofs.Common.{◌≡◌, sym, subst, ℕ, ◌<◌, ◌⊎◌, inl, inr, Bool, true, false, cond, List, [], ◌∷◌, ◌++◌, map, length, arith}
+use Rattle.std.specs.Prelude.{All, Contains}
+use Rattle.std.specs.List.{AllByRecursion, flat_map, list_any, zip}
+use Rattle.std.proofs.lemmas.List.Elements.{All-contains, All-contains_itself, All-from_recursion, recursion_from_All}
+use Rattle.fx_terms.specs.declared.patterns.Pattern.{Pattern}
+use Rattle.fx_terms.proofs.SetLemmas.{Among, among_from}
+use Rattle.fx_outside.specs.Endpoints.{EndpointParts}
+use Rattle.fx_algebra.specs.Answers.{is_empty_list}
+use Rattle.fx_algebra.specs.declared.expressions.Expr.{Expr}
+use Rattle.fx_algebra.specs.declared.queries.Query.{Query}
+use Rattle.fx_algebra.specs.declared.units.Unit as unit
+use Rattle.fx_plan.specs.Laws.{IsGroup, IsSingle}
+use Rattle.fx_plan.specs.Plans.{plan}
+use Rattle.fx_plan.specs.declared.parts.Part.{Part}
+use Rattle.fx_plan.specs.declared.parts.Part.TheVariants as part
+use Rattle.fx_plan.proofs.LawLemmas.{units_are_of_the_run}
+use Rattle.fx_sources.specs.Patterns.{patterns}
+use Rattle.fx_sources.specs.Probes.{Entry, chosen, key_of, members_of}
+use Rattle.fx_spelling.specs.Units.{IsFit}
+use Rattle.fx_traffic.specs.Gains.{AreAfter, Tell}
+use Rattle.fx_traffic.specs.Sent.{Sent}
+use Rattle.fx_wire.specs.Exchanges.{Exchange, Seen}
+use Rattle.fx_pool.specs.Flows.{IsBadBatch, IsLongBatch}
+use Rattle.fx_pool.specs.RunFlows.{HasFlowCause, IsFlowCause}
+use Rattle.fx_pool.specs.declared.flows.FlowError.{FlowError}
+use Rattle.fx_pool.specs.declared.flows.FlowError.TheVariants as flow
+use Rattle.fx_pool.specs.declared.jobs.BadReply.{BadReply}
+use Rattle.fx_engine.specs.GroupsAsked.{CanBeAsked, part_units, units_in}
+use Rattle.fx_engine.specs.Mediation.{HasFedCause, IsBatchFor, IsNamed, IsPlaced}
+use Rattle.fx_engine.specs.Sections.{part_with, parts_by, run_patterns, sections}
+use Rattle.fx_engine.specs.declared.mediator.FedError.{FedError}
+use Rattle.fx_engine.specs.declared.mediator.FedError.TheVariants as fed
+use Rattle.fx_engine.specs.declared.sections.Section.{Section}
+use Rattle.fx_engine.specs.declared.sections.Section.TheVariants.{Run, Service}
+use Rattle.fx_engine.proofs.AskableLemmas.{by_members}
+use Rattle.fx_engine.proofs.AskedLemmas.{flow_cause_behind}
+use Rattle.fx_engine.proofs.ChoiceLemmas.{below, found_here, its_name}
+use Rattle.fx_engine.proofs.SectionLemmas.{runs_have}
+use Rattle.fx_engine.proofs.UnitLemmas.{of_asked}
+
+all_both : {X : Type 0} (P : X → Type 0) (xs ys : List X) → AllByRecursion P xs → AllByRecursion P ys → AllByRecursion P (xs ++ ys)
+all_both P [] ys h k = k
+all_both P (x ∷ xs) ys h k = (h.0, all_both P xs ys h.1 k)
+
+all_split : {X : Type 0} (P : X → Type 0) (xs ys : List X) → AllByRecursion P (xs ++ ys) → AllByRecursion P xs × AllByRecursion P ys
+all_split P [] ys h = (tt, h)
+all_split P (x ∷ xs) ys h = let rest = all_split P xs ys h.1 in ((h.0, rest.0), rest.1)
+
+-- ---- the units of a plan have patterns of its query
+
+module _ (P : Pattern → Type 0) (f : Pattern → List ℕ) where
+  abbrev HasAll : unit.Unit → Type 0
+  HasAll u = All P u.patterns
+
+  unit_of_run : (ps : List Pattern) (u : unit.Unit) → IsGroup (zip ps (map f ps)) u ⊎ IsSingle (zip ps (map f ps)) u → AllByRecursion P ps → HasAll u
+  unit_of_run ps u (inl g) h = λ k d low. of_asked f P ps _ (g.member ∷ []) h (g.only k d low)
+  unit_of_run ps u (inr s) h = subst (All P) (sym s.alone) (All-from_recursion P (s.pattern ∷ []) (of_asked f P ps s.pattern u.members h s.its, tt))
+
+  run_units : (b : Bool) (ps : List Pattern) (filters : List Expr) (bound : List (List ℕ)) → AllByRecursion P ps → AllByRecursion HasAll (part_units (cond b part.EmptyRun (part.Run (plan ps (map f ps) filters bound) bound)))
+  run_units true ps filters bound h = tt
+  run_units false ps filters bound h =
+      recursion_from_All HasAll (plan ps (map f ps) filters bound) (λ k d low. unit_of_run ps _ (units_are_of_the_run ps (map f ps) filters bound k d low) h)
+
+  all_units : (ss : List Section) → AllByRecursion P (flat_map run_patterns ss) → AllByRecursion HasAll (units_in (map (part_with f) ss))
+  all_units [] h = tt
+  all_units (Run ps filters bound ∷ ss) h =
+      let own = all_split P ps (flat_map run_patterns ss) h in
+      all_both HasAll (part_units (part_with f (Run ps filters bound))) (units_in (map (part_with f) ss)) (run_units (list_any is_empty_list (map f ps)) ps filters bound own.0) (all_units ss own.1)
+  all_units (Service iri ∷ ss) h = all_units ss h
+
+units_have_patterns : (q : Query) (n : ℕ) (entries : List Entry) → All (λ u. All (Contains (patterns q)) u.patterns) (units_in (parts_by (sections q) (chosen q n entries)))
+units_have_patterns q n entries =
+    let f : Pattern → List ℕ = λ p. members_of entries n (key_of p) in
+    let own : AllByRecursion (Contains (patterns q)) (flat_map run_patterns (sections q)) = subst (AllByRecursion (Contains (patterns q))) (sym (runs_have q)) (recursion_from_All (Contains (patterns q)) (patterns q) (All-contains_itself (patterns q))) in
+    subst (λ (v : List Part). All (λ u. All (Contains (patterns q)) u.patterns) (units_in v)) (sym (by_members q n entries))
+    (All-from_recursion (λ u. All (Contains (patterns q)) u.patterns) (units_in (map (part_with f) (sections q))) (all_units (Contains (patterns q)) f (sections q) own))
+
+-- ---- they are fit
+
+part_fit : (n : ℕ) (p : Part) → CanBeAsked n p → AllByRecursion IsFit (part_units p)
+part_fit n (part.Run units bound) h = recursion_from_All IsFit units h.fit
+part_fit n part.EmptyRun h = tt
+part_fit n (part.Service iri) h = tt
+
+units_fit : (n : ℕ) (parts : List Part) → AllByRecursion (CanBeAsked n) parts → AllByRecursion IsFit (units_in parts)
+units_fit n [] h = tt
+units_fit n (p ∷ parts) h = all_both IsFit (part_units p) (units_in parts) (part_fit n p h.0) (units_fit n parts h.1)
+
+-- ---- the cause
+
+some_pattern : (q : Query) (u : unit.Unit) → IsFit u → All (Contains (patterns q)) u.patterns → 0 < length (patterns q)
+some_pattern q u fit of = by u.patterns fit.some (recursion_from_All (Contains (patterns q)) u.patterns of)
+  where
+    more : (ps : List Pattern) (p : Pattern) → Among p ps → 0 < length ps
+    more [] p m = absurd m
+    more (x ∷ ps) p m = omega arith
+
+    by : (ps : List Pattern) → 0 < length ps → AllByRecursion (Contains (patterns q)) ps → 0 < length (patterns q)
+    by [] some h = absurd (omega arith)
+    by (p ∷ ps) some h = more (patterns q) p (among_from (patterns q) p h.0)
+
+module _ (es : List EndpointParts) (q : Query) (old : List Entry) (n : ℕ) (entries : List Entry) (parts : List Part) (are : parts ≡ parts_by (sections q) (chosen q n entries)) (can : All (CanBeAsked (length es)) parts) (s t : List Seen) (xs : List Exchange) (wanted : List Sent) where
+  batch_for : (why : FlowError) (k : IsFlowCause s t es (units_in parts) wanted xs why) → IsBatchFor es q k.endpoint k.unit k.batch
+  batch_for why k = record {
+    fit = All-contains IsFit (units_in parts) k.unit (All-from_recursion IsFit (units_in parts) (units_fit (length es) parts (recursion_from_All (CanBeAsked (length es)) parts can))) k.of_run;
+    of_query =
+        All-contains (λ u. All (Contains (patterns q)) u.patterns) (units_in parts) k.unit (subst (λ (v : List Part). All (λ u. All (Contains (patterns q)) u.patterns) (units_in v)) (sym are) (units_have_patterns q n entries)) k.of_run;
+    at = k.at;
+    member = k.member;
+    found = k.found;
+  }
+
+  named_batch_cause : (why : FlowError) (e : FedError) → IsFlowCause s t es (units_in parts) wanted xs why → IsNamed es why e → HasFedCause s t es q old wanted xs e
+  named_batch_cause why fed.Memory k n = tt
+  named_batch_cause (flow.Member at) (fed.Member name) k n =
+      let b = batch_for (flow.Member at) k in
+      (some_pattern q k.unit b.fit b.of_query, (k.endpoint, found_here es k.at k.endpoint k.found, its_name es k.at at k.endpoint name k.named k.found n, k.cause))
+  named_batch_cause (flow.BadReply at bad) (fed.BadReply name other) k n =
+      let is : IsBadBatch (Tell s k.endpoint.iri) k.endpoint (record { unit = k.unit; rows = k.batch }) xs other = subst (λ (b : BadReply). IsBadBatch (Tell s k.endpoint.iri) k.endpoint (record { unit = k.unit; rows = k.batch }) xs b) (sym n.1) k.cause in (
+        k.endpoint,
+        found_here es k.at k.endpoint k.found,
+        its_name es k.at at k.endpoint name k.named k.found n.0,
+        inr (record { unit = k.unit; batch = k.batch; asked = batch_for (flow.BadReply at bad) k; is_bad = is }),
+      )
+  named_batch_cause (flow.RequestTooLong at size) (fed.RequestTooLong name other) k n = (
+    k.endpoint,
+    found_here es k.at k.endpoint k.found,
+    its_name es k.at at k.endpoint name k.named k.found n.0,
+    inr (record { unit = k.unit; batch = k.batch; asked = batch_for (flow.RequestTooLong at size) k; allowed = k.allowed; is_long = subst (IsLongBatch (record { unit = k.unit; rows = k.batch })) (sym n.1) k.cause }),
+  )
+  named_batch_cause (flow.Member at) (fed.BadReply name other) k n = absurd n
+  named_batch_cause (flow.Member at) (fed.RequestTooLong name other) k n = absurd n
+  named_batch_cause (flow.BadReply at bad) (fed.Member name) k n = absurd n
+  named_batch_cause (flow.BadReply at bad) (fed.RequestTooLong name other) k n = absurd n
+  named_batch_cause (flow.RequestTooLong at size) (fed.Member name) k n = absurd n
+  named_batch_cause (flow.RequestTooLong at size) (fed.BadReply name other) k n = absurd n
+  named_batch_cause flow.Memory (fed.Member name) k n = absurd n
+  named_batch_cause flow.Memory (fed.BadReply name other) k n = absurd n
+  named_batch_cause flow.Memory (fed.RequestTooLong name other) k n = absurd n
+
+  batch_cause : (why : FlowError) (e : FedError) → HasFlowCause s t es (units_in parts) wanted xs why → IsNamed es why e → HasFedCause s t es q old wanted xs e
+  batch_cause (flow.Member at) e k n = named_batch_cause (flow.Member at) e k n
+  batch_cause (flow.BadReply at bad) e k n = named_batch_cause (flow.BadReply at bad) e k n
+  batch_cause (flow.RequestTooLong at size) e k n = named_batch_cause (flow.RequestTooLong at size) e k n
+  batch_cause flow.Memory fed.Memory k n = tt
+  batch_cause flow.Memory (fed.Member name) k n = absurd n
+  batch_cause flow.Memory (fed.BadReply name other) k n = absurd n
+  batch_cause flow.Memory (fed.RequestTooLong name other) k n = absurd n
+
+-- the cause behind other exchanges
+pub batch_cause_behind : (es : List EndpointParts) (q : Query) (old : List Entry) (n : ℕ) (entries : List Entry) (parts : List Part) → parts ≡ parts_by (sections q) (chosen q n entries) → All (CanBeAsked (length es)) parts → (s t u : List Seen) → AreAfter s t
+    → (xs all : List Exchange) → ((x : Exchange) → Contains xs x → Contains all x) → (wanted : List Sent) (why : FlowError) (e : FedError) → HasFlowCause t u es (units_in parts) wanted xs why → IsNamed es why e → HasFedCause s u es q old wanted all e
+batch_cause_behind es q old n entries parts are can s t u after xs all among wanted why e k named =
+    batch_cause es q old n entries parts are can s u all wanted why e (flow_cause_behind s t u after xs all among es (units_in parts) [] wanted why k) named
+
+pub flow_placed : (es : List EndpointParts) (us : List unit.Unit) (s t : List Seen) (xs : List Exchange) (wanted : List Sent) (why : FlowError) → HasFlowCause s t es us wanted xs why → IsPlaced (length es) why
+flow_placed es us s t xs wanted (flow.Member at) k = below es k.at at k.endpoint k.named k.found
+flow_placed es us s t xs wanted (flow.BadReply at bad) k = below es k.at at k.endpoint k.named k.found
+flow_placed es us s t xs wanted (flow.RequestTooLong at size) k = below es k.at at k.endpoint k.named k.found
+flow_placed es us s t xs wanted flow.Memory k = tt

@@ -1,0 +1,182 @@
+-- What a federation gives over several wires, and why it gives nothing.
+use Rattle.std.specs.Prelude.{◌≡◌, ◌<◌, ◌⊎◌, ◌++◌, ℕ, Bool, List, [], IfOk, IfErr, IsTrue, All, Contains, Some, Result, Ok, Err, length, slice_get}
+use Rattle.std.specs.List.{zip}
+use Rattle.std.specs.declared.alloc.Global.{Global}
+use Rattle.std.specs.declared.vec.Vec.{Vec}
+use Rattle.fx_terms.specs.declared.triples.Triple.{Triple}
+use Rattle.fx_outside.specs.Endpoints.{EndpointParts}
+use Rattle.fx_algebra.specs.Answers.{answer_alone, no_graphs}
+use Rattle.fx_algebra.specs.Cuts.{seeds, stations}
+use Rattle.fx_algebra.specs.Graphs.{union}
+use Rattle.fx_algebra.specs.Units.{sources}
+use Rattle.fx_algebra.specs.declared.queries.Query.{Query}
+use Rattle.fx_algebra.specs.declared.units.Row.{Row}
+use Rattle.fx_algebra.specs.declared.units.Unit as unit
+use Rattle.fx_grammar.specs.Accepted.{Accepted}
+use Rattle.fx_plan.specs.Explained.{HasMembers}
+use Rattle.fx_plan.specs.declared.parts.Part.{Part}
+use Rattle.fx_pool.specs.Flows.{IsBadBatch, IsLongBatch}
+use Rattle.fx_pool.specs.declared.flows.FlowError.{FlowError}
+use Rattle.fx_pool.specs.declared.flows.FlowError.TheVariants as flow
+use Rattle.fx_pool.specs.declared.jobs.BadReply.{BadReply}
+use Rattle.fx_sources.specs.Patterns.{patterns}
+use Rattle.fx_sources.specs.Probes.{Entry, chosen, learned, missing, told}
+use Rattle.fx_sources.specs.Sources as source
+use Rattle.fx_sources.specs.declared.probes.Probe.{Probe}
+use Rattle.fx_spelling.specs.Units.{IsFit}
+use Rattle.fx_traffic.specs.Batches.{unit_sent}
+use Rattle.fx_traffic.specs.Gains.{AreAfter, HaveGained, Tell, TellAll, faults_at}
+use Rattle.fx_traffic.specs.Sent.{Sent, Sends}
+use Rattle.fx_traffic.specs.Traffic.{AreAsked, AreStationsSent}
+use Rattle.fx_wire.specs.Exchanges.{Exchange, Seen}
+use Rattle.fx_engine.specs.Asks.{IsAnsweredBy, IsBadAsk, IsLongAsk}
+use Rattle.fx_engine.specs.Sections.{parts_by, parts_with, sections}
+use Rattle.fx_engine.specs.declared.mediator.FedError.{FedError}
+use Rattle.fx_engine.specs.declared.mediator.FedError.TheVariants as fed
+use Rattle.fx_engine.specs.declared.mediator.Outcome.{Outcome}
+
+-- some text is accepted as the query
+abbrev pub IsSpellable : Query → Type 0
+IsSpellable q = (text : List ℕ) × Accepted text q
+
+-- ---- causes
+
+-- the probe of an endpoint that the entries lack
+pub record IsMissing (endpoints : List EndpointParts) (q : Query) (entries : List Entry) (e : EndpointParts) (p : Probe) : Type 0 where
+  pub lacked : Contains (missing q (length endpoints) entries) p
+  pub found : slice_get endpoints p.at ≡ Some e
+
+-- a batch that an endpoint is asked for, of a unit of the query's patterns outside SERVICE
+pub record IsBatchFor (endpoints : List EndpointParts) (q : Query) (e : EndpointParts) (u : unit.Unit) (batch : List Row) : Type 0 where
+  pub fit : IsFit u
+  pub of_query : All (Contains (patterns q)) u.patterns
+  pub at : ℕ
+  pub member : Contains u.members at
+  pub found : slice_get endpoints at ≡ Some e
+
+-- one of the exchanges has a bad reply to a batch
+pub record HasBadBatch (before : List Seen) (endpoints : List EndpointParts) (q : Query) (e : EndpointParts) (xs : List Exchange) (bad : BadReply) : Type 0 where
+  pub unit : unit.Unit
+  pub batch : List Row
+  pub asked : IsBatchFor endpoints q e unit batch
+  pub is_bad : IsBadBatch (Tell before e.iri) e (record { unit = unit; rows = batch }) xs bad
+
+-- to an ASK
+abbrev pub HasBadAsk : List Seen → List EndpointParts → Query → List Entry → EndpointParts → List Exchange → BadReply → Type 0
+HasBadAsk before endpoints q entries e xs bad = (p : Probe) × IsMissing endpoints q entries e p × IsBadAsk (Tell before e.iri) e p xs bad
+
+-- the text of a batch, which is among those that are wanted of the query, is too long
+pub record HasLongBatch (endpoints : List EndpointParts) (q : Query) (e : EndpointParts) (texts : List Sent) (size : ℕ) : Type 0 where
+  pub unit : unit.Unit
+  pub batch : List Row
+  pub asked : IsBatchFor endpoints q e unit batch
+  pub allowed : (x : Sent) → Contains (unit_sent endpoints unit batch) x → Contains texts x
+  pub is_long : IsLongBatch (record { unit = unit; rows = batch }) size
+
+abbrev pub HasLongAsk : List EndpointParts → Query → List Entry → EndpointParts → ℕ → Type 0
+HasLongAsk endpoints q entries e size = (p : Probe) × IsMissing endpoints q entries e p × IsLongAsk p size
+
+-- one of the endpoints has this name, and this cause
+abbrev pub AtNamed : List EndpointParts → List ℕ → (EndpointParts → Type 0) → Type 0
+AtNamed endpoints name P = (e : EndpointParts) × Contains endpoints e × (e.name ≡ name) × P e
+
+-- Why there is no plan, at the endpoint that the refusal names: its faults rose; a reply of it to an ASK is bad, which one of the exchanges has; an
+-- ASK for it is too long.
+abbrev pub HasPlanCause : List Seen → List Seen → List EndpointParts → Query → List Entry → List Exchange → FedError → Type 0
+HasPlanCause before after endpoints q entries xs (fed.Member name) = (0 < length (patterns q)) × AtNamed endpoints name (λ e. faults_at before e.iri < faults_at after e.iri)
+HasPlanCause before after endpoints q entries xs (fed.BadReply name bad) = AtNamed endpoints name (λ e. HasBadAsk before endpoints q entries e xs bad)
+HasPlanCause before after endpoints q entries xs (fed.RequestTooLong name size) = AtNamed endpoints name (λ e. HasLongAsk endpoints q entries e size)
+HasPlanCause before after endpoints q entries xs fed.Memory = Unit {0}
+
+-- Why there is no answer: such a cause, or so it is of a batch.
+abbrev pub HasFedCause : List Seen → List Seen → List EndpointParts → Query → List Entry → List Sent → List Exchange → FedError → Type 0
+HasFedCause before after endpoints q entries texts xs (fed.Member name) = (0 < length (patterns q)) × AtNamed endpoints name (λ e. faults_at before e.iri < faults_at after e.iri)
+HasFedCause before after endpoints q entries texts xs (fed.BadReply name bad) = AtNamed endpoints name (λ e. HasBadAsk before endpoints q entries e xs bad ⊎ HasBadBatch before endpoints q e xs bad)
+HasFedCause before after endpoints q entries texts xs (fed.RequestTooLong name size) = AtNamed endpoints name (λ e. HasLongAsk endpoints q entries e size ⊎ HasLongBatch endpoints q e texts size)
+HasFedCause before after endpoints q entries texts xs fed.Memory = Unit {0}
+
+-- the refusal, with the name of the endpoint in place of its number, unless memory ran out
+abbrev pub HasName : List EndpointParts → ℕ → List ℕ → Type 0
+HasName endpoints at name = (e : EndpointParts) × (slice_get endpoints at ≡ Some e) × (e.name ≡ name)
+
+abbrev pub IsNamed : List EndpointParts → FlowError → FedError → Type 0
+IsNamed endpoints why fed.Memory = Unit {0}
+IsNamed endpoints (flow.Member at) (fed.Member name) = HasName endpoints at name
+IsNamed endpoints (flow.BadReply at bad) (fed.BadReply name other) = HasName endpoints at name × (other ≡ bad)
+IsNamed endpoints (flow.RequestTooLong at size) (fed.RequestTooLong name other) = HasName endpoints at name × (other ≡ size)
+IsNamed endpoints why e = ⊥
+
+-- the number that a refusal names is that of an endpoint
+abbrev pub IsPlaced : ℕ → FlowError → Type 0
+IsPlaced count (flow.Member at) = at < count
+IsPlaced count (flow.BadReply at bad) = at < count
+IsPlaced count (flow.RequestTooLong at size) = at < count
+IsPlaced count flow.Memory = Unit {0}
+
+-- ---- the cache
+
+-- what the cache holds behind: what it learned of the answers to all that was missing, by one exchange each
+pub record HasLearned (endpoints : List EndpointParts) (q : Query) (old new : List Entry) (xs : List Exchange) : Type 0 where
+  pub truths : List Bool
+  pub many : length truths ≡ length (missing q (length endpoints) old)
+  pub answered : All (IsAnsweredBy endpoints xs) (zip (missing q (length endpoints) old) truths)
+  pub learned_so : new ≡ learned old (missing q (length endpoints) old) truths
+
+-- each entry was held before, or is one of these answers
+pub record HasKept (endpoints : List EndpointParts) (q : Query) (old new : List Entry) (xs : List Exchange) : Type 0 where
+  pub each : All (λ (entry : Entry). Contains old entry ⊎ (Contains (missing q (length endpoints) old) entry.0 × IsAnsweredBy endpoints xs entry)) new
+
+abbrev pub HoldsBehind : {X : Type 0} → List EndpointParts → Query → List Entry → List Entry → List Exchange → Result X FedError → Type 0
+HoldsBehind endpoints q old new xs (Ok given) = HasLearned endpoints q old new xs
+HoldsBehind endpoints q old new xs (Err fed.Memory) = HasKept endpoints q old new xs
+HoldsBehind endpoints q old new xs (Err e) = new ≡ old
+
+-- the graphs of the endpoints are told, and the entries are true of them
+pub record AreKnown (before : List Seen) (endpoints : List EndpointParts) (entries : List Entry) (graphs : List (List Triple)) : Type 0 where
+  pub told : TellAll before endpoints graphs
+  pub entries_are : All (source.Tells graphs) entries
+
+-- ---- a federation
+
+-- A query without SERVICE was asked over wires, in batches of so many rows at most: what was exchanged, one wire's part behind the other's; the ASKs and the
+-- texts that were wanted of it, which are those of the query's traffic where graphs are told; the answer over the union of the graphs, or the cause.
+pub record Federated (tells alone : Bool) (before after : List Seen) (endpoints : List EndpointParts) (q : Query) (old new : List Entry) (block : ℕ) (result : Result Outcome FedError) : Type 0 where
+  pub exchanges : List Exchange
+  pub gained : IsTrue tells → HaveGained before after exchanges
+  pub after_all : AreAfter before after
+  pub quiet : IsTrue alone → IfOk result (λ _. (address : List ℕ) → faults_at after address ≡ faults_at before address)
+  pub asks : List Sent
+  pub asked : AreAsked endpoints q old asks
+  pub texts : List Sent
+  pub of_stations : (graphs : List (List Triple)) → AreKnown before endpoints old graphs → AreStationsSent endpoints graphs block (stations q) (seeds q (union graphs) no_graphs []) texts
+  pub left : List Sent
+  pub sent : Sends (asks ++ texts) left exchanges
+  pub answer : IfOk result (λ outcome. (graphs : List (List Triple)) → AreKnown before endpoints old graphs → outcome.answer ≡ answer_alone q (union graphs))
+  pub none_down : IfOk result (λ outcome. outcome.down ≡ [])
+  pub cause : IfErr result (HasFedCause before after endpoints q old texts exchanges)
+  pub held : HoldsBehind endpoints q old new exchanges result
+
+-- the plan is the query's by the sources that the cache's answers tell, those that it held before and those that it learned
+pub record IsPlannedBy (endpoints : List EndpointParts) (q : Query) (old new : List Entry) (xs : List Exchange) (parts : List Part) : Type 0 where
+  pub answers : HasLearned endpoints q old new xs
+  pub parts_are : parts ≡ parts_by (sections q) (chosen q (length endpoints) (told (missing q (length endpoints) old) answers.truths ++ old))
+
+-- The ASKs of a query were asked over wires, and nothing else: its plan, which where graphs are told is that by the sources of its patterns, or the cause.
+pub record Planned (tells alone : Bool) (before after : List Seen) (endpoints : List EndpointParts) (q : Query) (old new : List Entry) (result : Result (List Part) FedError) : Type 0 where
+  pub exchanges : List Exchange
+  pub gained : IsTrue tells → HaveGained before after exchanges
+  pub after_all : AreAfter before after
+  pub quiet : IsTrue alone → IfOk result (λ _. (address : List ℕ) → faults_at after address ≡ faults_at before address)
+  pub asks : List Sent
+  pub asked : AreAsked endpoints q old asks
+  pub left : List Sent
+  pub sent : Sends asks left exchanges
+  pub parts : IfOk result (λ parts. (graphs : List (List Triple)) → AreKnown before endpoints old graphs → parts ≡ parts_with (sources graphs) q)
+  pub by_answers : IfOk result (IsPlannedBy endpoints q old new exchanges)
+  pub within : IfOk result (All (HasMembers (length endpoints)))
+  pub cause : IfErr result (HasPlanCause before after endpoints q old exchanges)
+  pub held : HoldsBehind endpoints q old new exchanges result
+
+abbrev pub parts_in : Result (Vec Part Global) FedError → Result (List Part) FedError
+parts_in (Ok parts) = Ok parts.items
+parts_in (Err e) = Err e
