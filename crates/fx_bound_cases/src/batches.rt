@@ -99,7 +99,8 @@ fn read_shown(alloc: Global, run: &str, rows: &str, answer: &str) -> Option<Stri
     }
 }
 
-fn founds_text(alloc: Global, founds: &[Found]) -> Option<String> {
+/// What was found, each as its branch and its solution with `;` behind.
+pub fn founds_text(alloc: Global, founds: &[Found]) -> Option<String> {
     let mut text = String::new(alloc);
     for found in founds {
         push_numbered(alloc, &mut text, found.branch as u64, &found.solution)?;
@@ -107,13 +108,19 @@ fn founds_text(alloc: Global, founds: &[Found]) -> Option<String> {
     Some(text)
 }
 
-// A number, the pairs of a solution, and `;`.
-fn push_numbered(alloc: Global, text: &mut String, number: u64, solution: &Solution) -> Option<()> {
+/// Adds a number, the pairs of a solution, and `;`.
+pub fn push_numbered(
+    alloc: Global,
+    text: &mut String,
+    number: u64,
+    solution: &Solution,
+) -> Option<()> {
     let solution = shown::solution(alloc, solution)?;
     write!(text, "{number} {solution};").ok()
 }
 
-fn error_text(alloc: Global, error: BatchError) -> Option<String> {
+/// The name of a fault, with its row where it has one. Gives nothing for want of memory.
+pub fn error_text(alloc: Global, error: BatchError) -> Option<String> {
     match error {
         BatchError::NotTable => shown::word(alloc, "NotTable"),
         BatchError::Foreign { row } => format!(in alloc; "Foreign at {row}").ok(),
@@ -163,7 +170,8 @@ fn list_of(alloc: Global, batch: &Batch, answer: &str) -> Option<Items<Found>>
 
 // ---- batches
 
-fn batch_of(alloc: Global, run: &str, rows: &str) -> Option<Boxed<Batch>> {
+/// The batch of the one unit of a run, for rows under the numbers 10, 11 and so on.
+pub fn batch_of(alloc: Global, run: &str, rows: &str) -> Option<Boxed<Batch>> {
     let unit = unit_of(alloc, run)?;
     let rows = rows_of(alloc, rows)?;
     batch_by(alloc, unit.get(), rows.as_slice())

@@ -2,4 +2,4 @@
 #![tactic(auto)]
 
 pub mod batches;
-mod runs;
+pub mod runs;

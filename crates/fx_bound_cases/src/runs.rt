@@ -15,7 +15,7 @@ use fx_traffic::planned_units_are_fit;
 use std::alloc::Global;
 
 /// The one unit of a run that is written as the elements of a group, where one member alone has anything for it.
-pub(crate) fn unit_of(alloc: Global, run: &str) -> Option<Boxed<Unit>>
+pub fn unit_of(alloc: Global, run: &str) -> Option<Boxed<Unit>>
     ensures { IfSome result (λ unit. IsFit unit) }
 {
     let text = format!(in alloc; "PREFIX e: <http://e/> ASK {{ {run} }}").ok()?;

@@ -3,6 +3,7 @@
 use crate::{commands, runs, served};
 use fx_bound_cases::batches;
 use fx_plan_cases::{engine, plans, registries, sources};
+use fx_pool_cases::jobs;
 use fx_text_cases::{
     algebra, expressions, ntriples, print, results, solutions, syntax, terms, tokens,
 };
@@ -31,6 +32,7 @@ pub fn answer(alloc: Global, table: &str, call: &str, inputs: &[&str]) -> Option
         "sources" => sources::answer(alloc, call, inputs),
         "plans" => plans::answer(alloc, call, inputs),
         "batches" => batches::answer(alloc, call, inputs),
+        "jobs" => jobs::answer(alloc, call, inputs),
         "engine" => engine::answer(alloc, call, inputs),
         "commands" => commands::answer(alloc, call, inputs),
         "runs" => runs::answer(alloc, call, inputs),

@@ -15,7 +15,7 @@ use std::{fs, io};
 use tables::{Outcome, try_table};
 
 // The tables, in the order of the crates whose calls they try.
-const TABLES: [&str; 23] = [
+const TABLES: [&str; 24] = [
     "terms",
     "outside",
     "ntriples",
@@ -34,6 +34,7 @@ const TABLES: [&str; 23] = [
     "sources",
     "plans",
     "batches",
+    "jobs",
     "engine",
     "commands",
     "runs",

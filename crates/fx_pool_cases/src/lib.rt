@@ -1,0 +1,7 @@
+//! The cases of calls over wires: what comes of jobs, and the rows behind the units of a run.
+#![tactic(auto)]
+
+mod checks;
+mod faults;
+mod flows;
+pub mod jobs;
