@@ -2,6 +2,7 @@
 
 use crate::{commands, runs, served};
 use fx_bound_cases::batches;
+use fx_mediator_cases::mediations;
 use fx_plan_cases::{engine, plans, registries, sources};
 use fx_pool_cases::jobs;
 use fx_text_cases::{
@@ -34,6 +35,7 @@ pub fn answer(alloc: Global, table: &str, call: &str, inputs: &[&str]) -> Option
         "batches" => batches::answer(alloc, call, inputs),
         "jobs" => jobs::answer(alloc, call, inputs),
         "engine" => engine::answer(alloc, call, inputs),
+        "mediations" => mediations::answer(alloc, call, inputs),
         "commands" => commands::answer(alloc, call, inputs),
         "runs" => runs::answer(alloc, call, inputs),
         "served" => served::answer(alloc, call, inputs),

@@ -15,7 +15,7 @@ use std::{fs, io};
 use tables::{Outcome, try_table};
 
 // The tables, in the order of the crates whose calls they try.
-const TABLES: [&str; 24] = [
+const TABLES: [&str; 25] = [
     "terms",
     "outside",
     "ntriples",
@@ -36,6 +36,7 @@ const TABLES: [&str; 24] = [
     "batches",
     "jobs",
     "engine",
+    "mediations",
     "commands",
     "runs",
     "served",

@@ -1,0 +1,215 @@
+//! The calls of `fx_engine` over a list of wires. A case has the members' graphs: that of A at port 8001, of B at port 8002, and so on, behind one
+//! wire that answers by the algebra of SPARQL over each.
+ghost use Rattle.std.specs.Prelude.{◌≡◌, ◌<◌, ◌≤◌, IfSome, length};
+ghost use Rattle.fx_engine.specs.Mediation.{IsSpellable};
+
+use fx_algebra::{Query, services};
+use fx_engine::mediator::{FedError, Options, federate, plan_parts};
+use fx_member::GraphWire;
+use fx_notation::{escapes, notation, shown};
+use fx_plan::explain;
+use fx_sources::{AskCache, Registry};
+use fx_syntax::parse;
+use fx_terms::{Graph, Iri};
+use std::alloc::Global;
+use std::fmt::Write;
+use std::str::from_utf8;
+
+/// What a call gives.
+pub fn answer(alloc: Global, call: &str, inputs: &[&str]) -> Option<String> {
+    match (call, inputs) {
+        ("federate", [query, block, graphs @ ..]) => federated(alloc, query, block, graphs),
+        ("answer of federate", [query, block, graphs @ ..]) => {
+            let mut wires = wires_of(alloc, graphs)?;
+            asked(alloc, query, block, graphs.len(), wires.as_mut_slice())
+        }
+        ("plan_parts", [query, graphs @ ..]) => planned(alloc, query, graphs),
+        _ => None,
+    }
+}
+
+// How many ASKs and how many other texts each member was sent, and the answer.
+fn federated(alloc: Global, query: &str, block: &str, graphs: &[&str]) -> Option<String> {
+    let mut wires = wires_of(alloc, graphs)?;
+    let answer = asked(alloc, query, block, graphs.len(), wires.as_mut_slice())?;
+    told(alloc, wires.as_slice(), graphs.len(), answer.as_str())
+}
+
+// The answer, or the refusal.
+fn asked(
+    alloc: Global,
+    query: &str,
+    block: &str,
+    members: usize,
+    wires: &mut [GraphWire],
+) -> Option<String>
+    requires { (0 < length wires.old) × (length wires.old ≤ 16) }
+{
+    let block = block.parse::<u32>().ok()?;
+    let registry = registry_of(alloc, members)?;
+    let text = escapes::text(alloc, query)?;
+    match parse(alloc, text.as_bytes()) {
+        Ok(query) => answered(alloc, &query, block, &registry, wires),
+        Err(_) => None,
+    }
+}
+
+fn answered(
+    alloc: Global,
+    query: &Query,
+    block: u32,
+    registry: &Registry,
+    wires: &mut [GraphWire],
+) -> Option<String>
+    requires wired { (0 < length wires.old) × (length wires.old ≤ 16) }
+    requires spellable { IsSpellable query.now }
+{
+    let occurrences = services(alloc, query).ok()?;
+    if !occurrences.is_empty() || block == 0 || block > 64 {
+        return None;
+    }
+    let mut cache = AskCache::new(alloc).ok()?;
+    match federate(alloc, query, registry, &mut cache, Options { block }, wires) {
+        Ok(outcome) => shown::answer(alloc, &outcome.answer),
+        Err(error) => refusal_text(alloc, &error),
+    }
+}
+
+// How many ASKs and how many other texts each member was sent, and the text of the plan.
+fn planned(alloc: Global, query: &str, graphs: &[&str]) -> Option<String> {
+    let mut wires = wires_of(alloc, graphs)?;
+    let plan = explained(alloc, query, graphs.len(), wires.as_mut_slice())?;
+    told(alloc, wires.as_slice(), graphs.len(), plan.as_str())
+}
+
+// The text of the plan, or the refusal.
+fn explained(alloc: Global, query: &str, members: usize, wires: &mut [GraphWire]) -> Option<String>
+    requires { (0 < length wires.old) × (length wires.old ≤ 16) }
+{
+    let registry = registry_of(alloc, members)?;
+    let text = escapes::text(alloc, query)?;
+    match parse(alloc, text.as_bytes()) {
+        Ok(query) => planned_by(alloc, &query, &registry, wires),
+        Err(_) => None,
+    }
+}
+
+fn planned_by(
+    alloc: Global,
+    query: &Query,
+    registry: &Registry,
+    wires: &mut [GraphWire],
+) -> Option<String>
+    requires wired { (0 < length wires.old) × (length wires.old ≤ 16) }
+    requires spellable { IsSpellable query.now }
+{
+    let mut cache = AskCache::new(alloc).ok()?;
+    match plan_parts(alloc, query, registry, &mut cache, wires) {
+        Ok(parts) => explain(alloc, parts.as_slice(), registry.endpoints()).ok(),
+        Err(error) => refusal_text(alloc, &error),
+    }
+}
+
+fn refusal_text(alloc: Global, refusal: &FedError) -> Option<String> {
+    match refusal {
+        FedError::Member { name } => {
+            let name = name.as_str();
+            format!(in alloc; "member {name} failed").ok()
+        }
+        FedError::BadReply { name, bad: _ } => {
+            let name = name.as_str();
+            format!(in alloc; "bad reply from {name}").ok()
+        }
+        FedError::RequestTooLong { name, length } => {
+            let name = name.as_str();
+            format!(in alloc; "request for {name} has {length} bytes").ok()
+        }
+        FedError::Memory => None,
+    }
+}
+
+// The letter of each member with the numbers of its ASKs and of its other texts, and what the call gave.
+fn told(alloc: Global, wires: &[GraphWire], members: usize, given: &str) -> Option<String> {
+    let mut text = String::new(alloc);
+    for number in 0..members {
+        let (asks, others) = sent_to(wires, port_of(number)?)?;
+        let name = name_of(number)?;
+        write!(text, "{name} {asks}+{others}, ").ok()?;
+    }
+    text.push_str(given).ok()?;
+    Some(text)
+}
+
+// How many ASKs and how many other texts went to a port.
+fn sent_to(wires: &[GraphWire], port: u16) -> Option<(u64, u64)> {
+    let mut asks = 0;
+    let mut others = 0;
+    for wire in wires {
+        for exchange in wire.log() {
+            if exchange.at.port() == port {
+                let request = from_utf8(exchange.request.as_slice()).ok()?;
+                let (_, body) = request.split_once("\r\n\r\n")?;
+                if body.starts_with("ASK ") {
+                    asks = plus_one(asks)?;
+                } else {
+                    others = plus_one(others)?;
+                }
+            }
+        }
+    }
+    Some((asks, others))
+}
+
+fn plus_one(number: u64) -> Option<u64> {
+    number.checked_add(1)
+}
+
+fn port_of(number: usize) -> Option<u16> {
+    match number {
+        0 => Some(8001),
+        1 => Some(8002),
+        2 => Some(8003),
+        3 => Some(8004),
+        _ => None,
+    }
+}
+
+fn name_of(number: usize) -> Option<&'static str> {
+    match number {
+        0 => Some("A"),
+        1 => Some("B"),
+        2 => Some("C"),
+        3 => Some("D"),
+        _ => None,
+    }
+}
+
+fn registry_of(alloc: Global, members: usize) -> Option<Registry> {
+    let mut text = String::new(alloc);
+    for number in 0..members {
+        let (name, port) = (name_of(number)?, port_of(number)?);
+        writeln!(text, "{name} http://127.0.0.1:{port}/sparql").ok()?;
+    }
+    Registry::read(alloc, text.as_bytes()).ok()
+}
+
+// One wire over all members.
+fn wires_of(alloc: Global, fields: &[&str]) -> Option<Vec<GraphWire>>
+    ensures { IfSome result (λ wires. length wires.items ≡ 1) }
+{
+    let mut graphs = Vec::new(alloc);
+    for (number, field) in fields.iter().enumerate() {
+        graphs.push(addressed(alloc, number, field)?).ok()?;
+    }
+    let mut wires = Vec::new(alloc);
+    wires.push(GraphWire::new(alloc, graphs).ok()?).ok()?;
+    Some(wires)
+}
+
+fn addressed(alloc: Global, number: usize, field: &str) -> Option<(Iri, Graph)> {
+    let port = port_of(number)?;
+    let address = format!(in alloc; "http://127.0.0.1:{port}/sparql").ok()?;
+    let address = Iri::read(alloc, address.as_str()).ok()?;
+    let graph = notation::graph(alloc, field)?;
+    Some((address, graph))
+}
