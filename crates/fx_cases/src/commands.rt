@@ -29,9 +29,14 @@ fn command_text(alloc: Global, command: Command<'_>) -> Option<String> {
         Command::Local { graph, query } => {
             format!(in alloc; "Local of graph {graph} and query {query}").ok()
         }
-        Command::Query { registry, query } => {
-            format!(in alloc; "Query of registry {registry} and query {query}").ok()
-        }
+        Command::Query {
+            registry,
+            query,
+            workers,
+            block,
+        } => format!(in alloc;
+            "Query of registry {registry} and query {query}, {workers} workers, blocks of {block}"
+        ).ok(),
         Command::Explain { registry, query } => {
             format!(in alloc; "Explain of registry {registry} and query {query}").ok()
         }

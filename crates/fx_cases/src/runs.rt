@@ -2,7 +2,8 @@
 //!
 //! Words have a blank between, and an empty one is written `''`. A file is a field `name=content`; a field whose name begins with
 //! `http://` is a reply of the member with this address, or, over graphs, its graph. Calls that are to fail have a blank between: each
-//! is `out`, `err`, a file's name or a member's address, a `=`, and the number of the write, the reading or the exchange.
+//! is `out`, `err`, a file's name or a member's address, a `=`, and the number of the write, the reading or the exchange. Where the log of
+//! the wire is told, it has the port and the text of each exchange that was answered.
 ghost use Rattle.std.specs.Prelude.{◌<◌, length};
 
 use fx_commands::{Status, run};
@@ -11,8 +12,10 @@ use fx_notation::escapes;
 use fx_ntriples::read_graph;
 use fx_outside::{MemoryDoor, MemoryFiles, MemorySink};
 use fx_terms::{Graph, Iri};
+use fx_wire::script_wires::Answered;
 use fx_wire::{ScriptWire, Wire};
 use std::alloc::Global;
+use std::fmt::Write;
 use std::str::from_utf8;
 
 // How many bytes a stream takes, and one write of it, where no other number is given.
@@ -36,6 +39,18 @@ pub fn answer(alloc: Global, call: &str, inputs: &[&str]) -> Option<String> {
         }
         ("run over graphs", [words, failing, fields @ ..]) => {
             over_graphs(alloc, words, failing, fields)
+        }
+        ("run over graphs by wires", [words, count, fields @ ..]) => {
+            over_graphs_by_wires(alloc, words, count, fields)
+        }
+        ("run over graphs with the log", [words, fields @ ..]) => {
+            over_graphs_with_log(alloc, words, fields)
+        }
+        ("run over replies with the log", [words, fields @ ..]) => {
+            over_replies_with_log(alloc, words, fields)
+        }
+        ("run over long files", [words, count, fields @ ..]) => {
+            over_long_files(alloc, words, count, fields)
         }
         _ => None,
     }
@@ -64,7 +79,51 @@ fn fault_wire(alloc: Global, failing: &str, fields: &[&str]) -> Option<FaultWire
     FaultWire::new(alloc, graphs, Vec::new(alloc), fails_at).ok()
 }
 
-fn over_wires<W: Wire>(
+// The same over so many wires, each over all members.
+fn over_graphs_by_wires(
+    alloc: Global,
+    words: &str,
+    count: &str,
+    fields: &[&str],
+) -> Option<String> {
+    let mut wires = Vec::new(alloc);
+    for _ in 0..count.parse::<u64>().ok()? {
+        wires.push(fault_wire(alloc, "", fields)?).ok()?;
+    }
+    if wires.is_empty() {
+        return None;
+    }
+    over_wires(alloc, words, "", STEP, fields, wires.as_mut_slice())
+}
+
+// The same over one wire, where no exchange fails, with the log behind it.
+fn over_graphs_with_log(alloc: Global, words: &str, fields: &[&str]) -> Option<String> {
+    let mut wires = [GraphWire::new(alloc, graphs(alloc, fields)?).ok()?];
+    let mut text = over_wires(alloc, words, "", STEP, fields, &mut wires)?;
+    push_log(&mut text, wires[0].log())?;
+    Some(text)
+}
+
+fn over_replies_with_log(alloc: Global, words: &str, fields: &[&str]) -> Option<String> {
+    let mut wires = [ScriptWire::new(alloc, replies(alloc, fields)?).ok()?];
+    let mut text = over_wires(alloc, words, "", STEP, fields, &mut wires)?;
+    push_log(&mut text, wires[0].log())?;
+    Some(text)
+}
+
+// The port and the text of each exchange.
+fn push_log(text: &mut String, log: &[Answered]) -> Option<()> {
+    text.push_str(" | log").ok()?;
+    for exchange in log {
+        let port = exchange.at.port();
+        let request = from_utf8(exchange.request.as_slice()).ok()?;
+        let (_, body) = request.split_once("\r\n\r\n")?;
+        write!(text, " {port} {body};").ok()?;
+    }
+    Some(())
+}
+
+fn over_wires<W: Wire + Send>(
     alloc: Global,
     words: &str,
     failing: &str,
@@ -89,6 +148,35 @@ fn over_blanks(
     let mut files = files_of(alloc, "", with_blanks(alloc, name, count, fields)?)?;
     let mut wires = [ScriptWire::new(alloc, Vec::new(alloc)).ok()?];
     ran(alloc, words, "", STEP, &mut files, &mut wires)
+}
+
+// Where `{long}` stands once at most in each file, for so many letters.
+fn over_long_files(alloc: Global, words: &str, count: &str, fields: &[&str]) -> Option<String> {
+    let mut contents = Vec::new(alloc);
+    for field in fields {
+        let (name, content) = field.split_once('=')?;
+        if !is_address(name) {
+            let name = String::from_str(alloc, name).ok()?;
+            contents
+                .push((name, lengthened(alloc, content, count)?))
+                .ok()?;
+        }
+    }
+    let mut files = files_of(alloc, "", contents)?;
+    let mut wires = [ScriptWire::new(alloc, replies(alloc, fields)?).ok()?];
+    ran(alloc, words, "", STEP, &mut files, &mut wires)
+}
+
+fn lengthened(alloc: Global, content: &str, count: &str) -> Option<Vec<u8>> {
+    let Some((front, back)) = content.split_once("{long}") else {
+        return escapes::bytes(alloc, content);
+    };
+    let mut bytes = escapes::bytes(alloc, front)?;
+    let mut letters = vec![in alloc; b'a'; count.parse::<usize>().ok()?].ok()?;
+    let mut rest = escapes::bytes(alloc, back)?;
+    bytes.append(&mut letters).ok()?;
+    bytes.append(&mut rest).ok()?;
+    Some(bytes)
 }
 
 fn with_blanks(
@@ -139,7 +227,7 @@ fn cut_short(alloc: Global, whole: &str, written: u64) -> Option<String> {
 }
 
 // Runs words, with writes to the streams of so many bytes, and with nobody at the door.
-fn ran<W: Wire>(
+fn ran<W: Wire + Send>(
     alloc: Global,
     words: &str,
     failing: &str,
@@ -153,7 +241,7 @@ fn ran<W: Wire>(
     ran_by(alloc, words.as_slice(), failing, step, files, wires)
 }
 
-fn ran_by<W: Wire>(
+fn ran_by<W: Wire + Send>(
     alloc: Global,
     words: &[String],
     failing: &str,
@@ -168,7 +256,7 @@ fn ran_by<W: Wire>(
 }
 
 /// What a run gives over files, wires and a door, with writes to the streams of so many bytes.
-pub fn ran_at<W: Wire>(
+pub fn ran_at<W: Wire + Send>(
     alloc: Global,
     words: &[String],
     failing: &str,

@@ -1,7 +1,6 @@
 -- What is counted in one step after another.
 use Rattle.std.proofs.Common.{◌≡◌, ◌∙◌, ap, refl, ℕ, ◌+◌, List, Ok, Err, inl, inr}
 use Rattle.std.specs.Prelude.{Result}
-use Rattle.fx_outside.specs.Endpoints.{EndpointParts}
 use Rattle.fx_outside.specs.Faults.{HaveStayed}
 use Rattle.fx_outside.specs.declared.doors.DoorError.{DoorError}
 use Rattle.fx_outside.specs.declared.doors.DoorError.TheVariants as door
@@ -10,11 +9,7 @@ use Rattle.fx_ntriples.specs.declared.faults.NtError.{NtError}
 use Rattle.fx_ntriples.specs.declared.faults.NtError.TheVariants as nt
 use Rattle.fx_sources.specs.declared.errors.RegistryError.{RegistryError}
 use Rattle.fx_sources.specs.declared.errors.RegistryError.TheVariants as error
-use Rattle.fx_engine.specs.Counts.{CountsRefusal}
-use Rattle.fx_engine.specs.declared.errors.FedError.{FedError}
-use Rattle.fx_engine.specs.declared.errors.FedError.TheVariants as fed
 use Rattle.fx_commands.specs.Counts.{CountsDoor, CountsLoads, CountsOnly, CountsRead}
-use Rattle.fx_commands.specs.FedRefusals.{fed_status_of}
 use Rattle.fx_commands.specs.RefusalStatuses.{graph_status, registry_status}
 use Rattle.fx_commands.specs.ServingSteps.{end_status}
 use Rattle.fx_commands.specs.declared.refusals.GraphRefusal.TheVariants as graph
@@ -69,14 +64,6 @@ loads_later status_of a b c (Err r) h k = only_later status.ReadFault (status_of
 pub loads_none : {X R : Type 0} (status_of : R → Status) (a b : List ℕ → ℕ) (r : Result X R) → HaveStayed a b → CountsLoads status_of a b r
 loads_none status_of a b (Ok given) h = h
 loads_none status_of a b (Err r) h = inl h
-
--- ---- wires
-
-pub fed_counts : (es : List EndpointParts) (a b : List ℕ → ℕ) (e : FedError) → CountsRefusal es a b e → CountsOnly status.EndpointFault (fed_status_of e) a b
-fed_counts es a b (fed.Member at) (e, stands, k) = inr (refl, (e.iri, k))
-fed_counts es a b (fed.BadReply at why) k = inl k
-fed_counts es a b (fed.RequestTooLong at size) k = inl k
-fed_counts es a b fed.Memory k = inl k
 
 -- ---- doors
 

@@ -1,5 +1,5 @@
 -- Lines that are written in pieces.
-use Rattle.std.proofs.Common.{◌≡◌, ◌∙◌, ap, sym, ℕ, ◌+◌, ◌<◌, ◌≤◌, ◌⊎◌, inl, inr, List, ◌++◌, subst, take, drop, get_or, length, append_assoc, arith}
+use Rattle.std.proofs.Common.{◌≡◌, ◌∙◌, ap, sym, ℕ, ◌+◌, ◌<◌, ◌≤◌, ◌⊎◌, inl, inr, List, [], ◌++◌, subst, take, drop, get_or, length, append_assoc, append-nil, arith}
 use Rattle.std.proofs.lemmas.List.{take-append-le, take_all}
 use Rattle.std.proofs.Math.Seq.{take-append-add}
 use Rattle.fx_outside.specs.Faults.{HasRisen}
@@ -37,6 +37,20 @@ gains_then old mid new before between after a b wrote kept rest = record {
   front = (length a + rest.front.0, rest.front.1 ∙ ap (λ m. m ++ take rest.front.0 b) wrote ∙ append_assoc old a (take rest.front.0 b) ∙ ap (λ t. old ++ t) (sym (take-append-add a b rest.front.0)));
   whole = λ not. rest.whole (λ risen. not (risen_before before between after kept risen)) ∙ ap (λ m. m ++ b) wrote ∙ append_assoc old a b;
 }
+
+-- a line was written behind others
+pub gains_behind : (old mid new : List ℕ) (before between after : ℕ) (lines last : List ℕ) → mid ≡ old ++ lines → between ≡ before → Gains mid new between after last → Gains (old ++ lines) new before after last
+gains_behind old mid new before between after lines last wrote kept gains = subst (λ (count : ℕ). Gains (old ++ lines) new count after last) kept (subst (λ (held : List ℕ). Gains held new between after last) wrote gains)
+
+-- a line was written alone
+pub gains_alone : (old new : List ℕ) (before after : ℕ) (last : List ℕ) → Gains old new before after last → Gains (old ++ []) new before after last
+gains_alone old new before after last gains = subst (λ (held : List ℕ). Gains held new before after last) (sym (append-nil old)) gains
+
+-- nothing was written behind lines
+pub gains_none : (old new : List ℕ) (before after : ℕ) (lines : List ℕ) → new ≡ old ++ lines → Gains (old ++ lines) new before after []
+gains_none old new before after lines wrote =
+    let same : new ≡ (old ++ lines) ++ [] = wrote ∙ sym (append-nil (old ++ lines)) in
+    record { front = (0, same); whole = λ not. same }
 
 -- ---- pieces
 

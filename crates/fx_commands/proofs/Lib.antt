@@ -5,5 +5,9 @@ pub mod ReportLemmas
 pub mod QueryLemmas
 pub mod ExplainLemmas
 pub mod ServiceLemmas
+pub mod HeadlineLemmas
+pub mod CompletenessLemmas
+pub mod UsedLemmas
 pub mod NumberLemmas
+pub mod WordLemmas
 pub mod ServingLemmas

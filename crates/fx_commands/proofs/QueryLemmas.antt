@@ -1,16 +1,22 @@
--- What a refusal reports is its cause, for `query`.
-use Rattle.std.proofs.Common.{◌≡◌, ap, subst, refl, ℕ, ◌≤◌, Bool, false, List, [], Option, Some, None, Ok, Err, length, inl, inr, arith}
-use Rattle.std.specs.Prelude.{IfSome, slice_get, Result}
+-- What the steps of `query` report is what the whole reports.
+use Rattle.std.proofs.Common.{◌≡◌, ◌∙◌, ap, sym, subst, refl, ℕ, ◌≤◌, List, [], Option, Some, None, Ok, Err, length, inl, inr, arith, IsTrue}
+use Rattle.std.specs.Prelude.{IfSome, Result}
+use Rattle.std.proofs.lemmas.List.Elements.{All-nil}
 use Rattle.fx_outside.specs.Endpoints.{EndpointParts}
-use Rattle.fx_algebra.specs.Answers.{is_plain, IsPlain}
+use Rattle.fx_terms.specs.declared.triples.Triple.{Triple}
+use Rattle.fx_algebra.specs.Occurrences.{services}
 use Rattle.fx_algebra.specs.declared.queries.Query.{Query}
 use Rattle.fx_grammar.specs.Accepted.{Accepted}
+use Rattle.fx_results.specs.Documents.{document}
 use Rattle.fx_sources.specs.Registries.{read_registry}
+use Rattle.fx_sources.specs.Sources as source
 use Rattle.fx_sources.specs.declared.errors.RegistryError.TheVariants as error
-use Rattle.fx_wire.specs.Exchanges.{Exchange, Seen}
-use Rattle.fx_engine.specs.Federation.{AsksSources, IsRefused, OfQuery, Question}
-use Rattle.fx_engine.specs.declared.errors.FedError.{FedError}
-use Rattle.fx_engine.specs.declared.errors.FedError.TheVariants as fed
+use Rattle.fx_traffic.specs.Gains.{TellAll, faults_at}
+use Rattle.fx_wire.specs.Exchanges.{Seen}
+use Rattle.fx_engine.specs.Mediation.{AreKnown}
+use Rattle.fx_engine.specs.declared.mediator.FedError.{FedError}
+use Rattle.fx_engine.specs.declared.mediator.FedError.TheVariants as fed
+use Rattle.fx_engine.specs.declared.mediator.Outcome.{Outcome}
 use Rattle.fx_commands.specs.declared.limits.TheConstants.{QUERY_LIMIT, REGISTRY_LIMIT}
 use Rattle.fx_commands.specs.declared.refusals.QueryRefusal.{QueryRefusal}
 use Rattle.fx_commands.specs.declared.refusals.QueryRefusal.TheVariants as query
@@ -18,26 +24,26 @@ use Rattle.fx_commands.specs.declared.refusals.RegistryRefusal.{RegistryRefusal}
 use Rattle.fx_commands.specs.declared.refusals.RegistryRefusal.TheVariants as registry
 use Rattle.fx_commands.specs.declared.statuses.Status.{Status}
 use Rattle.fx_commands.specs.declared.statuses.Status.TheVariants as status
-use Rattle.fx_commands.specs.Asking.{AsksInTurn}
-use Rattle.fx_commands.specs.FedRefusals.{fed_status_of, fed_line, name_at, name_of}
-use Rattle.fx_commands.specs.Files.{FileRead, IsRegistryFile, IsQueryThat, IsMember}
-use Rattle.fx_commands.specs.Lines.{not_built, member_failed, bad_reply, request_too_long}
+use Rattle.fx_commands.specs.Asking.{WiresSeen, IsRefusedBefore}
+use Rattle.fx_commands.specs.FedRefusals.{IsGivenEnd, fed_line, fed_status_of}
+use Rattle.fx_commands.specs.Files.{FileRead, IsRegistryFile, IsQueryThat}
 use Rattle.fx_commands.specs.LocalSteps.{GivesQuery, query_line}
-use Rattle.fx_commands.specs.Query.{AsksPlainly, IsOther, IsUnionDocument, IsUnionAnswer, IsUnionAnswerOf, IsQueryReported}
-use Rattle.fx_commands.specs.QuerySteps.{GivesRegistry, registry_line, IsAskReported}
+use Rattle.fx_commands.specs.MemberSteps.{GivesRegistry, IsAnswerReported, IsAnswered, IsAskReported, IsWant, registry_line}
+use Rattle.fx_commands.specs.Query.{HasServices, IsQueryReported, IsUnionAnswer, IsUnionAnswerOf, IsUnionDocument}
 use Rattle.fx_commands.specs.RefusalStatuses.{query_status, registry_status}
+use Rattle.fx_commands.specs.Sinks.{Wrote}
 
--- ---- refusals
+-- ---- files
 
-pub registry_reported : (wire : Seen) (r q : FileRead) (e : RegistryRefusal) → GivesRegistry r (Err e) → IsQueryReported wire wire r q (registry_status e) (registry_line e r.name)
-registry_reported wire r q registry.Fault h = (inl (h, refl), refl)
-registry_reported wire r q registry.TooLong h = (inl (h, refl), refl)
-registry_reported wire r q (registry.Refused (error.Bad n)) h = (error.Bad n, h, refl, refl)
-registry_reported wire r q (registry.Refused (error.TooMany n)) h = (error.TooMany n, h, refl, refl)
-registry_reported wire r q (registry.Refused (error.RepeatedName n)) h = (error.RepeatedName n, h, refl, refl)
-registry_reported wire r q (registry.Refused (error.RepeatedUrl n)) h = (error.RepeatedUrl n, h, refl, refl)
-registry_reported wire r q (registry.Refused error.Memory) h = (inl refl, refl)
-registry_reported wire r q registry.Memory h = (inl refl, refl)
+pub registry_refused_before : (r q : FileRead) (e : RegistryRefusal) → GivesRegistry r (Err e) → IsRefusedBefore r q (registry_status e) (registry_line e r.name)
+registry_refused_before r q registry.Fault h = inl (h, refl)
+registry_refused_before r q registry.TooLong h = inl (h, refl)
+registry_refused_before r q (registry.Refused (error.Bad n)) h = (error.Bad n, h, refl)
+registry_refused_before r q (registry.Refused (error.TooMany n)) h = (error.TooMany n, h, refl)
+registry_refused_before r q (registry.Refused (error.RepeatedName n)) h = (error.RepeatedName n, h, refl)
+registry_refused_before r q (registry.Refused (error.RepeatedUrl n)) h = (error.RepeatedUrl n, h, refl)
+registry_refused_before r q (registry.Refused error.Memory) h = refl
+registry_refused_before r q registry.Memory h = refl
 
 pub a_registry : (r : FileRead) (es : List EndpointParts) → GivesRegistry r (Ok es) → IsRegistryFile r
 a_registry r es h = pick r.content h
@@ -53,22 +59,11 @@ query_that q asked P p h = pick q.content h
     pick None h = tt
     pick (Some all) h = (h.0, (asked, h.1, p))
 
-pub a_member : (r : FileRead) (es : List EndpointParts) (e : EndpointParts) (at : ℕ) → GivesRegistry r (Ok es) → slice_get es at ≡ Some e → IsMember r e
-a_member r es e at h k = pick r.content h
-  where
-    pick : (o : Option (List ℕ)) → IfSome o (λ all. (length all ≤ REGISTRY_LIMIT) × (read_registry all ≡ Ok es)) → IfSome o (λ all. (length all ≤ REGISTRY_LIMIT) × ((es : List EndpointParts) × (at : ℕ) × (read_registry all ≡ Ok es) × (slice_get es at ≡ Some e)))
-    pick None h = tt
-    pick (Some all) h = (h.0, (es, at, h.1, k))
-
-pub query_reported : (wire : Seen) (r q : FileRead) (es : List EndpointParts) (e : QueryRefusal) → GivesRegistry r (Ok es) → GivesQuery q (Err e) → IsQueryReported wire wire r q (query_status e) (query_line e q.name)
-query_reported wire r q es query.Fault g h = (inr (a_registry r es g, h, refl), refl)
-query_reported wire r q es query.TooLong g h = (inr (a_registry r es g, h, refl), refl)
-query_reported wire r q es (query.Refused kind at) g h = (a_registry r es g, refl, inl (kind, at, h, refl))
-query_reported wire r q es query.Memory g h = (inl refl, refl)
-
--- a query that isn't plain
-pub other_reported : (wire : Seen) (r q : FileRead) (es : List EndpointParts) (asked : Query) → GivesRegistry r (Ok es) → GivesQuery q (Ok asked) → is_plain asked ≡ false → IsQueryReported wire wire r q status.QueryRefused not_built
-other_reported wire r q es asked g h p = (a_registry r es g, refl, inr (query_that q asked IsOther p h, refl))
+pub query_refused_before : (r q : FileRead) (es : List EndpointParts) (e : QueryRefusal) → GivesRegistry r (Ok es) → GivesQuery q (Err e) → IsRefusedBefore r q (query_status e) (query_line e q.name)
+query_refused_before r q es query.Fault g h = inr (a_registry r es g, h, refl)
+query_refused_before r q es query.TooLong g h = inr (a_registry r es g, h, refl)
+query_refused_before r q es (query.Refused kind at) g h = (a_registry r es g, (kind, at, h, refl))
+query_refused_before r q es query.Memory g h = refl
 
 -- what a query's file gave, seen from an earlier call on
 pub query_since : (name : List ℕ) (earlier content : Option (List ℕ)) (first before after : ℕ) (x : Result Query QueryRefusal) → content ≡ earlier → first ≤ before → GivesQuery (record { name = name; content = content; before = before; after = after }) x → GivesQuery (record { name = name; content = earlier; before = first; after = after }) x
@@ -81,47 +76,127 @@ query_since name earlier content first before after x same kept h = subst (λ o.
     earlier_count (Err (query.Refused kind at)) h = h
     earlier_count (Err query.Memory) h = h
 
--- ---- the members
+-- memory ran out before anything was asked
+pub want_before : (r q : FileRead) (s : Status) (text : List ℕ) → IsWant s text → IsRefusedBefore r q s text
+want_before r q s text h = subst (λ (v : Status). IsRefusedBefore r q v text) (sym h.0) h.1
 
-named : (es : List EndpointParts) (at : ℕ) (e : EndpointParts) → slice_get es at ≡ Some e → name_at es at ≡ e.name
-named es at e h = ap name_of h
+-- ---- what is written
 
-pub fed_reported : (Rest : List Bool → List Exchange → Type 0) (Asks : ℕ → Question → Type 0) (before after : Seen) (es : List EndpointParts) (q : Query) (e : FedError) → IsRefused Asks before after es e → IsAskReported Rest Asks before after es q (fed_status_of e) (fed_line es e)
-fed_reported Rest Asks before after es q (fed.Member at) h = (h.2.0, at, h.0, h.1, h.2.1, h.2.2, ap member_failed (named es at h.2.0 h.2.1))
-fed_reported Rest Asks before after es q (fed.BadReply at why) h = (h.2.0, at, h.0, why, h.1, h.2.1, h.2.2, ap (λ n. bad_reply n why) (named es at h.2.0 h.2.1))
-fed_reported Rest Asks before after es q (fed.RequestTooLong at size) h = (h.2.0, at, h.0, size, h.1, h.2.1, h.2.2, ap (λ n. request_too_long n size) (named es at h.2.0 h.2.1))
-fed_reported Rest Asks before after es q fed.Memory h = refl
+-- what is so of a text that is written is what it follows from
+pub wrote_so : (P Q : List ℕ → Type 0) → ((text : List ℕ) → P text → Q text) → (s : Status) (old new : List ℕ) → Wrote P s old new → Wrote Q s old new
+wrote_so P Q f status.Done old new k = (k.0, f k.0 k.1, k.2)
+wrote_so P Q f status.WriteFault old new k = (k.0, f k.0 k.1, k.2)
+wrote_so P Q f status.NoMemory old new k = k
+wrote_so P Q f status.Usage old new k = k
+wrote_so P Q f status.GraphRefused old new k = k
+wrote_so P Q f status.RegistryRefused old new k = k
+wrote_so P Q f status.QueryRefused old new k = k
+wrote_so P Q f status.UnknownService old new k = k
+wrote_so P Q f status.DoorFault old new k = k
+wrote_so P Q f status.ReadFault old new k = k
+wrote_so P Q f status.FileTooLong old new k = k
+wrote_so P Q f status.EndpointFault old new k = k
+wrote_so P Q f status.BadReply old new k = k
+wrote_so P Q f status.RequestTooLong old new k = k
 
--- ---- the whole
-
--- what a query asks of a member without knowing anything of it
-asks_plainly : (asked : Query) (count at : ℕ) (question : Question) → IsPlain asked → OfQuery asked count [] at question → AsksPlainly question asked
-asks_plainly asked count at question p (inl h) = (p, inl (h.0, h.1, h.3))
-asks_plainly asked count at question p (inr h) = (p, inr h)
-
-pub ask_reported : (before after : Seen) (r q : FileRead) (es : List EndpointParts) (asked : Query) (s : Status) (text : List ℕ) → GivesRegistry r (Ok es) → GivesQuery q (Ok asked) → IsPlain asked → IsAskReported (AsksSources es asked []) (OfQuery asked (length es) []) before after es asked s text → AsksInTurn before after es asked → IsQueryReported before after r q s text
-ask_reported before after r q es asked status.Done text g h p k b = ((es, asked, g, h, p, k.0), k.1)
-ask_reported before after r q es asked status.WriteFault text g h p k b = ((es, asked, g, h, p, k.0), k.1)
-ask_reported before after r q es asked status.NoMemory text g h p k b = (inr (es, asked, g, h, b), k)
-ask_reported before after r q es asked status.EndpointFault text g h p k b = ((es, asked, g, h, b), (k.0, k.2, query_that q asked (AsksPlainly k.2) (asks_plainly asked (length es) k.1 k.2 p k.3) h, a_member r es k.0 k.1 g k.4, k.5, k.6))
-ask_reported before after r q es asked status.BadReply text g h p k b = ((es, asked, g, h, b), (k.0, k.2, k.3, query_that q asked (AsksPlainly k.2) (asks_plainly asked (length es) k.1 k.2 p k.4) h, a_member r es k.0 k.1 g k.5, k.6, k.7))
-ask_reported before after r q es asked status.RequestTooLong text g h p k b = ((es, asked, g, h, b), (k.0, k.2, k.3, query_that q asked (AsksPlainly k.2) (asks_plainly asked (length es) k.1 k.2 p k.4) h, a_member r es k.0 k.1 g k.5, k.6, k.7))
-ask_reported before after r q es asked status.Usage text g h p k b = absurd k
-ask_reported before after r q es asked status.GraphRefused text g h p k b = absurd k
-ask_reported before after r q es asked status.RegistryRefused text g h p k b = absurd k
-ask_reported before after r q es asked status.QueryRefused text g h p k b = absurd k
-ask_reported before after r q es asked status.UnknownService text g h p k b = absurd k
-ask_reported before after r q es asked status.DoorFault text g h p k b = absurd k
-ask_reported before after r q es asked status.ReadFault text g h p k b = absurd k
-ask_reported before after r q es asked status.FileTooLong text g h p k b = absurd k
-
-a_union : (before : Seen) (r q : FileRead) (es : List EndpointParts) (asked : Query) (text : List ℕ) → GivesRegistry r (Ok es) → GivesQuery q (Ok asked) → IsPlain asked → IsUnionDocument before es asked text → IsUnionAnswer before r q text
-a_union before r q es asked text g h p k = pick r.content g
+-- a refusal by the members writes nothing
+pub refused_wrote : (P : List ℕ → Type 0) (e : FedError) (s : Status) (held : List ℕ) → s ≡ fed_status_of e → Wrote P s held held
+refused_wrote P e s held is = subst (λ (v : Status). Wrote P v held held) (sym is) (by_error e)
   where
-    both : (all : List ℕ) → read_registry all ≡ Ok es → (o : Option (List ℕ)) → IfSome o (λ query. (length query ≤ QUERY_LIMIT) × Accepted query asked) → IfSome o (λ query. IsUnionAnswerOf before all query text)
-    both all e None h = tt
-    both all e (Some query) h = record { endpoints = es; registered = e; asked = asked; accepted = h.1; plain = p; document_is = k }
+    by_error : (e : FedError) → Wrote P (fed_status_of e) held held
+    by_error (fed.Member name) = refl
+    by_error (fed.BadReply name bad) = refl
+    by_error (fed.RequestTooLong name size) = refl
+    by_error fed.Memory = refl
 
-    pick : (o : Option (List ℕ)) → IfSome o (λ all. (length all ≤ REGISTRY_LIMIT) × (read_registry all ≡ Ok es)) → IfSome o (λ all. IfSome q.content (λ query. IsUnionAnswerOf before all query text))
+pub registry_wrote : (P : List ℕ → Type 0) (e : RegistryRefusal) (s : Status) (held : List ℕ) → s ≡ registry_status e → Wrote P s held held
+registry_wrote P e s held is = subst (λ (v : Status). Wrote P v held held) (sym is) (by_error e)
+  where
+    by_error : (e : RegistryRefusal) → Wrote P (registry_status e) held held
+    by_error registry.Fault = refl
+    by_error registry.TooLong = refl
+    by_error (registry.Refused (error.Bad n)) = refl
+    by_error (registry.Refused (error.TooMany n)) = refl
+    by_error (registry.Refused (error.RepeatedName n)) = refl
+    by_error (registry.Refused (error.RepeatedUrl n)) = refl
+    by_error (registry.Refused error.Memory) = refl
+    by_error registry.Memory = refl
+
+pub query_wrote : (P : List ℕ → Type 0) (e : QueryRefusal) (s : Status) (held : List ℕ) → s ≡ query_status e → Wrote P s held held
+query_wrote P e s held is = subst (λ (v : Status). Wrote P v held held) (sym is) (by_error e)
+  where
+    by_error : (e : QueryRefusal) → Wrote P (query_status e) held held
+    by_error query.Fault = refl
+    by_error query.TooLong = refl
+    by_error (query.Refused kind at) = refl
+    by_error query.Memory = refl
+
+-- a refusal by the members, by the registry or by the query isn't `Done` nor a failed write
+pub fed_not_done : (e : FedError) → fed_status_of e ≡ status.Done → ⊥
+fed_not_done (fed.Member name) h = cc
+fed_not_done (fed.BadReply name bad) h = cc
+fed_not_done (fed.RequestTooLong name size) h = cc
+fed_not_done fed.Memory h = cc
+
+pub fed_not_cut : (e : FedError) → fed_status_of e ≡ status.WriteFault → ⊥
+fed_not_cut (fed.Member name) h = cc
+fed_not_cut (fed.BadReply name bad) h = cc
+fed_not_cut (fed.RequestTooLong name size) h = cc
+fed_not_cut fed.Memory h = cc
+
+-- ---- what is known where nothing is known of the cache
+
+pub known_from_nothing : (wires : List Seen) (es : List EndpointParts) (graphs : List (List Triple)) → TellAll wires es graphs → AreKnown wires es [] graphs
+known_from_nothing wires es graphs told = record { told = told; entries_are = All-nil (source.Tells graphs) }
+
+-- the answer that the members gave is that over the union
+pub union_document : (w : WiresSeen) (es : List EndpointParts) (asked : Query) (block : ℕ) (outcome : Outcome) (text : List ℕ) → IsAnswered w es asked block (Ok outcome) → text ≡ document outcome.answer → IsUnionDocument w.before es asked text
+union_document w es asked block outcome text (inl none) is = absurd (none_given none.1)
+  where
+    none_given : Ok outcome ≡ Err fed.Memory → ⊥
+    none_given h = cc
+union_document w es asked block outcome text (inr given) is = λ graphs told. is ∙ ap document (given.1.answer graphs (known_from_nothing w.before es graphs told))
+
+-- where the members gave something, no fault was counted
+pub none_counted : (w : WiresSeen) (es : List EndpointParts) (asked : Query) (block : ℕ) (outcome : Outcome) → IsAnswered w es asked block (Ok outcome) → IsTrue w.alone → (address : List ℕ) → faults_at w.after address ≡ faults_at w.before address
+none_counted w es asked block outcome (inl none) = absurd (none_given none.1)
+  where
+    none_given : Ok outcome ≡ Err fed.Memory → ⊥
+    none_given h = cc
+none_counted w es asked block outcome (inr given) = λ alone. given.1.quiet alone
+
+-- ---- reports
+
+-- what the members gave is written
+pub given_reported : (w : WiresSeen) (es : List EndpointParts) (asked : Query) (block : ℕ) (outcome : Outcome) (s : Status) (text : List ℕ) → IsAnswered w es asked block (Ok outcome) → IsGivenEnd s text → IsAnswerReported w es asked block s text
+given_reported w es asked block outcome s text (inl none) end = absurd (none_given none.1)
+  where
+    none_given : Ok outcome ≡ Err fed.Memory → ⊥
+    none_given h = cc
+given_reported w es asked block outcome s text (inr given) end = inr (Ok outcome, given, end)
+
+-- a refusal by the members is reported
+pub refusal_reported : (w : WiresSeen) (es : List EndpointParts) (asked : Query) (block : ℕ) (e : FedError) (s : Status) → s ≡ fed_status_of e → IsAnswered w es asked block (Err e) → IsAnswerReported w es asked block s (fed_line e)
+refusal_reported w es asked block e s is (inl none) = let same = the_want (Err e) e refl none.1 in inl (none.0, (is ∙ ap fed_status_of same, ap fed_line same))
+  where
+    the_want : (r : Result Outcome FedError) (e : FedError) → r ≡ Err e → r ≡ Err fed.Memory → e ≡ fed.Memory
+    the_want r e a b = cc
+refusal_reported w es asked block e s is (inr given) = inr (Err e, given, (is, refl))
+
+pub ask_reported : (w : WiresSeen) (r q : FileRead) (es : List EndpointParts) (asked : Query) (block : ℕ) (s : Status) (text : List ℕ) → GivesRegistry r (Ok es) → GivesQuery q (Ok asked) → IsAskReported w es asked block s text → IsQueryReported w r q block s text
+ask_reported w r q es asked block s text g h (inl (none, inl want)) = inl (none, inl (want_before r q s text want))
+ask_reported w r q es asked block s text g h (inl (none, inr refused)) = inl (none, inr (refused.0, a_registry r es g, query_that q asked HasServices refused.1 h, refused.2))
+ask_reported w r q es asked block s text g h (inr (alone, inl (none, want))) = inl (none, inl (want_before r q s text want))
+ask_reported w r q es asked block s text g h (inr (alone, inr (result, (entries, federated), end))) =
+    inr (result, record { endpoints = es; registered = g; asked = asked; accepted = h; alone = alone; entries = entries; federated = federated }, end)
+
+pub a_union : (wires : List Seen) (r q : FileRead) (es : List EndpointParts) (asked : Query) (text : List ℕ) → GivesRegistry r (Ok es) → GivesQuery q (Ok asked) → (services asked ≡ []) × IsUnionDocument wires es asked text → IsUnionAnswer wires r q text
+a_union wires r q es asked text g h k = pick r.content g
+  where
+    both : (all : List ℕ) → read_registry all ≡ Ok es → (o : Option (List ℕ)) → IfSome o (λ query. (length query ≤ QUERY_LIMIT) × Accepted query asked) → IfSome o (λ query. IsUnionAnswerOf wires all query text)
+    both all e None h = tt
+    both all e (Some query) h = record { endpoints = es; registered = e; asked = asked; accepted = h.1; alone = k.0; document_is = k.1 }
+
+    pick : (o : Option (List ℕ)) → IfSome o (λ all. (length all ≤ REGISTRY_LIMIT) × (read_registry all ≡ Ok es)) → IfSome o (λ all. IfSome q.content (λ query. IsUnionAnswerOf wires all query text))
     pick None g = tt
     pick (Some all) g = both all g.1 q.content h

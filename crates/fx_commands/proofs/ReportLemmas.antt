@@ -1,5 +1,5 @@
 -- What a refusal reports is its cause.
-use Rattle.std.proofs.Common.{◌≡◌, ap, sym, subst, refl, ℕ, List, Option, Some, None, Ok, Err, inl, inr, slice_index_or, slice_set}
+use Rattle.std.proofs.Common.{◌≡◌, sym, subst, refl, ℕ, List, [], Option, Some, None, Ok, Err, inl, inr}
 use Rattle.fx_outside.specs.Doors.{DoorSeen}
 use Rattle.fx_commands.specs.declared.refusals.QueryRefusal.TheVariants as query
 use Rattle.fx_ntriples.specs.declared.faults.NtError.TheVariants as error
@@ -8,6 +8,7 @@ use Rattle.fx_commands.specs.declared.refusals.Refusal.{Refusal}
 use Rattle.fx_commands.specs.declared.refusals.Refusal.TheVariants as refusal
 use Rattle.fx_commands.specs.declared.statuses.Status.TheVariants as status
 use Rattle.fx_wire.specs.Exchanges.{Seen}
+use Rattle.fx_commands.specs.Asking.{WiresSeen, IsUnasked}
 use Rattle.fx_commands.specs.Commands.{Asked, over_file, over_members, planned, served}
 use Rattle.fx_commands.specs.Explain.{IsExplainReported, IsExplainWritten}
 use Rattle.fx_commands.specs.Files.{FileRead, IsQueryThat}
@@ -16,7 +17,7 @@ use Rattle.fx_commands.specs.Local.{IsAnswer, IsReported, IsWritten, HasLines}
 use Rattle.fx_commands.specs.declared.local.Report.{Report}
 use Rattle.fx_commands.specs.Query.{IsQueryReported, IsQueryWritten}
 use Rattle.fx_commands.specs.Serving.{IsMemberReported}
-use Rattle.fx_commands.specs.Runs.{OnFirst, Reports, Writes}
+use Rattle.fx_commands.specs.Runs.{Reports, Writes}
 use Rattle.fx_commands.specs.Sinks.{SinkWritten, IsCutShort}
 use Rattle.fx_commands.specs.declared.statuses.Status.{Status}
 use Rattle.fx_commands.specs.LocalSteps.{GivesAnswer, IsLineReported, IsDocumentWritten, refusal_line}
@@ -38,16 +39,24 @@ reported g q (refusal.Query query.Memory) h = refl
 reported g q (refusal.UnknownService iri) h = (h.0, (iri, h.1, refl))
 reported g q refusal.Memory h = refl
 
-pub usage_reported : (read : List ℕ → FileRead) (wire : Seen) (door : DoorSeen) (asked : Option Asked) → asked ≡ None → Reports read wire wire door door asked status.Usage usage_line
-usage_reported read wire door None h = (refl, refl, refl)
-usage_reported read wire door (Some a) h = cc
+pub usage_reported : (read : List ℕ → FileRead) (w : WiresSeen) (door : DoorSeen) (asked : Option Asked) → asked ≡ None → IsUnasked w → Reports read w door door asked status.Usage [] usage_line
+usage_reported read w door None h u = (refl, refl, u, refl)
+usage_reported read w door (Some a) h u = cc
 
-pub memory_reported : (read : List ℕ → FileRead) (wire : Seen) (door : DoorSeen) (asked : Option Asked) → Reports read wire wire door door asked status.NoMemory no_memory
-memory_reported read wire door None = (refl, refl, refl)
-memory_reported read wire door (Some (over_file g q)) = (refl, refl, refl)
-memory_reported read wire door (Some (over_members r q)) = ((inl refl, refl), refl)
-memory_reported read wire door (Some (planned r q)) = ((inl refl, refl), refl)
-memory_reported read wire door (Some (served g a n)) = (inl (refl, refl), refl)
+pub memory_reported : (read : List ℕ → FileRead) (w : WiresSeen) (door : DoorSeen) (asked : Option Asked) → IsUnasked w → Reports read w door door asked status.NoMemory [] no_memory
+memory_reported read w door None u = (refl, refl, u, refl)
+memory_reported read w door (Some (over_file g q)) u = (refl, refl, u, refl)
+memory_reported read w door (Some (over_members r q workers block)) u = (inl (u, inl refl), refl, refl)
+memory_reported read w door (Some (planned r q)) u = (inl (u, inl refl), refl, refl)
+memory_reported read w door (Some (served g a n)) u = (inl (refl, refl, refl), u)
+
+-- without memory nothing is written on standard output
+pub nothing_written : (read : List ℕ → FileRead) (wires : List Seen) (asked : Option Asked) (held : List ℕ) → Writes read wires asked status.NoMemory held held
+nothing_written read wires None held = refl
+nothing_written read wires (Some (over_file g q)) held = refl
+nothing_written read wires (Some (over_members r q workers block)) held = refl
+nothing_written read wires (Some (planned r q)) held = refl
+nothing_written read wires (Some (served g a n)) held = refl
 
 -- ---- reports of `local`
 
@@ -89,21 +98,20 @@ cut_short g q r out err h (inr k) = inr ((λ told. let w = k.0.0 told in (w.0, s
 
 -- ---- by the command
 
-pub members_reported : (read : List ℕ → FileRead) (before after : Seen) (door : DoorSeen) (asked : Option Asked) (r q : List ℕ) (s : Status) (text : List ℕ) → asked ≡ Some (over_members r q) → IsQueryReported before after (read r) (read q) s text → Reports read before after door door asked s text
-members_reported read before after door asked r q s text is h = subst (λ o. Reports read before after door door o s text) (sym is) (h, refl)
+pub file_reported : (read : List ℕ → FileRead) (w : WiresSeen) (door : DoorSeen) (asked : Option Asked) (g q : List ℕ) (s : Status) (text : List ℕ) → asked ≡ Some (over_file g q) → IsReported (read g) (read q) s text → IsUnasked w → Reports read w door door asked s [] text
+file_reported read w door asked g q s text is h u = subst (λ o. Reports read w door door o s [] text) (sym is) (h, refl, u, refl)
 
-pub plan_reported : (read : List ℕ → FileRead) (before after : Seen) (door : DoorSeen) (asked : Option Asked) (r q : List ℕ) (s : Status) (text : List ℕ) → asked ≡ Some (planned r q) → IsExplainReported before after (read r) (read q) s text → Reports read before after door door asked s text
-plan_reported read before after door asked r q s text is h = subst (λ o. Reports read before after door door o s text) (sym is) (h, refl)
+pub members_reported : (read : List ℕ → FileRead) (w : WiresSeen) (door : DoorSeen) (asked : Option Asked) (r q : List ℕ) (workers block : ℕ) (s : Status) (text : List ℕ) → asked ≡ Some (over_members r q workers block) → IsQueryReported w (read r) (read q) block s text → Reports read w door door asked s [] text
+members_reported read w door asked r q workers block s text is h = subst (λ o. Reports read w door door o s [] text) (sym is) (h, refl, refl)
 
-pub serving_reported : (read : List ℕ → FileRead) (wire : Seen) (door later : DoorSeen) (asked : Option Asked) (g a : List ℕ) (n : ℕ) (s : Status) (text : List ℕ) → asked ≡ Some (served g a n) → IsMemberReported (read g) door later a n s text → Reports read wire wire door later asked s text
-serving_reported read wire door later asked g a n s text is h = subst (λ o. Reports read wire wire door later o s text) (sym is) (h, refl)
+pub plan_reported : (read : List ℕ → FileRead) (w : WiresSeen) (door : DoorSeen) (asked : Option Asked) (r q : List ℕ) (s : Status) (text : List ℕ) → asked ≡ Some (planned r q) → IsExplainReported w (read r) (read q) s text → Reports read w door door asked s [] text
+plan_reported read w door asked r q s text is h = subst (λ o. Reports read w door door o s [] text) (sym is) (h, refl, refl)
 
-pub members_written : (read : List ℕ → FileRead) (before : Seen) (asked : Option Asked) (r q : List ℕ) (s : Status) (old new : List ℕ) → asked ≡ Some (over_members r q) → IsQueryWritten before (read r) (read q) s old new → Writes read before asked s old new
-members_written read before asked r q s old new is h = subst (λ o. Writes read before o s old new) (sym is) h
+pub serving_reported : (read : List ℕ → FileRead) (w : WiresSeen) (door later : DoorSeen) (asked : Option Asked) (g a : List ℕ) (n : ℕ) (s : Status) (lines text : List ℕ) → asked ≡ Some (served g a n) → IsMemberReported (read g) door later a n s lines text → IsUnasked w → Reports read w door later asked s lines text
+serving_reported read w door later asked g a n s lines text is h u = subst (λ o. Reports read w door later o s lines text) (sym is) (h, u)
 
-pub plan_written : (read : List ℕ → FileRead) (before : Seen) (asked : Option Asked) (r q : List ℕ) (s : Status) (old new : List ℕ) → asked ≡ Some (planned r q) → IsExplainWritten before (read r) (read q) s old new → Writes read before asked s old new
+pub members_written : (read : List ℕ → FileRead) (before : List Seen) (asked : Option Asked) (r q : List ℕ) (workers block : ℕ) (s : Status) (old new : List ℕ) → asked ≡ Some (over_members r q workers block) → IsQueryWritten before (read r) (read q) s old new → Writes read before asked s old new
+members_written read before asked r q workers block s old new is h = subst (λ o. Writes read before o s old new) (sym is) h
+
+pub plan_written : (read : List ℕ → FileRead) (before : List Seen) (asked : Option Asked) (r q : List ℕ) (s : Status) (old new : List ℕ) → asked ≡ Some (planned r q) → IsExplainWritten before (read r) (read q) s old new → Writes read before asked s old new
 plan_written read before asked r q s old new is h = subst (λ o. Writes read before o s old new) (sym is) h
-
--- what holds of the item at the front holds of the first
-pub on_first : {W : Type 0} (P : W → W → Type 0) (wires : List W) (other later : W) → P (slice_index_or wires 0 other) later → OnFirst wires (slice_set wires 0 later) P
-on_first P wires other later h = λ wire others e. (later, ap (λ l. slice_set l 0 later) e, subst (λ w. P w later) (ap (λ l. slice_index_or l 0 other) e) h)

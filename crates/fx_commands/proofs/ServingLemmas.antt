@@ -109,19 +109,12 @@ module _ (graph : List Triple) (before : DoorSeen) (is_told : Bool) (held_before
 
     module _ (address : List ℕ) (total : ℕ) (opens : IsTrue before.tells → before.started ≡ Some address) (below : number < total) where
       -- the line could not be written
-      pub unwritten : (ending : Ending) → GivesEnding graph mid after (Ok ending) → (IsTrue mid.tells → after.started ≡ mid.started) → IsUnwritten before after address total graph (ending_lines 1 so.endings ++ ending_line (number + 1) ending)
-      unwritten ending h s =
-          let one_longer : length (so.endings ++ ending ∷ []) ≡ number + 1 = length-append so.endings (ending ∷ []) ∙ omega (arith, so.count) in (
-            so.endings ++ ending ∷ [],
-            served_more ending h,
-            omega (arith, one_longer, below),
-            λ t. s (told t) ∙ so.started t ∙ opens t,
-            sym (lines_more 1 (number + 1) so.endings ending (omega (arith, so.count))),
-          )
+      pub unwritten : (ending : Ending) → GivesEnding graph mid after (Ok ending) → (IsTrue mid.tells → after.started ≡ mid.started) → IsUnwritten before after address total graph (ending_lines 1 so.endings) (ending_line (number + 1) ending)
+      unwritten ending h s = (so.endings, ending, served_more ending h, omega (arith, so.count, below), λ t. s (told t) ∙ so.started t ∙ opens t, refl, ap (λ (n : ℕ). ending_line (n + 1) ending) (sym so.count))
 
       -- the door did nothing
-      pub cut : (e : DoorError) → GivesEnding graph mid after (Err e) → (IsTrue mid.tells → after.started ≡ mid.started) → (last : List ℕ) → IsCut before after address total graph last (ending_lines 1 so.endings ++ last)
-      cut e h s last = (so.endings, omega (arith, so.count, below), λ t. stopped t (h (told t)), refl)
+      pub cut : (e : DoorError) → GivesEnding graph mid after (Err e) → (IsTrue mid.tells → after.started ≡ mid.started) → (last : List ℕ) → IsCut before after address total graph last (ending_lines 1 so.endings) last
+      cut e h s last = (so.endings, omega (arith, so.count, below), λ t. stopped t (h (told t)), refl, refl)
         where
           stopped : IsTrue before.tells → IsLost mid after → HasStopped graph before after address total so.endings
           stopped t lost = record {
@@ -134,14 +127,14 @@ module _ (graph : List Triple) (before : DoorSeen) (is_told : Bool) (held_before
 
 -- ---- statuses
 
-pub ended : (before after : DoorSeen) (address : List ℕ) (count : ℕ) (graph : List Triple) (e : DoorError) (text : List ℕ) → (e ≡ door.Failed → before.faults < after.faults) → IsCut before after address count graph (end_line e) text → IsServingReported before after address count graph (end_status e) text
-ended before after address count graph door.Failed text f cut = (f refl, cut)
-ended before after address count graph door.Memory text f cut = cut
+pub ended : (before after : DoorSeen) (address : List ℕ) (count : ℕ) (graph : List Triple) (e : DoorError) (lines last : List ℕ) → (e ≡ door.Failed → before.faults < after.faults) → IsCut before after address count graph (end_line e) lines last → IsServingReported before after address count graph (end_status e) lines last
+ended before after address count graph door.Failed lines last f cut = (f refl, cut)
+ended before after address count graph door.Memory lines last f cut = cut
 
 -- a door that could not be opened
 pub not_opened : (graph : List Triple) (before after : DoorSeen) (address : List ℕ) (count : ℕ) (last : List ℕ) → (IsTrue before.tells → after.started ≡ before.started) → (IsTrue before.tells → after.outputs ≡ before.outputs) → (IsTrue before.tells → after.inputs ≡ before.inputs)
-    → IsCut before after address count graph last last
-not_opened graph before after address count last s o i = ([], omega arith, λ t. stopped (s t) (o t) (i t), refl)
+    → IsCut before after address count graph last [] last
+not_opened graph before after address count last s o i = ([], omega arith, λ t. stopped (s t) (o t) (i t), refl, refl)
   where
     stopped : after.started ≡ before.started → after.outputs ≡ before.outputs → after.inputs ≡ before.inputs → HasStopped graph before after address count []
     stopped s o i = record {
@@ -170,52 +163,52 @@ module _ (graph : List Triple) (before mid after : DoorSeen) (address : List ℕ
     opened = inl (is_open t h.opened);
   }
 
-  cut_from : (count : ℕ) (last text : List ℕ) → IsCut mid after address count graph last text → IsCut before after address count graph last text
-  cut_from count last text h = (h.0, h.1, λ t. stopped_from count h.0 t (h.2 (tells t)), h.3)
+  cut_from : (count : ℕ) (line lines last : List ℕ) → IsCut mid after address count graph line lines last → IsCut before after address count graph line lines last
+  cut_from count line lines last h = (h.0, h.1, λ t. stopped_from count h.0 t (h.2 (tells t)), h.3, h.4)
 
-  pub opened_reported : (count : ℕ) (s : Status) (text : List ℕ) → IsServingReported mid after address count graph s text → IsServingReported before after address count graph s text
-  opened_reported count status.Done text h = (h.0, serves_from h.0 h.1, h.2, λ t. h.3 (tells t), h.4)
-  opened_reported count status.WriteFault text h = (h.0, serves_from h.0 h.1, h.2, λ t. h.3 (tells t), h.4)
-  opened_reported count status.DoorFault text h = (omega (arith, h.0), cut_from count cannot_serve text h.1)
-  opened_reported count status.NoMemory text h = cut_from count no_memory text h
-  opened_reported count status.Usage text h = absurd h
-  opened_reported count status.QueryRefused text h = absurd h
-  opened_reported count status.RegistryRefused text h = absurd h
-  opened_reported count status.EndpointFault text h = absurd h
-  opened_reported count status.BadReply text h = absurd h
-  opened_reported count status.UnknownService text h = absurd h
-  opened_reported count status.ReadFault text h = absurd h
-  opened_reported count status.RequestTooLong text h = absurd h
-  opened_reported count status.GraphRefused text h = absurd h
-  opened_reported count status.FileTooLong text h = absurd h
+  pub opened_reported : (count : ℕ) (s : Status) (lines last : List ℕ) → IsServingReported mid after address count graph s lines last → IsServingReported before after address count graph s lines last
+  opened_reported count status.Done lines last h = (h.0, serves_from h.0 h.1, h.2, λ t. h.3 (tells t), h.4, h.5)
+  opened_reported count status.WriteFault lines last h = (h.0, h.1, serves_from (h.0 ++ h.1 ∷ []) h.2, h.3, λ t. h.4 (tells t), h.5, h.6)
+  opened_reported count status.DoorFault lines last h = (omega (arith, h.0), cut_from count cannot_serve lines last h.1)
+  opened_reported count status.NoMemory lines last h = cut_from count no_memory lines last h
+  opened_reported count status.Usage lines last h = absurd h
+  opened_reported count status.QueryRefused lines last h = absurd h
+  opened_reported count status.RegistryRefused lines last h = absurd h
+  opened_reported count status.EndpointFault lines last h = absurd h
+  opened_reported count status.BadReply lines last h = absurd h
+  opened_reported count status.UnknownService lines last h = absurd h
+  opened_reported count status.ReadFault lines last h = absurd h
+  opened_reported count status.RequestTooLong lines last h = absurd h
+  opened_reported count status.GraphRefused lines last h = absurd h
+  opened_reported count status.FileTooLong lines last h = absurd h
 
 -- the file's graph was served
-pub graph_reported : (g : FileRead) (before after : DoorSeen) (address : List ℕ) (count : ℕ) (graph : List Triple) (s : Status) (text : List ℕ) → IsGraphOf g graph → IsServingReported before after address count graph s text → IsMemberReported g before after address count s text
-graph_reported g before after address count graph status.Done text is h = (graph, is, h)
-graph_reported g before after address count graph status.WriteFault text is h = (graph, is, h)
-graph_reported g before after address count graph status.DoorFault text is h = (graph, is, h)
-graph_reported g before after address count graph status.NoMemory text is h = inr (graph, is, h)
-graph_reported g before after address count graph status.Usage text is h = absurd h
-graph_reported g before after address count graph status.QueryRefused text is h = absurd h
-graph_reported g before after address count graph status.RegistryRefused text is h = absurd h
-graph_reported g before after address count graph status.EndpointFault text is h = absurd h
-graph_reported g before after address count graph status.BadReply text is h = absurd h
-graph_reported g before after address count graph status.UnknownService text is h = absurd h
-graph_reported g before after address count graph status.ReadFault text is h = absurd h
-graph_reported g before after address count graph status.RequestTooLong text is h = absurd h
-graph_reported g before after address count graph status.GraphRefused text is h = absurd h
-graph_reported g before after address count graph status.FileTooLong text is h = absurd h
+pub graph_reported : (g : FileRead) (before after : DoorSeen) (address : List ℕ) (count : ℕ) (graph : List Triple) (s : Status) (lines last : List ℕ) → IsGraphOf g graph → IsServingReported before after address count graph s lines last → IsMemberReported g before after address count s lines last
+graph_reported g before after address count graph status.Done lines last is h = (graph, is, h)
+graph_reported g before after address count graph status.WriteFault lines last is h = (graph, is, h)
+graph_reported g before after address count graph status.DoorFault lines last is h = (graph, is, h)
+graph_reported g before after address count graph status.NoMemory lines last is h = inr (graph, is, h)
+graph_reported g before after address count graph status.Usage lines last is h = absurd h
+graph_reported g before after address count graph status.QueryRefused lines last is h = absurd h
+graph_reported g before after address count graph status.RegistryRefused lines last is h = absurd h
+graph_reported g before after address count graph status.EndpointFault lines last is h = absurd h
+graph_reported g before after address count graph status.BadReply lines last is h = absurd h
+graph_reported g before after address count graph status.UnknownService lines last is h = absurd h
+graph_reported g before after address count graph status.ReadFault lines last is h = absurd h
+graph_reported g before after address count graph status.RequestTooLong lines last is h = absurd h
+graph_reported g before after address count graph status.GraphRefused lines last is h = absurd h
+graph_reported g before after address count graph status.FileTooLong lines last is h = absurd h
 
 -- the file gives no graph, and the door is left alone
-pub no_graph_reported : (g : FileRead) (seen : DoorSeen) (address : List ℕ) (count : ℕ) (r : GraphRefusal) → GivesGraph g (Err r) → IsMemberReported g seen seen address count (graph_status r) (graph_line r g.name)
-no_graph_reported g seen address count refusal.Fault h = (h, refl, refl)
-no_graph_reported g seen address count refusal.TooLong h = (h, refl, refl)
-no_graph_reported g seen address count (refusal.Refused (error.BadUtf8 at)) h = (error.BadUtf8 at, h, refl, refl)
-no_graph_reported g seen address count (refusal.Refused (error.Bad l c)) h = (error.Bad l c, h, refl, refl)
-no_graph_reported g seen address count (refusal.Refused (error.Blank l c)) h = (error.Blank l c, h, refl, refl)
-no_graph_reported g seen address count (refusal.Refused (error.Relative l c)) h = (error.Relative l c, h, refl, refl)
-no_graph_reported g seen address count (refusal.Refused error.Memory) h = inl (refl, refl)
-no_graph_reported g seen address count refusal.Memory h = inl (refl, refl)
+pub no_graph_reported : (g : FileRead) (seen : DoorSeen) (address : List ℕ) (count : ℕ) (r : GraphRefusal) → GivesGraph g (Err r) → IsMemberReported g seen seen address count (graph_status r) [] (graph_line r g.name)
+no_graph_reported g seen address count refusal.Fault h = (h, refl, refl, refl)
+no_graph_reported g seen address count refusal.TooLong h = (h, refl, refl, refl)
+no_graph_reported g seen address count (refusal.Refused (error.BadUtf8 at)) h = (error.BadUtf8 at, h, refl, refl, refl)
+no_graph_reported g seen address count (refusal.Refused (error.Bad l c)) h = (error.Bad l c, h, refl, refl, refl)
+no_graph_reported g seen address count (refusal.Refused (error.Blank l c)) h = (error.Blank l c, h, refl, refl, refl)
+no_graph_reported g seen address count (refusal.Refused (error.Relative l c)) h = (error.Relative l c, h, refl, refl, refl)
+no_graph_reported g seen address count (refusal.Refused error.Memory) h = inl (refl, refl, refl)
+no_graph_reported g seen address count refusal.Memory h = inl (refl, refl, refl)
 
 -- ---- one connection
 

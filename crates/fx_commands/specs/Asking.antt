@@ -1,26 +1,34 @@
--- What a run asked the members.
-use Rattle.std.specs.Prelude.{List, [], Bool, Result, Ok, Err, length}
-use Rattle.fx_outside.specs.Endpoints.{EndpointParts}
-use Rattle.fx_algebra.specs.declared.queries.Query.{Query}
-use Rattle.fx_sources.specs.Probes.{Entry, missing}
-use Rattle.fx_wire.specs.Exchanges.{Exchange, Seen}
-use Rattle.fx_engine.specs.Federation.{AreBegun, Gained, HasBegun, HasLearned, probe_questions}
-use Rattle.fx_engine.specs.declared.errors.FedError.{FedError}
+-- What is seen of the wires of a run that asks the members of a registry, and why it ends before any is asked.
+use Rattle.std.specs.Prelude.{◌≡◌, ◌⊎◌, ℕ, Bool, List, map}
+use Rattle.fx_grammar.specs.declared.refusals.SyntaxKind.{SyntaxKind}
+use Rattle.fx_sources.specs.declared.errors.RegistryError.{RegistryError}
+use Rattle.fx_wire.specs.Exchanges.{Seen}
+use Rattle.fx_commands.specs.declared.limits.TheConstants.{QUERY_LIMIT, REGISTRY_LIMIT}
+use Rattle.fx_commands.specs.declared.statuses.Status.{Status}
+use Rattle.fx_commands.specs.declared.statuses.Status.TheVariants as status
+use Rattle.fx_commands.specs.Files.{FileRead, HasFailed, IsTooLong, IsNoQuery, IsRegistryFile, IsNoRegistry}
+use Rattle.fx_commands.specs.Lines.{cannot_read, query_refused, query_too_long, registry_too_long, registry_refused, no_memory}
 
--- A new cache holds no answer to an ASK of the query. Where the wire tells its log, it gained exactly the exchanges that answer each
--- ASK once, in their order, and behind them those that are as they have to be by these answers.
-abbrev pub HasAsked : (List Bool → List Exchange → Type 0) → Seen → Seen → List EndpointParts → Query → Type 0
-HasAsked Rest before after endpoints q = (entries : List Entry) × HasLearned Rest before after endpoints q [] entries
+-- whether they tell their logs, whether they count each address alone, and what is seen of them before the call and after it
+pub record WiresSeen : Type 0 where
+  pub tells : Bool
+  pub alone : Bool
+  pub before : List Seen
+  pub after : List Seen
 
--- so it is where something is given
-abbrev pub GivesAsked : {X : Type 0} → (List Bool → List Exchange → Type 0) → Seen → Seen → List EndpointParts → Query → Result X FedError → Type 0
-GivesAsked Rest before after endpoints q (Ok given) = HasAsked Rest before after endpoints q
-GivesAsked Rest before after endpoints q (Err e) = Unit {0}
+abbrev pub wires_seen : {W : Type 0} → Bool → Bool → (W → Seen) → List W → List W → WiresSeen
+wires_seen tells alone seen old new = record { tells = tells; alone = alone; before = map seen old; after = map seen new }
 
--- Whatever the members answered: where the wire tells its log, it gained what the query asks, up to some place, and nothing else.
-abbrev pub AsksInTurn : Seen → Seen → List EndpointParts → Query → Type 0
-AsksInTurn before after endpoints q = Gained (HasBegun before.graph endpoints q []) before after
+-- nothing was exchanged, and no exchange failed
+abbrev pub IsUnasked : WiresSeen → Type 0
+IsUnasked w = w.after ≡ w.before
 
--- it gained the ASKs of the query in their order, up to some place, and nothing else
-abbrev pub AsksFitsInTurn : Seen → Seen → List EndpointParts → Query → Type 0
-AsksFitsInTurn before after endpoints q = Gained (AreBegun endpoints (probe_questions (missing q (length endpoints) []))) before after
+-- Why `query` and `explain` end before they ask anything, and the line on standard error: the registry's file is read first, then its registry,
+-- then the query's file and its query.
+abbrev pub IsRefusedBefore : FileRead → FileRead → Status → List ℕ → Type 0
+IsRefusedBefore r q status.RegistryRefused text = (e : RegistryError) × IsNoRegistry r e × (text ≡ registry_refused e)
+IsRefusedBefore r q status.QueryRefused text = IsRegistryFile r × ((kind : SyntaxKind) × (at : ℕ) × IsNoQuery q kind at × (text ≡ query_refused kind at))
+IsRefusedBefore r q status.ReadFault text = (HasFailed r × (text ≡ cannot_read r.name)) ⊎ (IsRegistryFile r × HasFailed q × (text ≡ cannot_read q.name))
+IsRefusedBefore r q status.FileTooLong text = (IsTooLong REGISTRY_LIMIT r × (text ≡ registry_too_long r.name)) ⊎ (IsRegistryFile r × IsTooLong QUERY_LIMIT q × (text ≡ query_too_long q.name))
+IsRefusedBefore r q status.NoMemory text = text ≡ no_memory
+IsRefusedBefore r q s text = ⊥

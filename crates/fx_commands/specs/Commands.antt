@@ -1,5 +1,5 @@
 -- How the words of a command line are read.
-use Rattle.std.specs.Prelude.{◌≡◌, ℕ, Bool, true, false, List, [], ◌∷◌, ◌++◌, map, Option, Some, None, Result, Ok, Err, codes, if◌then◌else◌, option_map, option_and_then, ◌==◌, ◌&&◌, not, length, nat_le, nat_lt}
+use Rattle.std.specs.Prelude.{◌≡◌, ℕ, Bool, true, false, List, [], ◌∷◌, ◌++◌, map, Option, Some, None, Result, Ok, Err, codes, if◌then◌else◌, option_map, option_and_then, ◌==◌, ◌&&◌, not, length, take, drop, nat_le, nat_lt, ◌≤◌}
 use Rattle.std.specs.Borrow.{Bor}
 use Rattle.std.specs.Str.{all_ascii_digits, bytes_eq}
 use Rattle.std.specs.Str.Parse.{digits_value}
@@ -8,6 +8,9 @@ use Rattle.std.specs.declared.alloc.Global.{Global}
 use Rattle.fx_commands.specs.declared.commands.Command.{Command}
 use Rattle.fx_commands.specs.declared.commands.Command.TheVariants.{Local, Query, Explain, Member}
 use Rattle.fx_commands.specs.declared.commands.CommandError.{CommandError}
+use Rattle.fx_commands.specs.declared.commands.QueryWords as commands
+use Rattle.fx_commands.specs.declared.commands.Next.{Next}
+use Rattle.fx_commands.specs.declared.commands.Next.TheVariants as next
 use Rattle.fx_commands.specs.declared.commands.CommandError.TheVariants.{Usage, Memory}
 
 abbrev pub local_word : List ℕ
@@ -46,11 +49,12 @@ abbrev pub positionals : List (List ℕ) → Option (List (List ℕ))
 positionals [] = Some []
 positionals (w ∷ ws) = if bytes_eq w end_of_options then Some ws else if is_option w then None else in_front (Some w) (positionals ws)
 
--- what a command is asked to do: to answer the query of a file over the graph of a file, or over the members of a registry; to print
--- the plan of the latter; or to serve the graph of a file at an address, for so many connections
+-- what a command is asked to do: to answer the query of a file over the graph of a file, or over the members of a registry, with so
+-- many workers and so many rows in a block; to print the plan of a query over such members; or to serve the graph of a file at an
+-- address, for so many connections
 pub data Asked : Type 0 where
   over_file : List ℕ → List ℕ → Asked
-  over_members : List ℕ → List ℕ → Asked
+  over_members : List ℕ → List ℕ → ℕ → ℕ → Asked
   planned : List ℕ → List ℕ → Asked
   served : List ℕ → List ℕ → ℕ → Asked
 
@@ -70,13 +74,17 @@ of_files make (Some p) = Some (make p.0 p.1)
 abbrev pub is_digits : List ℕ → Bool
 is_digits word = not (length word == 0) && nat_le (length word) 20 && all_ascii_digits word
 
--- a number that is at least 1 and within 64 bits
-abbrev pub in_range : ℕ → Option ℕ
-in_range n = if n == 0 then None else if nat_lt 18446744073709551615 n then None else Some n
+-- a number that is at least 1 and at most so much
+abbrev pub in_range : ℕ → ℕ → Option ℕ
+in_range most n = if n == 0 then None else if nat_lt most n then None else Some n
 
--- the number of connections that a word says
+-- the number that a word says, which is at least 1 and at most so much
+abbrev pub number_to : ℕ → List ℕ → Option ℕ
+number_to most word = if is_digits word then in_range most (digits_value 10 word) else None
+
+-- the number of connections that a word says, within 64 bits
 abbrev pub count_of : List ℕ → Option ℕ
-count_of word = if is_digits word then in_range (digits_value 10 word) else None
+count_of word = number_to 18446744073709551615 word
 
 -- serving where the number is one
 abbrev pub of_count : List ℕ → List ℕ → Option ℕ → Option Asked
@@ -91,12 +99,88 @@ member_asked (g ∷ a ∷ []) = Some (served g a 18446744073709551615)
 member_asked (g ∷ a ∷ c ∷ []) = of_count g a (count_of c)
 member_asked (g ∷ a ∷ c ∷ w ∷ ws) = None
 
+-- ---- the options of `query`
+
+-- what the words of a query give: those that are no options, and the values that each option is given
+pub record QueryWords : Type 0 where
+  pub positionals : List (List ℕ)
+  pub workers : List (List ℕ)
+  pub blocks : List (List ℕ)
+
+-- positionals alone
+abbrev pub plain : List (List ℕ) → QueryWords
+plain words = record { positionals = words; workers = []; blocks = [] }
+
+abbrev pub with_positional : List ℕ → Option QueryWords → Option QueryWords
+with_positional word rest = option_map (λ (g : QueryWords). record { positionals = word ∷ g.positionals; workers = g.workers; blocks = g.blocks }) rest
+
+abbrev pub with_workers : List ℕ → Option QueryWords → Option QueryWords
+with_workers value rest = option_map (λ (g : QueryWords). record { positionals = g.positionals; workers = value ∷ g.workers; blocks = g.blocks }) rest
+
+abbrev pub with_block : List ℕ → Option QueryWords → Option QueryWords
+with_block value rest = option_map (λ (g : QueryWords). record { positionals = g.positionals; workers = g.workers; blocks = value ∷ g.blocks }) rest
+
+abbrev pub workers_option : List ℕ
+workers_option = codes "--workers"
+
+abbrev pub block_option : List ℕ
+block_option = codes "--block"
+
+-- what stands behind a front of a word, if it has this front
+abbrev pub value_in : List ℕ → List ℕ → Option (List ℕ)
+value_in front word = if bytes_eq (take (length front) word) front then Some (drop (length front) word) else None
+
+-- what a word gives with those behind it, where it holds these values of options, or none
+abbrev pub by_values : Option (List ℕ) → Option (List ℕ) → List ℕ → Option QueryWords → Option QueryWords
+by_values (Some value) block word rest = with_workers value rest
+by_values None (Some value) word rest = with_block value rest
+by_values None None word rest = if is_option word then None else with_positional word rest
+
+-- what a word gives with those behind it, where it is an option with its value behind an equals sign, or a positional
+abbrev pub by_itself : List ℕ → Option QueryWords → Option QueryWords
+by_itself word rest = by_values (value_in (codes "--workers=") word) (value_in (codes "--block=") word) word rest
+
+-- What words give, if no other options than these two stand in them, and each has a value. Behind -- every word is a positional. A
+-- word that begins with a dash is taken as a value too, and refused as one, since it is no number.
+abbrev pub query_words : List (List ℕ) → Option QueryWords
+query_words [] = Some (plain [])
+query_words (w ∷ []) =
+    if bytes_eq w end_of_options then Some (plain [])
+    else if bytes_eq w workers_option then None
+    else if bytes_eq w block_option then None
+    else by_itself w (Some (plain []))
+query_words (w ∷ v ∷ ws) =
+    if bytes_eq w end_of_options then Some (plain (v ∷ ws))
+    else if bytes_eq w workers_option then with_workers v (query_words ws)
+    else if bytes_eq w block_option then with_block v (query_words ws)
+    else by_itself w (query_words (v ∷ ws))
+
+-- The number that an option is given, which is at least 1 and at most so much: it stands once, or not at all, and then there is
+-- a number for it.
+abbrev pub number_of : ℕ → ℕ → List (List ℕ) → Option ℕ
+number_of most default [] = Some default
+number_of most default (v ∷ []) = number_to most v
+number_of most default (v ∷ w ∷ ws) = None
+
+-- two files and two numbers, where there are such
+abbrev pub query_parts : Option (List ℕ × List ℕ) → Option ℕ → Option ℕ → Option Asked
+query_parts (Some files) (Some workers) (Some block) = Some (over_members files.0 files.1 workers block)
+query_parts (Some files) (Some workers) None = None
+query_parts (Some files) None block = None
+query_parts None workers block = None
+
+-- two files, 1 to 16 workers, and 1 to 64 rows in a block
+abbrev pub query_asked : QueryWords → Option Asked
+query_asked g = query_parts (two_files g.positionals) (number_of 16 4 g.workers) (number_of 64 15 g.blocks)
+
+-- ---- commands
+
 -- what the words ask for, where they are a command that is built
 abbrev pub asked : List (List ℕ) → Option Asked
 asked [] = None
 asked (c ∷ ws) =
     if bytes_eq c local_word then of_files over_file (option_and_then two_files (positionals ws))
-    else if bytes_eq c query_word then of_files over_members (option_and_then two_files (positionals ws))
+    else if bytes_eq c query_word then option_and_then query_asked (query_words ws)
     else if bytes_eq c explain_word then of_files planned (option_and_then two_files (positionals ws))
     else if bytes_eq c member_word then option_and_then member_asked (positionals ws)
     else None
@@ -105,7 +189,7 @@ asked (c ∷ ws) =
 
 abbrev pub asked_by : Command → Asked
 asked_by (Local g q) = over_file g.now q.now
-asked_by (Query r q) = over_members r.now q.now
+asked_by (Query r q workers block) = over_members r.now q.now workers block
 asked_by (Explain r q) = planned r.now q.now
 asked_by (Member g a n) = served g.now a.now n
 
@@ -114,6 +198,13 @@ abbrev pub GivesCommand : Result Command CommandError → Option Asked → Type 
 GivesCommand (Ok command) wanted = wanted ≡ Some (asked_by command)
 GivesCommand (Err Usage) wanted = wanted ≡ None
 GivesCommand (Err Memory) wanted = Unit {0}
+
+-- the numbers of a query are within their limits
+abbrev pub IsWithin : Command → Type 0
+IsWithin (Query r q workers block) = (1 ≤ workers) × (workers ≤ 16) × (1 ≤ block) × (block ≤ 64)
+IsWithin (Local g q) = Unit {0}
+IsWithin (Explain r q) = Unit {0}
+IsWithin (Member g a n) = Unit {0}
 
 -- unless memory ran out, the answer is the two files that the words are
 abbrev pub GivesFiles : Result (Bor (List ℕ) × Bor (List ℕ)) CommandError → Option (List ℕ × List ℕ) → Type 0
@@ -133,3 +224,25 @@ GivesWords (Err Memory) wanted = Unit {0}
 abbrev pub positionals_from : Bool → List (List ℕ) → Option (List (List ℕ))
 positionals_from true ws = Some ws
 positionals_from false ws = positionals ws
+
+-- the words that were found
+abbrev pub told : commands.QueryWords → QueryWords
+told g = record { positionals = texts g.positionals.items; workers = texts g.workers.items; blocks = texts g.blocks.items }
+
+abbrev pub GivesQueryWords : Result commands.QueryWords CommandError → Option QueryWords → Type 0
+GivesQueryWords (Ok g) wanted = wanted ≡ Some (told g)
+GivesQueryWords (Err Usage) wanted = wanted ≡ None
+GivesQueryWords (Err Memory) wanted = Unit {0}
+
+-- what there is before what words give, if they give anything
+abbrev pub ahead : QueryWords → Option QueryWords → Option QueryWords
+ahead front rest = option_map (λ (g : QueryWords). record { positionals = front.positionals ++ g.positionals; workers = front.workers ++ g.workers; blocks = front.blocks ++ g.blocks }) rest
+
+-- what the words that are left give, by what the first of them is
+abbrev pub query_words_from : Next → List (List ℕ) → Option QueryWords
+query_words_from next.Any ws = query_words ws
+query_words_from next.Workers [] = None
+query_words_from next.Workers (v ∷ ws) = with_workers v (query_words ws)
+query_words_from next.Block [] = None
+query_words_from next.Block (v ∷ ws) = with_block v (query_words ws)
+query_words_from next.Positional ws = Some (plain ws)

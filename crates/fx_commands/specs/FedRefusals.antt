@@ -1,28 +1,31 @@
--- How a run ends that the members refuse, and its line.
-use Rattle.std.specs.Prelude.{ℕ, List, [], Option, Some, None, slice_get}
-use Rattle.fx_outside.specs.Endpoints.{EndpointParts}
-use Rattle.fx_engine.specs.declared.errors.FedError.{FedError}
-use Rattle.fx_engine.specs.declared.errors.FedError.TheVariants as fed
+-- How a run ends that asks members, and its line.
+use Rattle.std.specs.Prelude.{◌≡◌, ℕ, List, [], Result, Ok, Err}
+use Rattle.fx_engine.specs.declared.mediator.FedError.{FedError}
+use Rattle.fx_engine.specs.declared.mediator.FedError.TheVariants as fed
 use Rattle.fx_commands.specs.declared.statuses.Status.{Status}
 use Rattle.fx_commands.specs.declared.statuses.Status.TheVariants as status
 use Rattle.fx_commands.specs.Lines.{member_failed, bad_reply, request_too_long, no_memory}
 
 abbrev pub fed_status_of : FedError → Status
-fed_status_of (fed.Member at) = status.EndpointFault
-fed_status_of (fed.BadReply at why) = status.BadReply
-fed_status_of (fed.RequestTooLong at size) = status.RequestTooLong
+fed_status_of (fed.Member name) = status.EndpointFault
+fed_status_of (fed.BadReply name bad) = status.BadReply
+fed_status_of (fed.RequestTooLong name size) = status.RequestTooLong
 fed_status_of fed.Memory = status.NoMemory
 
-abbrev pub name_of : Option EndpointParts → List ℕ
-name_of None = []
-name_of (Some e) = e.name
+abbrev pub fed_line : FedError → List ℕ
+fed_line (fed.Member name) = member_failed name
+fed_line (fed.BadReply name bad) = bad_reply name bad.why
+fed_line (fed.RequestTooLong name size) = request_too_long name size
+fed_line fed.Memory = no_memory
 
--- the name of an endpoint, by its number
-abbrev pub name_at : List EndpointParts → ℕ → List ℕ
-name_at endpoints at = name_of (slice_get endpoints at)
+-- where the members give something it is written, unless memory runs out
+abbrev pub IsGivenEnd : Status → List ℕ → Type 0
+IsGivenEnd status.Done text = text ≡ []
+IsGivenEnd status.WriteFault text = text ≡ []
+IsGivenEnd status.NoMemory text = text ≡ no_memory
+IsGivenEnd s text = ⊥
 
-abbrev pub fed_line : List EndpointParts → FedError → List ℕ
-fed_line endpoints (fed.Member at) = member_failed (name_at endpoints at)
-fed_line endpoints (fed.BadReply at why) = bad_reply (name_at endpoints at) why
-fed_line endpoints (fed.RequestTooLong at size) = request_too_long (name_at endpoints at) size
-fed_line endpoints fed.Memory = no_memory
+-- the status and the line by what the members give, and else by the refusal
+abbrev pub IsEnd : {X : Type 0} → Result X FedError → Status → List ℕ → Type 0
+IsEnd (Ok given) s text = IsGivenEnd s text
+IsEnd (Err e) s text = (s ≡ fed_status_of e) × (text ≡ fed_line e)

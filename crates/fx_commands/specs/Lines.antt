@@ -10,7 +10,7 @@ use Rattle.fx_ntriples.specs.declared.faults.NtError.TheVariants as graph
 use Rattle.fx_sources.specs.declared.errors.RegistryError.{RegistryError}
 use Rattle.fx_sources.specs.declared.errors.RegistryError.TheVariants as registry
 use Rattle.fx_engine.specs.FaultTexts.{fault_text}
-use Rattle.fx_engine.specs.declared.errors.ReplyFault.{ReplyFault}
+use Rattle.fx_pool.specs.declared.faults.ReplyFault.{ReplyFault}
 use Rattle.fx_grammar.specs.Refused.{kind_name}
 use Rattle.fx_grammar.specs.declared.refusals.SyntaxKind.{SyntaxKind}
 

@@ -1,6 +1,5 @@
 -- What `fedx local` does.
-use Rattle.std.specs.Prelude.{◌≡◌, ◌⊎◌, ℕ, List, [], ◌++◌, IfSome, Some, None}
-use Rattle.fx_outside.specs.Streams.{AppendsFront}
+use Rattle.std.specs.Prelude.{◌≡◌, ◌⊎◌, ℕ, List, [], IfSome, Some, None}
 use Rattle.fx_terms.specs.declared.triples.Triple.{Triple}
 use Rattle.fx_algebra.specs.Answers.{answer, no_graphs}
 use Rattle.fx_algebra.specs.Occurrences.{services}
@@ -16,6 +15,7 @@ use Rattle.fx_commands.specs.declared.statuses.Status.TheVariants as status
 use Rattle.fx_commands.specs.Files.{FileRead, HasFailed, IsTooLong, IsGraph, IsNoGraph, IsNoQuery, IsQueryThat}
 use Rattle.fx_commands.specs.Lines.{cannot_read, graph_refused, graph_too_long, query_refused, query_too_long, unknown_service, no_memory}
 use Rattle.fx_commands.specs.Services.{first_plain, all_numbers, silent_lines}
+use Rattle.fx_commands.specs.Sinks.{Wrote}
 
 -- ---- the answer
 
@@ -63,17 +63,4 @@ IsReported g q status.FileTooLong text = (IsTooLong GRAPH_LIMIT g × (text ≡ g
 
 -- what each status leaves on standard output: the document, a front of it where a write failed, and else nothing new
 abbrev pub IsWritten : FileRead → FileRead → Status → List ℕ → List ℕ → Type 0
-IsWritten g q status.Done old new = (text : List ℕ) × IsAnswer g q text × (new ≡ old ++ text)
-IsWritten g q status.WriteFault old new = (text : List ℕ) × IsAnswer g q text × AppendsFront old new text
-IsWritten g q status.NoMemory old new = new ≡ old
-IsWritten g q status.Usage old new = new ≡ old
-IsWritten g q status.GraphRefused old new = new ≡ old
-IsWritten g q status.RegistryRefused old new = new ≡ old
-IsWritten g q status.EndpointFault old new = new ≡ old
-IsWritten g q status.BadReply old new = new ≡ old
-IsWritten g q status.RequestTooLong old new = new ≡ old
-IsWritten g q status.DoorFault old new = new ≡ old
-IsWritten g q status.QueryRefused old new = new ≡ old
-IsWritten g q status.UnknownService old new = new ≡ old
-IsWritten g q status.ReadFault old new = new ≡ old
-IsWritten g q status.FileTooLong old new = new ≡ old
+IsWritten g q s old new = Wrote (IsAnswer g q) s old new

@@ -72,9 +72,12 @@ IsGraphOf g graph = IfSome g.content (λ all. (length all ≤ GRAPH_LIMIT) × Is
 abbrev pub IsOpen : DoorSeen → List ℕ → Type 0
 IsOpen seen address = seen.started ≡ Some address
 
--- so many connections were served
-abbrev pub IsDone : ℕ → DoorSeen → DoorSeen → List ℕ → List Triple → List ℕ → Type 0
-IsDone count before after address graph text = (endings : List Ending) × Serves graph before after endings [] × (length endings ≡ count) × (IsTrue before.tells → IsOpen after address) × (text ≡ ending_lines 1 endings)
+-- The lines of the connections that are whole, and what is written behind them: nothing, or the one line by which serving ends. So
+-- a connection is taken only where the line of each before it is whole.
+
+-- so many connections were served, each with its line
+abbrev pub IsDone : ℕ → DoorSeen → DoorSeen → List ℕ → List Triple → List ℕ → List ℕ → Type 0
+IsDone count before after address graph lines last = (endings : List Ending) × Serves graph before after endings [] × (length endings ≡ count) × (IsTrue before.tells → IsOpen after address) × (lines ≡ ending_lines 1 endings) × (last ≡ [])
 
 -- the door could not be opened
 pub record IsShut (before after : DoorSeen) : Type 0 where
@@ -82,9 +85,9 @@ pub record IsShut (before after : DoorSeen) : Type 0 where
   pub outputs : after.outputs ≡ before.outputs
   pub inputs : after.inputs ≡ before.inputs
 
--- a line could not be written, and no more connections were served than are to be
-abbrev pub IsUnwritten : DoorSeen → DoorSeen → List ℕ → ℕ → List Triple → List ℕ → Type 0
-IsUnwritten before after address count graph text = (endings : List Ending) × Serves graph before after endings [] × (length endings ≤ count) × (IsTrue before.tells → IsOpen after address) × (text ≡ ending_lines 1 endings)
+-- connections were served, each with its line, and one more, whose line could not be written; they are no more than are to be served
+abbrev pub IsUnwritten : DoorSeen → DoorSeen → List ℕ → ℕ → List Triple → List ℕ → List ℕ → Type 0
+IsUnwritten before after address count graph lines last = (endings : List Ending) × (ending : Ending) × Serves graph before after (endings ++ ending ∷ []) [] × (length endings < count) × (IsTrue before.tells → IsOpen after address) × (lines ≡ ending_lines 1 endings) × (last ≡ ending_line (length endings + 1) ending)
 
 -- at most one
 abbrev pub IsOneAtMost : List (List ℕ) → Type 0
@@ -99,23 +102,24 @@ pub record HasStopped (graph : List Triple) (before after : DoorSeen) (address :
   pub within : length endings + length unanswered ≤ count
   pub opened : IsOpen after address ⊎ IsShut before after
 
--- connections were served, and then the door failed or memory ran out
-abbrev pub IsCut : DoorSeen → DoorSeen → List ℕ → ℕ → List Triple → List ℕ → List ℕ → Type 0
-IsCut before after address count graph last text = (endings : List Ending) × (length endings ≤ count) × (IsTrue before.tells → HasStopped graph before after address count endings) × (text ≡ ending_lines 1 endings ++ last)
+-- connections were served, each with its line, and then the door failed or memory ran out, which has a line
+abbrev pub IsCut : DoorSeen → DoorSeen → List ℕ → ℕ → List Triple → List ℕ → List ℕ → List ℕ → Type 0
+IsCut before after address count graph line lines last = (endings : List Ending) × (length endings ≤ count) × (IsTrue before.tells → HasStopped graph before after address count endings) × (lines ≡ ending_lines 1 endings) × (last ≡ line)
 
--- what serving reports, over a graph
-abbrev pub IsServingReported : DoorSeen → DoorSeen → List ℕ → ℕ → List Triple → Status → List ℕ → Type 0
-IsServingReported before after address count graph status.Done text = IsDone count before after address graph text
-IsServingReported before after address count graph status.WriteFault text = IsUnwritten before after address count graph text
-IsServingReported before after address count graph status.DoorFault text = (before.faults < after.faults) × IsCut before after address count graph cannot_serve text
-IsServingReported before after address count graph status.NoMemory text = IsCut before after address count graph no_memory text
-IsServingReported before after address count graph s text = ⊥
+-- what serving reports, over a graph: the lines that are whole, and the last
+abbrev pub IsServingReported : DoorSeen → DoorSeen → List ℕ → ℕ → List Triple → Status → List ℕ → List ℕ → Type 0
+IsServingReported before after address count graph status.Done lines last = IsDone count before after address graph lines last
+IsServingReported before after address count graph status.WriteFault lines last = IsUnwritten before after address count graph lines last
+IsServingReported before after address count graph status.DoorFault lines last = (before.faults < after.faults) × IsCut before after address count graph cannot_serve lines last
+IsServingReported before after address count graph status.NoMemory lines last = IsCut before after address count graph no_memory lines last
+IsServingReported before after address count graph s lines last = ⊥
 
 -- the cause of each status, and what it writes on standard error: the graph's file is read first, then its graph, and then the
--- door is opened at the address, for so many connections. Before that all that is seen of the door is as it was.
-abbrev pub IsMemberReported : FileRead → DoorSeen → DoorSeen → List ℕ → ℕ → Status → List ℕ → Type 0
-IsMemberReported g before after address count status.GraphRefused text = (e : NtError) × IsNoGraph g e × (text ≡ graph_refused e) × (after ≡ before)
-IsMemberReported g before after address count status.ReadFault text = HasFailed g × (text ≡ cannot_read g.name) × (after ≡ before)
-IsMemberReported g before after address count status.FileTooLong text = IsTooLong GRAPH_LIMIT g × (text ≡ graph_too_long g.name) × (after ≡ before)
-IsMemberReported g before after address count status.NoMemory text = ((text ≡ no_memory) × (after ≡ before)) ⊎ ((graph : List Triple) × IsGraphOf g graph × IsServingReported before after address count graph status.NoMemory text)
-IsMemberReported g before after address count s text = (graph : List Triple) × IsGraphOf g graph × IsServingReported before after address count graph s text
+-- door is opened at the address, for so many connections. Before that all that is seen of the door is as it was, and no line is written
+-- but the last.
+abbrev pub IsMemberReported : FileRead → DoorSeen → DoorSeen → List ℕ → ℕ → Status → List ℕ → List ℕ → Type 0
+IsMemberReported g before after address count status.GraphRefused lines last = (e : NtError) × IsNoGraph g e × (lines ≡ []) × (last ≡ graph_refused e) × (after ≡ before)
+IsMemberReported g before after address count status.ReadFault lines last = HasFailed g × (lines ≡ []) × (last ≡ cannot_read g.name) × (after ≡ before)
+IsMemberReported g before after address count status.FileTooLong lines last = IsTooLong GRAPH_LIMIT g × (lines ≡ []) × (last ≡ graph_too_long g.name) × (after ≡ before)
+IsMemberReported g before after address count status.NoMemory lines last = ((lines ≡ []) × (last ≡ no_memory) × (after ≡ before)) ⊎ ((graph : List Triple) × IsGraphOf g graph × IsServingReported before after address count graph status.NoMemory lines last)
+IsMemberReported g before after address count s lines last = (graph : List Triple) × IsGraphOf g graph × IsServingReported before after address count graph s lines last

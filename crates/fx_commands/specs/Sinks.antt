@@ -1,6 +1,9 @@
 -- What a run leaves of a sink that it writes to.
 use Rattle.std.specs.Prelude.{◌≡◌, ◌⊎◌, ℕ, Bool, List, ◌++◌, IsTrue}
 use Rattle.fx_outside.specs.Faults.{HasRisen}
+use Rattle.fx_outside.specs.Streams.{AppendsFront}
+use Rattle.fx_commands.specs.declared.statuses.Status.{Status}
+use Rattle.fx_commands.specs.declared.statuses.Status.TheVariants as status
 
 -- whether it tells what it holds, what it held before the call and after it, and how often a write to it had failed by then
 pub record SinkWritten : Type 0 where
@@ -32,3 +35,9 @@ IsCutOff out err = HasFailed out × IsUntouched err
 -- that, or the document was written whole, and a write of the lines behind it failed
 abbrev pub IsCutShort : (List ℕ → Type 0) → SinkWritten → SinkWritten → Type 0
 IsCutShort P out err = IsCutOff out err ⊎ (HasGained P out × HasFailed err)
+
+-- what each status leaves on a sink: with `Done` a text that is so, with `WriteFault` a front of one, and else nothing new
+abbrev pub Wrote : (List ℕ → Type 0) → Status → List ℕ → List ℕ → Type 0
+Wrote P status.Done old new = (text : List ℕ) × P text × (new ≡ old ++ text)
+Wrote P status.WriteFault old new = (text : List ℕ) × P text × AppendsFront old new text
+Wrote P s old new = new ≡ old

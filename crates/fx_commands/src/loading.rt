@@ -1,9 +1,10 @@
 //! Files, and the graph and the query that they hold.
-ghost use Rattle.std.specs.Prelude.{◌≡◌, ◌≤◌, ℕ, List, MatchResult, Ok};
+ghost use Rattle.std.specs.Prelude.{◌≡◌, ◌≤◌, ℕ, IfOk, List, MatchResult, Ok};
+ghost use Rattle.fx_engine.specs.Mediation.{IsSpellable};
 ghost use Rattle.fx_commands.specs.Counts.{CountsLoad};
 ghost use Rattle.fx_commands.specs.Files.{file_read};
 ghost use Rattle.fx_commands.specs.LocalSteps.{GivesFile, GivesGraph, GivesQuery};
-ghost use Rattle.fx_commands.specs.QuerySteps.{GivesRegistry};
+ghost use Rattle.fx_commands.specs.MemberSteps.{GivesRegistry};
 ghost use Rattle.fx_commands.specs.RefusalStatuses.{file_status, graph_status, query_status, registry_status};
 
 use crate::limits::{GRAPH_LIMIT, QUERY_LIMIT, REGISTRY_LIMIT};
@@ -65,6 +66,7 @@ pub fn load_query<F: Files>(
     name: &str,
 ) -> Result<Boxed<Query>, QueryRefusal>
     ensures outcome { GivesQuery (file_read (F.seen files.old) (F.seen files.new) name.now) result }
+    ensures spelled { IfOk result IsSpellable }
     ensures counted { CountsLoad query_status name.now (F.seen files.old).faults (F.seen files.new).faults result }
     ensures kept { (other : List ℕ) → (F.seen files.old).faults other ≤ (F.seen files.new).faults other }
     ensures same { (other : List ℕ) → (F.seen files.new).content other ≡ (F.seen files.old).content other }

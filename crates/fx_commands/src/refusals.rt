@@ -150,13 +150,13 @@ impl RegistryRefusal {
 }
 
 /// How a run ends that the members refuse.
-pub fn fed_status(error: FedError) -> Status
-    ensures { result ≡ fed_status_of error }
+pub fn fed_status(error: &FedError) -> Status
+    ensures { result ≡ fed_status_of error.now }
 {
     match error {
-        FedError::Member { at: _ } => Status::EndpointFault,
-        FedError::BadReply { at: _, why: _ } => Status::BadReply,
-        FedError::RequestTooLong { at: _, length: _ } => Status::RequestTooLong,
+        FedError::Member { name: _ } => Status::EndpointFault,
+        FedError::BadReply { name: _, bad: _ } => Status::BadReply,
+        FedError::RequestTooLong { name: _, length: _ } => Status::RequestTooLong,
         FedError::Memory => Status::NoMemory,
     }
 }

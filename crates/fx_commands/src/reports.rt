@@ -1,19 +1,20 @@
 //! Lines on standard error.
 ghost use Rattle.std.specs.Prelude.{◌≡◌, ◌∷◌, ◌++◌, ◌≤◌, ℕ, [], Some, codes, IsTrue, IsErr, IsOk, OnOk, length};
 ghost use Rattle.std.specs.Fmt.{decimal};
-ghost use Rattle.fx_commands.specs.FedRefusals.{fed_line, name_at};
+ghost use Rattle.fx_commands.specs.FedRefusals.{fed_line};
 ghost use Rattle.fx_outside.specs.Faults.{HasRisen};
 ghost use Rattle.fx_outside.specs.Streams.{AppendsFront};
 ghost use Rattle.fx_engine.specs.FaultTexts.{fault_text, with_code};
 ghost use Rattle.fx_commands.specs.Lines.{all_pieces, bad_reply, cannot_serve, Gains, graph_refused, line, no_memory, not_built, place, query_refused, registry_refused, request_too_long, unknown_service, usage_line};
 ghost use Rattle.fx_grammar.specs.Refused.{kind_name};
 ghost use Rattle.fx_commands.specs.LocalSteps.{refusal_line, graph_line, query_line};
-ghost use Rattle.fx_commands.specs.QuerySteps.{registry_line};
+ghost use Rattle.fx_commands.specs.MemberSteps.{registry_line};
 
 use crate::refusals::{GraphRefusal, QueryRefusal, Refusal, RegistryRefusal};
-use fx_engine::{FedError, ReplyFault};
+use fx_engine::{FedError, fault_code, fault_words};
 use fx_ntriples::NtError;
-use fx_outside::{Endpoint, Sink, WriteFailed, write_all};
+use fx_outside::{Sink, WriteFailed, write_all};
+use fx_pool::ReplyFault;
 use fx_sources::RegistryError;
 use fx_syntax::SyntaxKind;
 use fx_terms::Iri;
@@ -157,28 +158,16 @@ fn write_registry_error<E: Sink>(err: &mut E, error: RegistryError)
 }
 
 /// Writes the line of a refusal by the members.
-pub fn write_fed_error<E: Sink>(err: &mut E, endpoints: &[Endpoint], error: FedError)
-    ensures { IsTrue E.tells_held → Gains (E.held err.old) (E.held err.new) (E.write_faults err.old) (E.write_faults err.new) (fed_line endpoints.now error) }
+pub fn write_fed_error<E: Sink>(err: &mut E, error: &FedError)
+    ensures { IsTrue E.tells_held → Gains (E.held err.old) (E.held err.new) (E.write_faults err.old) (E.write_faults err.new) (fed_line error.now) }
 {
     match error {
-        FedError::Member { at } => {
-            write_named(err, b"member ", name_at(endpoints, at), b" failed\n")
-        }
-        FedError::BadReply { at, why } => write_bad_reply(err, name_at(endpoints, at), why),
-        FedError::RequestTooLong { at, length } => {
-            write_request_too_long(err, name_at(endpoints, at), length)
+        FedError::Member { name } => write_named(err, b"member ", name.as_str(), b" failed\n"),
+        FedError::BadReply { name, bad } => write_bad_reply(err, name.as_str(), bad.why),
+        FedError::RequestTooLong { name, length } => {
+            write_request_too_long(err, name.as_str(), *length)
         }
         FedError::Memory => write_line(err, b"no memory\n"),
-    }
-}
-
-// The name of an endpoint, by its number.
-fn name_at(endpoints: &[Endpoint], at: usize) -> &str
-    ensures { result.now ≡ name_at endpoints.now at }
-{
-    match endpoints.get(at) {
-        Some(endpoint) => endpoint.name(),
-        None => "",
     }
 }
 
@@ -201,9 +190,9 @@ fn write_name_and_fault<E: Sink>(err: &mut E, name: &str, why: ReplyFault)
 fn write_fault<E: Sink>(err: &mut E, why: ReplyFault)
     ensures { IsTrue E.tells_held → Gains (E.held err.old) (E.held err.new) (E.write_faults err.old) (E.write_faults err.new) (codes ": " ++ line (fault_text why)) }
 {
-    match why.code() {
-        None => write_named(err, b": ", why.words(), b"\n"),
-        Some(code) => write_words_and_code(err, why.words(), code),
+    match fault_code(why) {
+        None => write_named(err, b": ", fault_words(why), b"\n"),
+        Some(code) => write_words_and_code(err, fault_words(why), code),
     }
 }
 

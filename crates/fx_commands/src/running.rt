@@ -1,13 +1,16 @@
 //! The program over files, wires and streams that are handed in.
-ghost use Rattle.std.specs.Prelude.{◌≡◌, ◌≤◌, ◌<◌, IsTrue, List, ℕ, length, map, string_bytes};
-ghost use Rattle.fx_wire.specs.Exchanges.{IsAfter};
+ghost use Rattle.std.specs.Prelude.{◌≡◌, ◌≤◌, ◌<◌, ◌++◌, IsTrue, List, ℕ, length, map, string_bytes, take};
+ghost use Rattle.fx_traffic.specs.Gains.{AreAfter, faults_at};
+ghost use Rattle.fx_commands.specs.Asking.{wires_seen};
 ghost use Rattle.fx_commands.specs.Commands.{asked};
+ghost use Rattle.fx_commands.specs.Completeness.{Completes};
 ghost use Rattle.fx_commands.specs.Counts.{CountsDoor, CountsOnly};
-ghost use Rattle.fx_commands.specs.Files.{file_read};
+ghost use Rattle.fx_commands.specs.Files.{IsQueryThat, file_read};
+ghost use Rattle.fx_commands.specs.Headline.{Headline};
 ghost use Rattle.fx_commands.specs.Lines.{Gains};
-ghost use Rattle.fx_commands.specs.Local.{IsAnswer, IsReported, IsWritten};
+ghost use Rattle.fx_commands.specs.Local.{HasLines, IsAnswer, IsReported, IsWritten};
 ghost use Rattle.fx_commands.specs.LocalSteps.{IsDocumentWritten, IsLineReported};
-ghost use Rattle.fx_commands.specs.Runs.{FailsToWrite, OnFirst, Reports, Writes};
+ghost use Rattle.fx_commands.specs.Runs.{FailsToWrite, OnUsed, Reports, Writes, wires_used};
 ghost use Rattle.fx_commands.specs.Sinks.{IsCutShort, sink_written};
 
 use crate::commands::{Command, CommandError, read_command};
@@ -22,14 +25,18 @@ use fx_outside::{Door, Files, Sink, write_all};
 use fx_wire::Wire;
 use std::alloc::Global;
 
-/// Runs the command that the words behind the program's name are, over these files, of the wires the first, and this door. It
+// How many wires `explain` uses at most.
+const EXPLAIN_WIRES: usize = 4;
+
+/// Runs the command that the words behind the program's name are, over these files, the first of these wires, and this door: `query` uses as many
+/// wires as the words say, 16 at most, and `explain` 4. It
 /// writes the command's document or text on `out`, and the line of any other end on `err`, as well as a line for each connection that it
 /// serves.
 ///
 /// The document or text and the lines behind it are whole before the first byte is written, so that on every status but `Done` and
 /// `WriteFault` nothing is written on `out`, and with `WriteFault` a front of it. A fault of `err` while a refusal's
 /// line is written leaves the status as it is; one while the lines behind a document are written is a `WriteFault`.
-pub fn run<F: Files, W: Wire, D: Door, O: Sink, E: Sink>(
+pub fn run<F: Files, W: Wire + Send, D: Door, O: Sink, E: Sink>(
     alloc: Global,
     words: &[String],
     files: &mut F,
@@ -40,14 +47,21 @@ pub fn run<F: Files, W: Wire, D: Door, O: Sink, E: Sink>(
 ) -> Status
     requires { 0 < length wires.old }
 
-    // Each status comes with its cause alone, and with its line on `err`. With `Done` and `WriteFault`
-    // it also says what the members were asked.
-    ensures reported { OnFirst wires.old wires.new (λ wire later. (text : List ℕ) × Reports (file_read (F.seen files.old) (F.seen files.new)) (W.seen wire) (W.seen later) (D.seen door.old) (D.seen door.new) (asked (map (λ w. string_bytes w) words.now)) result text × (IsTrue E.tells_held → Gains (E.held err.old) (E.held err.new) (E.write_faults err.old) (E.write_faults err.new) text)) }
+    // The theorem: where the wires tell the graphs of the members, `Done` says that `out` gained exactly the document of the query's answer over the union of
+    // these graphs, or the text of its plan, and an endpoint is named as failed only where its count of faults rose. `local` so over the file's graph.
+    ensures headline { OnUsed (wires_used (asked (map (λ w. string_bytes w) words.now))) wires.old wires.new (λ used later. Headline (file_read (F.seen files.old) (F.seen files.new)) (wires_seen W.tells_log W.counts_alone W.seen used later) (asked (map (λ w. string_bytes w) words.now)) result (sink_written O.tells_held O.held O.write_faults out.old out.new) (sink_written E.tells_held E.held E.write_faults err.old err.new)) }
+
+    // Where besides each SERVICE is such as the command can take, nothing fails and nothing is too long, the run is done, unless memory ran out.
+    ensures completes { OnUsed (wires_used (asked (map (λ w. string_bytes w) words.now))) wires.old wires.new (λ used later. Completes (file_read (F.seen files.old) (F.seen files.new)) (wires_seen W.tells_log W.counts_alone W.seen used later) (D.seen door.old) (D.seen door.new) (asked (map (λ w. string_bytes w) words.now)) result (sink_written O.tells_held O.held O.write_faults out.old out.new) (sink_written E.tells_held E.held E.write_faults err.old err.new)) }
+
+    // Each status comes with its cause alone, and with its line on `err`, behind the lines of the connections that a member served, which are
+    // whole. Where members were asked it also says what for.
+    ensures reported { OnUsed (wires_used (asked (map (λ w. string_bytes w) words.now))) wires.old wires.new (λ used later. (lines : List ℕ) × (text : List ℕ) × Reports (file_read (F.seen files.old) (F.seen files.new)) (wires_seen W.tells_log W.counts_alone W.seen used later) (D.seen door.old) (D.seen door.new) (asked (map (λ w. string_bytes w) words.now)) result lines text × (IsTrue E.tells_held → Gains (E.held err.old ++ lines) (E.held err.new) (E.write_faults err.old) (E.write_faults err.new) text)) }
 
     // With `Done`, `out` gained exactly the document of the query's answer, over the file's graph or over the union of the
     // members' graphs, or the text of the query's plan over these graphs; with `WriteFault` a front of it; else nothing.
-    ensures written { OnFirst wires.old wires.new (λ wire _. IsTrue O.tells_held → Writes (file_read (F.seen files.old) (F.seen files.new)) (W.seen wire) (asked (map (λ w. string_bytes w) words.now)) result (O.held out.old) (O.held out.new)) }
-    ensures wired { OnFirst wires.old wires.new (λ wire later. IsAfter (W.seen wire) (W.seen later)) }
+    ensures written { IsTrue O.tells_held → Writes (file_read (F.seen files.old) (F.seen files.new)) (map W.seen (take (wires_used (asked (map (λ w. string_bytes w) words.now))) wires.old)) (asked (map (λ w. string_bytes w) words.now)) result (O.held out.old) (O.held out.new) }
+    ensures wired { AreAfter (map W.seen wires.old) (map W.seen wires.new) }
 
     // `WriteFault` comes where a write of the document failed, and then nothing was written on `err`, or where it is whole and one
     // of the lines behind it failed.
@@ -55,10 +69,10 @@ pub fn run<F: Files, W: Wire, D: Door, O: Sink, E: Sink>(
     ensures unfailed { ¬ (result ≡ Status.WriteFault) → O.write_faults out.new ≡ O.write_faults out.old }
     ensures unfailed_lines { result ≡ Status.Done → E.write_faults err.new ≡ E.write_faults err.old }
 
-    // No fault of files, of the door, and of the first wire, if it counts each address alone, is hidden: each count is as it was,
-    // or the status names the one fault, which is counted once.
+    // No fault of files and of the door is hidden: each count is as it was, or the status names the one fault, which is counted once. Where
+    // wires count each address alone, `Done` says that none was counted there.
     ensures read_faults { CountsOnly Status.ReadFault result (F.seen files.old).faults (F.seen files.new).faults }
-    ensures endpoint_faults { IsTrue W.counts_alone → OnFirst wires.old wires.new (λ wire later. CountsOnly Status.EndpointFault result (W.seen wire).faults (W.seen later).faults) }
+    ensures endpoint_faults { IsTrue W.counts_alone → result ≡ Status.Done → (address : List ℕ) → faults_at (map W.seen wires.new) address ≡ faults_at (map W.seen wires.old) address }
     ensures door_faults { CountsDoor result (D.seen door.old).faults (D.seen door.new).faults }
     ensures kept { (name : List ℕ) → (F.seen files.old).faults name ≤ (F.seen files.new).faults name }
     ensures same { (name : List ℕ) → (F.seen files.new).content name ≡ (F.seen files.old).content name }
@@ -73,11 +87,20 @@ pub fn run<F: Files, W: Wire, D: Door, O: Sink, E: Sink>(
             Status::NoMemory
         }
         Ok(Command::Local { graph, query }) => run_local(alloc, files, graph, query, out, err),
-        Ok(Command::Query { registry, query }) => {
-            run_query(alloc, files, &mut wires[0], registry, query, out, err)
+        Ok(
+            Command::Query {
+                registry,
+                query,
+                workers,
+                block,
+            },
+        ) => {
+            let (used, _) = wires.split_at_mut((workers as usize).min(wires.len()));
+            run_query(alloc, files, used, registry, query, block, out, err)
         }
         Ok(Command::Explain { registry, query }) => {
-            run_explain(alloc, files, &mut wires[0], registry, query, out, err)
+            let (used, _) = wires.split_at_mut(EXPLAIN_WIRES.min(wires.len()));
+            run_explain(alloc, files, used, registry, query, out, err)
         }
         Ok(
             Command::Member {
@@ -102,6 +125,7 @@ fn run_local<F: Files, O: Sink, E: Sink>(
     ensures write_fault { result ≡ Status.WriteFault → IsCutShort (IsAnswer (file_read (F.seen files.old) (F.seen files.new) graph.now) (file_read (F.seen files.old) (F.seen files.new) query.now)) (sink_written O.tells_held O.held O.write_faults out.old out.new) (sink_written E.tells_held E.held E.write_faults err.old err.new) }
     ensures unfailed { ¬ (result ≡ Status.WriteFault) → O.write_faults out.new ≡ O.write_faults out.old }
     ensures unfailed_lines { result ≡ Status.Done → E.write_faults err.new ≡ E.write_faults err.old }
+    ensures lines { result ≡ Status.Done → IsTrue E.tells_held → (lines : List ℕ) × IsQueryThat (file_read (F.seen files.old) (F.seen files.new) query.now) (HasLines lines) × (E.held err.new ≡ E.held err.old ++ lines) }
     ensures read_faults { CountsOnly Status.ReadFault result (F.seen files.old).faults (F.seen files.new).faults }
     ensures kept { (name : List ℕ) → (F.seen files.old).faults name ≤ (F.seen files.new).faults name }
     ensures same { (name : List ℕ) → (F.seen files.new).content name ≡ (F.seen files.old).content name }
@@ -122,6 +146,7 @@ fn write_report<O: Sink, E: Sink>(report: &Report, out: &mut O, err: &mut E) -> 
     ensures write_fault { result ≡ Status.WriteFault → IsCutShort (λ text. text ≡ report.now.document.items) (sink_written O.tells_held O.held O.write_faults out.old out.new) (sink_written E.tells_held E.held E.write_faults err.old err.new) }
     ensures unfailed { ¬ (result ≡ Status.WriteFault) → O.write_faults out.new ≡ O.write_faults out.old }
     ensures unfailed_lines { result ≡ Status.Done → E.write_faults err.new ≡ E.write_faults err.old }
+    ensures lines { result ≡ Status.Done → IsTrue E.tells_held → E.held err.new ≡ E.held err.old ++ report.now.lines.items }
 {
     if write_all(out, report.document.as_slice()).is_err() {
         return Status::WriteFault;

@@ -30,6 +30,9 @@ pub enum Ending {
 }
 
 /// Serves the graph of a file at an address, for so many connections one after another, each with a line on `err`.
+///
+/// The next connection is taken only where the lines of those before it are whole. Where one can't be written, a front of it is the
+/// last that is written, and serving ends with `WriteFault`.
 pub fn run_member<F: Files, D: Door, E: Sink>(
     alloc: Global,
     files: &mut F,
@@ -39,7 +42,7 @@ pub fn run_member<F: Files, D: Door, E: Sink>(
     count: u64,
     err: &mut E,
 ) -> Status
-    ensures reported { (text : List ℕ) × IsMemberReported (file_read (F.seen files.old) (F.seen files.new) graph.now) (D.seen door.old) (D.seen door.new) address.now count result text × (IsTrue E.tells_held → Gains (E.held err.old) (E.held err.new) (E.write_faults err.old) (E.write_faults err.new) text) }
+    ensures reported { (lines : List ℕ) × (last : List ℕ) × IsMemberReported (file_read (F.seen files.old) (F.seen files.new) graph.now) (D.seen door.old) (D.seen door.new) address.now count result lines last × (IsTrue E.tells_held → Gains (E.held err.old ++ lines) (E.held err.new) (E.write_faults err.old) (E.write_faults err.new) last) }
     ensures write_fault { result ≡ Status.WriteFault → HasRisen (E.write_faults err.old) (E.write_faults err.new) }
     ensures unfailed_lines { result ≡ Status.Done → E.write_faults err.new ≡ E.write_faults err.old }
     ensures door_faults { CountsDoor result (D.seen door.old).faults (D.seen door.new).faults }
@@ -66,7 +69,7 @@ fn serve_store<D: Door, E: Sink>(
     count: u64,
     err: &mut E,
 ) -> Status
-    ensures reported { (text : List ℕ) × IsServingReported (D.seen door.old) (D.seen door.new) address.now count store.now result text × (IsTrue E.tells_held → Gains (E.held err.old) (E.held err.new) (E.write_faults err.old) (E.write_faults err.new) text) }
+    ensures reported { (lines : List ℕ) × (last : List ℕ) × IsServingReported (D.seen door.old) (D.seen door.new) address.now count store.now result lines last × (IsTrue E.tells_held → Gains (E.held err.old ++ lines) (E.held err.new) (E.write_faults err.old) (E.write_faults err.new) last) }
     ensures write_fault { result ≡ Status.WriteFault → HasRisen (E.write_faults err.old) (E.write_faults err.new) }
     ensures unfailed_lines { result ≡ Status.Done → E.write_faults err.new ≡ E.write_faults err.old }
     ensures door_faults { CountsDoor result (D.seen door.old).faults (D.seen door.new).faults }
@@ -88,7 +91,7 @@ fn serve<D: Door, E: Sink>(
     err: &mut E,
 ) -> Status
     requires { IsTrue (D.seen door.old).tells → (D.seen door.old).started ≡ Some address.now }
-    ensures reported { (text : List ℕ) × IsServingReported (D.seen door.old) (D.seen door.new) address.now count store.now result text × (IsTrue E.tells_held → Gains (E.held err.old) (E.held err.new) (E.write_faults err.old) (E.write_faults err.new) text) }
+    ensures reported { (lines : List ℕ) × (last : List ℕ) × IsServingReported (D.seen door.old) (D.seen door.new) address.now count store.now result lines last × (IsTrue E.tells_held → Gains (E.held err.old ++ lines) (E.held err.new) (E.write_faults err.old) (E.write_faults err.new) last) }
     ensures write_fault { result ≡ Status.WriteFault → HasRisen (E.write_faults err.old) (E.write_faults err.new) }
     ensures unfailed_lines { result ≡ Status.Done → E.write_faults err.new ≡ E.write_faults err.old }
     ensures door_faults { CountsDoor result (D.seen door.old).faults (D.seen door.new).faults }

@@ -137,24 +137,24 @@ module _ (endpoints : List EndpointParts) (block : ℕ) (parts : List Part) (nex
   -- ---- what was asked for
 
   module _ (tells alone : Bool) where
-    pub groups_begun : (wires : List Seen) (rows : List Bindings) → rows ≡ [] → Asked tells alone wires wires endpoints (units_in parts) (SoFar next gs) (AlternativesDue endpoints block parts next gs) (Ok rows)
-    groups_begun wires rows none = given_unasked tells alone endpoints (units_in parts) (SoFar next gs) (AlternativesDue endpoints block parts next gs) wires rows (λ graphs. at_begin graphs rows none)
+    pub groups_begun : (wires : List Seen) (rows : List Bindings) → rows ≡ [] → Asked tells alone wires wires endpoints (units_in parts) block (SoFar next gs) (AlternativesDue endpoints block parts next gs) (Ok rows)
+    groups_begun wires rows none = given_unasked tells alone endpoints (units_in parts) block (SoFar next gs) (AlternativesDue endpoints block parts next gs) wires rows (λ graphs. at_begin graphs rows none)
 
     module _ (before between : List Seen) (later : ℕ) (rows : List Bindings) (left : List Group)
-        (so : Asked tells alone before between endpoints (units_in parts) (SoFar later left) (AlternativesDue endpoints block parts next gs) (Ok rows)) where
-      pub groups_ended : left ≡ [] → Asked tells alone before between endpoints (units_in parts) (AlternativesGiven endpoints block parts next later gs) (AlternativesDue endpoints block parts next gs) (Ok rows)
+        (so : Asked tells alone before between endpoints (units_in parts) block (SoFar later left) (AlternativesDue endpoints block parts next gs) (Ok rows)) where
+      pub groups_ended : left ≡ [] → Asked tells alone before between endpoints (units_in parts) block (AlternativesGiven endpoints block parts next later gs) (AlternativesDue endpoints block parts next gs) (Ok rows)
       groups_ended none =
-          given_as tells alone endpoints (units_in parts) before between (SoFar later left) (AlternativesDue endpoints block parts next gs) (AlternativesGiven endpoints block parts next later gs) (AlternativesDue endpoints block parts next gs) rows rows
+          given_as tells alone endpoints (units_in parts) block before between (SoFar later left) (AlternativesDue endpoints block parts next gs) (AlternativesGiven endpoints block parts next later gs) (AlternativesDue endpoints block parts next gs) rows rows
           (λ graphs wanted s. at_end graphs left none later wanted rows s) so
 
       module _ (after : List Seen) (a : AllTell tells before) (b : AllTell tells between) (last : ℕ) (g : Group) (others : List Group) (is_left : left ≡ g ∷ others) (none : (group_of g).services ≡ 0) where
         pub groups_more : (found all : List Bindings) → all ≡ rows ++ found
-            → Asked tells alone between after endpoints (units_in parts) (GroupGiven endpoints block parts later last g) (GroupDue endpoints block parts later g) (Ok found)
-            → Asked tells alone before after endpoints (units_in parts) (SoFar last others) (AlternativesDue endpoints block parts next gs) (Ok all)
+            → Asked tells alone between after endpoints (units_in parts) block (GroupGiven endpoints block parts later last g) (GroupDue endpoints block parts later g) (Ok found)
+            → Asked tells alone before after endpoints (units_in parts) block (SoFar last others) (AlternativesDue endpoints block parts next gs) (Ok all)
         groups_more found all is h =
-            given_as tells alone endpoints (units_in parts) before after (λ graphs wanted more. SoFar last others graphs wanted (rows ++ more)) (AlternativesDue endpoints block parts next gs) (SoFar last others) (AlternativesDue endpoints block parts next gs) found all
+            given_as tells alone endpoints (units_in parts) block before after (λ graphs wanted more. SoFar last others graphs wanted (rows ++ more)) (AlternativesDue endpoints block parts next gs) (SoFar last others) (AlternativesDue endpoints block parts next gs) found all
             (λ graphs wanted s. subst (SoFar last others graphs wanted) (sym is) s)
-            (asked_behind tells alone endpoints (units_in parts) before between after a b (SoFar later left) (AlternativesDue endpoints block parts next gs) (GroupGiven endpoints block parts later last g) (GroupDue endpoints block parts later g)
+            (asked_behind tells alone endpoints (units_in parts) block before between after a b (SoFar later left) (AlternativesDue endpoints block parts next gs) (GroupGiven endpoints block parts later last g) (GroupDue endpoints block parts later g)
             (λ graphs wanted more. SoFar last others graphs wanted (rows ++ more)) (AlternativesDue endpoints block parts next gs) rows (Ok found)
             (λ graphs own more y s k. at_next g others left is_left none graphs later last own more rows y s k)
             (λ graphs own more s k. due_next g others left is_left none graphs later own more rows s k) so h)
@@ -166,23 +166,23 @@ module _ (endpoints : List EndpointParts) (block : ℕ) (parts : List Part) (nex
             (c.goes_on [] (nothing_sent_of endpoints graphs block (alternative_stations (map group_of others) 0) (alternative_seeds (map group_of others) (union graphs) 0) (groups_are_even others (union graphs) 0 0)))
 
         pub groups_lost : (found : List Bindings)
-            → Asked tells alone between after endpoints (units_in parts) (GroupGiven endpoints block parts later last g) (GroupDue endpoints block parts later g) (Ok found)
-            → Asked {X = List Bindings} tells alone before after endpoints (units_in parts) (AlternativesGiven endpoints block parts next last gs) (AlternativesDue endpoints block parts next gs) (Err flow.Memory)
+            → Asked tells alone between after endpoints (units_in parts) block (GroupGiven endpoints block parts later last g) (GroupDue endpoints block parts later g) (Ok found)
+            → Asked {X = List Bindings} tells alone before after endpoints (units_in parts) block (AlternativesGiven endpoints block parts next last gs) (AlternativesDue endpoints block parts next gs) (Err flow.Memory)
         groups_lost found h =
-            lost_behind tells alone endpoints (units_in parts) before after (λ graphs wanted more. SoFar last others graphs wanted (rows ++ more)) (AlternativesDue endpoints block parts next gs) (AlternativesGiven endpoints block parts next last gs) (AlternativesDue endpoints block parts next gs) found
+            lost_behind tells alone endpoints (units_in parts) block before after (λ graphs wanted more. SoFar last others graphs wanted (rows ++ more)) (AlternativesDue endpoints block parts next gs) (AlternativesGiven endpoints block parts next last gs) (AlternativesDue endpoints block parts next gs) found
             (λ graphs wanted s. due_so graphs wanted found s)
-            (asked_behind tells alone endpoints (units_in parts) before between after a b (SoFar later left) (AlternativesDue endpoints block parts next gs) (GroupGiven endpoints block parts later last g) (GroupDue endpoints block parts later g)
+            (asked_behind tells alone endpoints (units_in parts) block before between after a b (SoFar later left) (AlternativesDue endpoints block parts next gs) (GroupGiven endpoints block parts later last g) (GroupDue endpoints block parts later g)
             (λ graphs wanted more. SoFar last others graphs wanted (rows ++ more)) (AlternativesDue endpoints block parts next gs) rows (Ok found)
             (λ graphs own more y s k. at_next g others left is_left none graphs later last own more rows y s k)
             (λ graphs own more s k. due_next g others left is_left none graphs later own more rows s k) so h)
 
         pub groups_refused : (why : FlowError)
-            → Asked {X = List Bindings} tells alone between after endpoints (units_in parts) (GroupGiven endpoints block parts later last g) (GroupDue endpoints block parts later g) (Err why)
-            → Asked {X = List Bindings} tells alone before after endpoints (units_in parts) (AlternativesGiven endpoints block parts next last gs) (AlternativesDue endpoints block parts next gs) (Err why)
+            → Asked {X = List Bindings} tells alone between after endpoints (units_in parts) block (GroupGiven endpoints block parts later last g) (GroupDue endpoints block parts later g) (Err why)
+            → Asked {X = List Bindings} tells alone before after endpoints (units_in parts) block (AlternativesGiven endpoints block parts next last gs) (AlternativesDue endpoints block parts next gs) (Err why)
         groups_refused why h =
-            refused_as tells alone endpoints (units_in parts) before after (λ graphs wanted more. SoFar last others graphs wanted (rows ++ more)) (AlternativesDue endpoints block parts next gs) (AlternativesGiven endpoints block parts next last gs) (AlternativesDue endpoints block parts next gs) why
+            refused_as tells alone endpoints (units_in parts) block before after (λ graphs wanted more. SoFar last others graphs wanted (rows ++ more)) (AlternativesDue endpoints block parts next gs) (AlternativesGiven endpoints block parts next last gs) (AlternativesDue endpoints block parts next gs) why
             (λ graphs wanted due. due)
-            (asked_behind tells alone endpoints (units_in parts) before between after a b (SoFar later left) (AlternativesDue endpoints block parts next gs) (GroupGiven endpoints block parts later last g) (GroupDue endpoints block parts later g)
+            (asked_behind tells alone endpoints (units_in parts) block before between after a b (SoFar later left) (AlternativesDue endpoints block parts next gs) (GroupGiven endpoints block parts later last g) (GroupDue endpoints block parts later g)
             (λ graphs wanted more. SoFar last others graphs wanted (rows ++ more)) (AlternativesDue endpoints block parts next gs) rows (Err why)
             (λ graphs own more y s k. at_next g others left is_left none graphs later last own more rows y s k)
             (λ graphs own more s k. due_next g others left is_left none graphs later own more rows s k) so h)

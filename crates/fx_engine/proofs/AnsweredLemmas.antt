@@ -67,12 +67,12 @@ module _ (endpoints : List EndpointParts) (block : ℕ) (parts : List Part) (q :
 pub answered : (tells one : Bool) (endpoints : List EndpointParts) (us : List unit.Unit) (block : ℕ) (parts : List Part) (q : Query) (later : ℕ) (before after : List Seen) (rows : List Bindings) (r : Result Answer FlowError)
     → IfOk r (IsFromRows q rows)
     → IfErr r (λ e. e ≡ flow.Memory)
-    → Asked tells one before after endpoints us (GroupGiven endpoints block parts 0 later q.group) (GroupDue endpoints block parts 0 q.group) (Ok rows)
-    → Asked tells one before after endpoints us (AnswerGiven endpoints block parts q) (AnswerDue endpoints block parts q) r
+    → Asked tells one before after endpoints us block (GroupGiven endpoints block parts 0 later q.group) (GroupDue endpoints block parts 0 q.group) (Ok rows)
+    → Asked tells one before after endpoints us block (AnswerGiven endpoints block parts q) (AnswerDue endpoints block parts q) r
 answered tells one endpoints us block parts q later before after rows (Ok answer) from memory h =
-    given_as tells one endpoints us before after (GroupGiven endpoints block parts 0 later q.group) (GroupDue endpoints block parts 0 q.group) (AnswerGiven endpoints block parts q) (AnswerDue endpoints block parts q) rows answer
+    given_as tells one endpoints us block before after (GroupGiven endpoints block parts 0 later q.group) (GroupDue endpoints block parts 0 q.group) (AnswerGiven endpoints block parts q) (AnswerDue endpoints block parts q) rows answer
     (λ graphs wanted g. answer_given endpoints block parts q later graphs wanted rows answer g from) h
 answered tells one endpoints us block parts q later before after rows (Err e) from memory h =
-    subst (λ (why : FlowError). Asked {X = Answer} tells one before after endpoints us (AnswerGiven endpoints block parts q) (AnswerDue endpoints block parts q) (Err why)) (sym memory)
-    (lost_behind tells one endpoints us before after (GroupGiven endpoints block parts 0 later q.group) (GroupDue endpoints block parts 0 q.group) (AnswerGiven endpoints block parts q) (AnswerDue endpoints block parts q) rows
+    subst (λ (why : FlowError). Asked {X = Answer} tells one before after endpoints us block (AnswerGiven endpoints block parts q) (AnswerDue endpoints block parts q) (Err why)) (sym memory)
+    (lost_behind tells one endpoints us block before after (GroupGiven endpoints block parts 0 later q.group) (GroupDue endpoints block parts 0 q.group) (AnswerGiven endpoints block parts q) (AnswerDue endpoints block parts q) rows
     (λ graphs wanted g. group_was_due endpoints block parts q later graphs wanted rows g) h)

@@ -1,5 +1,6 @@
 -- What asking over several wires leaves of them: nothing asked for, one call after the other, and what is given or lost in the end.
 use Rattle.std.proofs.Common.{◌≡◌, sym, subst, refl, ℕ, ◌+◌, ◌<◌, ◌≤◌, Bool, List, [], ◌++◌, IfErr, IfOk, Result, Ok, Err, Contains, IsPermutation, arith}
+use Rattle.std.proofs.lemmas.List.Elements.{All-append, All-nil}
 use Rattle.std.proofs.lemmas.List.Sorted.{Contains-permutation, IsPermutation-refl}
 use Rattle.std.specs.declared.alloc.Global.{Global}
 use Rattle.std.specs.declared.vec.Vec.{Vec}
@@ -10,6 +11,7 @@ use Rattle.fx_algebra.specs.Solutions.{Bindings}
 use Rattle.fx_algebra.specs.declared.units.Unit as unit
 use Rattle.fx_algebra.proofs.MemberLemmas.{among_right}
 use Rattle.fx_bound.specs.Parts.{Parts}
+use Rattle.fx_traffic.specs.Batches.{IsBatchText}
 use Rattle.fx_traffic.specs.Gains.{AreAfter, Tell, faults_at}
 use Rattle.fx_traffic.specs.Sent.{Sent}
 use Rattle.fx_traffic.proofs.GainLemmas.{gain_laws}
@@ -73,12 +75,13 @@ module _ (before between after : List Seen) (h : AreAfter before between) (xs al
   cause_behind e p (flow.RequestTooLong at size) k = k
   cause_behind e p flow.Memory k = tt
 
-  module _ (endpoints : List EndpointParts) (us : List unit.Unit) (own wanted : List Sent) where
-    its_cause : (why : FlowError) → IsFlowCause between after endpoints us wanted xs why → IsFlowCause before after endpoints us (own ++ wanted) all why
+  module _ (endpoints : List EndpointParts) (us : List unit.Unit) (block : ℕ) (own wanted : List Sent) where
+    its_cause : (why : FlowError) → IsFlowCause between after endpoints us block wanted xs why → IsFlowCause before after endpoints us block (own ++ wanted) all why
     its_cause why k = record {
       unit = k.unit;
       of_run = k.of_run;
       batch = k.batch;
+      sized = k.sized;
       allowed = λ x m. contains_from (own ++ wanted) x (among_right x own wanted (among_from wanted x (k.allowed x m)));
       at = k.at;
       member = k.member;
@@ -88,7 +91,7 @@ module _ (before between after : List Seen) (h : AreAfter before between) (xs al
       cause = cause_behind k.endpoint (record { unit = k.unit; rows = k.batch }) why k.cause;
     }
 
-    pub flow_cause_behind : (why : FlowError) → HasFlowCause between after endpoints us wanted xs why → HasFlowCause before after endpoints us (own ++ wanted) all why
+    pub flow_cause_behind : (why : FlowError) → HasFlowCause between after endpoints us block wanted xs why → HasFlowCause before after endpoints us block (own ++ wanted) all why
     flow_cause_behind (flow.Member at) k = its_cause (flow.Member at) k
     flow_cause_behind (flow.BadReply at bad) k = its_cause (flow.BadReply at bad) k
     flow_cause_behind (flow.RequestTooLong at size) k = its_cause (flow.RequestTooLong at size) k
@@ -102,9 +105,9 @@ Of X = List (List Triple) → List Sent → X → Type 0
 abbrev Alone : Type 1
 Alone = List (List Triple) → List Sent → Type 0
 
-module _ (tells alone : Bool) (endpoints : List EndpointParts) (us : List unit.Unit) where
+module _ (tells alone : Bool) (endpoints : List EndpointParts) (us : List unit.Unit) (block : ℕ) where
   -- nothing was, and something is given
-  pub given_unasked : {X : Type 0} (Given : Of X) (Due : Alone) (wires : List Seen) (x : X) → ((graphs : List (List Triple)) → Given graphs [] x) → Asked tells alone wires wires endpoints us Given Due (Ok x)
+  pub given_unasked : {X : Type 0} (Given : Of X) (Due : Alone) (wires : List Seen) (x : X) → ((graphs : List (List Triple)) → Given graphs [] x) → Asked tells alone wires wires endpoints us block Given Due (Ok x)
   given_unasked Given Due wires x f = record {
     exchanges = [];
     failed = 0;
@@ -114,12 +117,13 @@ module _ (tells alone : Bool) (endpoints : List EndpointParts) (us : List unit.U
     wanted = [];
     left = [];
     sent = IsPermutation-refl [];
+    of_batches = All-nil (IsBatchText endpoints block (Contains us));
     known = λ graphs told. f graphs;
     cause = tt;
   }
 
   -- nothing was, for want of memory
-  pub unasked : {X : Type 0} (Given : Of X) (Due : Alone) (wires : List Seen) → ((graphs : List (List Triple)) → Due graphs []) → Asked {X = X} tells alone wires wires endpoints us Given Due (Err flow.Memory)
+  pub unasked : {X : Type 0} (Given : Of X) (Due : Alone) (wires : List Seen) → ((graphs : List (List Triple)) → Due graphs []) → Asked {X = X} tells alone wires wires endpoints us block Given Due (Err flow.Memory)
   unasked Given Due wires f = record {
     exchanges = [];
     failed = 0;
@@ -129,6 +133,7 @@ module _ (tells alone : Bool) (endpoints : List EndpointParts) (us : List unit.U
     wanted = [];
     left = [];
     sent = IsPermutation-refl [];
+    of_batches = All-nil (IsBatchText endpoints block (Contains us));
     known = λ graphs told. f graphs;
     cause = tt;
   }
@@ -136,7 +141,7 @@ module _ (tells alone : Bool) (endpoints : List EndpointParts) (us : List unit.U
   module _ (before after : List Seen) where
     -- what is given is made into something else
     pub given_as : {X Y : Type 0} (Given : Of X) (Due : Alone) (Given_also : Of Y) (Due_also : Alone) (x : X) (y : Y) → ((graphs : List (List Triple)) (wanted : List Sent) → Given graphs wanted x → Given_also graphs wanted y)
-        → Asked tells alone before after endpoints us Given Due (Ok x) → Asked tells alone before after endpoints us Given_also Due_also (Ok y)
+        → Asked tells alone before after endpoints us block Given Due (Ok x) → Asked tells alone before after endpoints us block Given_also Due_also (Ok y)
     given_as Given Due Given_also Due_also x y f h = record {
       exchanges = h.exchanges;
       failed = h.failed;
@@ -146,13 +151,14 @@ module _ (tells alone : Bool) (endpoints : List EndpointParts) (us : List unit.U
       wanted = h.wanted;
       left = h.left;
       sent = h.sent;
+      of_batches = h.of_batches;
       known = λ graphs told. f graphs h.wanted (h.known graphs told);
       cause = tt;
     }
 
     -- it is lost for want of memory
     pub lost_behind : {X Y : Type 0} (Given : Of X) (Due : Alone) (Given_also : Of Y) (Due_also : Alone) (x : X) → ((graphs : List (List Triple)) (wanted : List Sent) → Given graphs wanted x → Due_also graphs wanted)
-        → Asked tells alone before after endpoints us Given Due (Ok x) → Asked {X = Y} tells alone before after endpoints us Given_also Due_also (Err flow.Memory)
+        → Asked tells alone before after endpoints us block Given Due (Ok x) → Asked {X = Y} tells alone before after endpoints us block Given_also Due_also (Err flow.Memory)
     lost_behind Given Due Given_also Due_also x f h = record {
       exchanges = h.exchanges;
       failed = h.failed;
@@ -162,13 +168,14 @@ module _ (tells alone : Bool) (endpoints : List EndpointParts) (us : List unit.U
       wanted = h.wanted;
       left = h.left;
       sent = h.sent;
+      of_batches = h.of_batches;
       known = λ graphs told. f graphs h.wanted (h.known graphs told);
       cause = tt;
     }
 
     -- a refusal is handed on
     pub refused_as : {X Y : Type 0} (Given : Of X) (Due : Alone) (Given_also : Of Y) (Due_also : Alone) (why : FlowError) → ((graphs : List (List Triple)) (wanted : List Sent) → Due graphs wanted → Due_also graphs wanted)
-        → Asked {X = X} tells alone before after endpoints us Given Due (Err why) → Asked {X = Y} tells alone before after endpoints us Given_also Due_also (Err why)
+        → Asked {X = X} tells alone before after endpoints us block Given Due (Err why) → Asked {X = Y} tells alone before after endpoints us block Given_also Due_also (Err why)
     refused_as Given Due Given_also Due_also why f h = record {
       exchanges = h.exchanges;
       failed = h.failed;
@@ -178,6 +185,7 @@ module _ (tells alone : Bool) (endpoints : List EndpointParts) (us : List unit.U
       wanted = h.wanted;
       left = h.left;
       sent = h.sent;
+      of_batches = h.of_batches;
       known = λ graphs told. f graphs h.wanted (h.known graphs told);
       cause = h.cause;
     }
@@ -187,9 +195,9 @@ module _ (tells alone : Bool) (endpoints : List EndpointParts) (us : List unit.U
     pub asked_behind : {X Y : Type 0} (Given : Of X) (Due : Alone) (Given_next : Of Y) (Due_next : Alone) (Given_both : Of Y) (Due_both : Alone) (x : X) (r : Result Y FlowError)
         → ((graphs : List (List Triple)) (own more : List Sent) (y : Y) → Given graphs own x → Given_next graphs more y → Given_both graphs (own ++ more) y)
         → ((graphs : List (List Triple)) (own more : List Sent) → Given graphs own x → Due_next graphs more → Due_both graphs (own ++ more))
-        → Asked tells alone before between endpoints us Given Due (Ok x)
-        → Asked tells alone between after endpoints us Given_next Due_next r
-        → Asked tells alone before after endpoints us Given_both Due_both r
+        → Asked tells alone before between endpoints us block Given Due (Ok x)
+        → Asked tells alone between after endpoints us block Given_next Due_next r
+        → Asked tells alone before after endpoints us block Given_both Due_both r
     asked_behind {X} {Y} Given Due Given_next Due_next Given_both Due_both x r f d h k =
         let none : Went tells alone 0 before between h.exchanges = subst (λ (n : ℕ). Went tells alone n before between h.exchanges) h.unfailed h.went in
         let both = went_both tells alone k.failed before between after h.exchanges k.exchanges a b none k.went in
@@ -202,6 +210,7 @@ module _ (tells alone : Bool) (endpoints : List EndpointParts) (us : List unit.U
           wanted = h.wanted ++ k.wanted;
           left = h.left ++ k.left;
           sent = sent_laws.any_order (h.wanted ++ k.wanted) (h.left ++ k.left) (h.exchanges ++ k.exchanges) both.all both.same (sent_laws.together h.wanted h.left k.wanted k.left h.exchanges k.exchanges h.sent k.sent);
+          of_batches = All-append (IsBatchText endpoints block (Contains us)) h.wanted k.wanted h.of_batches k.of_batches;
           known = λ graphs told. known r graphs (h.known graphs told) (k.known graphs (still_tell_all before between none.after_all endpoints graphs told));
           cause = cause both.all both.same r k.cause;
         }
@@ -210,12 +219,12 @@ module _ (tells alone : Bool) (endpoints : List EndpointParts) (us : List unit.U
         known (Ok y) graphs g n = f graphs h.wanted k.wanted y g n
         known (Err why) graphs g n = d graphs h.wanted k.wanted g n
 
-        cause : (all : List Exchange) → IsPermutation (h.exchanges ++ k.exchanges) all → (o : Result Y FlowError) → IfErr o (HasFlowCause between after endpoints us k.wanted k.exchanges) → IfErr o (HasFlowCause before after endpoints us (h.wanted ++ k.wanted) all)
+        cause : (all : List Exchange) → IsPermutation (h.exchanges ++ k.exchanges) all → (o : Result Y FlowError) → IfErr o (HasFlowCause between after endpoints us block k.wanted k.exchanges) → IfErr o (HasFlowCause before after endpoints us block (h.wanted ++ k.wanted) all)
         cause all same (Ok y) c = tt
         cause all same (Err why) c =
             flow_cause_behind before between after h.went.after_all k.exchanges all
             (λ x m. Contains-permutation (h.exchanges ++ k.exchanges) all x same (contains_from (h.exchanges ++ k.exchanges) x (among_right x h.exchanges k.exchanges (among_from k.exchanges x m))))
-            endpoints us h.wanted k.wanted why c
+            endpoints us block h.wanted k.wanted why c
 
   -- something is made of what is given, unless memory lacks
   pub made_of : {X : Type 0} (Given : Of X) (Due : Alone) (Given_also : Of (List Bindings)) (Due_also : Alone) (P : List Bindings → Type 0) (before after : List Seen) (x : X) (r : Result (Vec Bindings Global) FlowError)
@@ -223,11 +232,11 @@ module _ (tells alone : Bool) (endpoints : List EndpointParts) (us : List unit.U
       → IfErr r (λ e. e ≡ flow.Memory)
       → ((graphs : List (List Triple)) (wanted : List Sent) (rows : List Bindings) → Given graphs wanted x → P rows → Given_also graphs wanted rows)
       → ((graphs : List (List Triple)) (wanted : List Sent) → Given graphs wanted x → Due_also graphs wanted)
-      → Asked tells alone before after endpoints us Given Due (Ok x)
-      → Asked tells alone before after endpoints us Given_also Due_also (solutions_in r)
+      → Asked tells alone before after endpoints us block Given Due (Ok x)
+      → Asked tells alone before after endpoints us block Given_also Due_also (solutions_in r)
   made_of Given Due Given_also Due_also P before after x (Ok rows) given memory f d h = given_as before after Given Due Given_also Due_also x rows.items (λ graphs wanted g. f graphs wanted rows.items g given) h
   made_of {X} Given Due Given_also Due_also P before after x (Err e) given memory f d h =
-      subst (λ (why : FlowError). Asked {X = List Bindings} tells alone before after endpoints us Given_also Due_also (Err why)) (sym memory) (lost_behind before after Given Due Given_also Due_also x d h)
+      subst (λ (why : FlowError). Asked {X = List Bindings} tells alone before after endpoints us block Given_also Due_also (Err why)) (sym memory) (lost_behind before after Given Due Given_also Due_also x d h)
 
   -- so it is where nothing was asked for
   pub made_unasked : (Given : Of (List Bindings)) (Due : Alone) (P : List Bindings → Type 0) (wires : List Seen) (r : Result (Vec Bindings Global) FlowError)
@@ -235,6 +244,6 @@ module _ (tells alone : Bool) (endpoints : List EndpointParts) (us : List unit.U
       → IfErr r (λ e. e ≡ flow.Memory)
       → ((graphs : List (List Triple)) (rows : List Bindings) → P rows → Given graphs [] rows)
       → ((graphs : List (List Triple)) → Due graphs [])
-      → Asked tells alone wires wires endpoints us Given Due (solutions_in r)
+      → Asked tells alone wires wires endpoints us block Given Due (solutions_in r)
   made_unasked Given Due P wires (Ok rows) given memory f d = given_unasked Given Due wires rows.items (λ graphs. f graphs rows.items given)
-  made_unasked Given Due P wires (Err e) given memory f d = subst (λ (why : FlowError). Asked {X = List Bindings} tells alone wires wires endpoints us Given Due (Err why)) (sym memory) (unasked Given Due wires d)
+  made_unasked Given Due P wires (Err e) given memory f d = subst (λ (why : FlowError). Asked {X = List Bindings} tells alone wires wires endpoints us block Given Due (Err why)) (sym memory) (unasked Given Due wires d)

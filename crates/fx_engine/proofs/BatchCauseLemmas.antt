@@ -18,8 +18,10 @@ use Rattle.fx_plan.proofs.LawLemmas.{units_are_of_the_run}
 use Rattle.fx_sources.specs.Patterns.{patterns}
 use Rattle.fx_sources.specs.Probes.{Entry, chosen, key_of, members_of}
 use Rattle.fx_spelling.specs.Units.{IsFit}
+use Rattle.fx_traffic.specs.Batches.{IsBatchText}
 use Rattle.fx_traffic.specs.Gains.{AreAfter, Tell}
 use Rattle.fx_traffic.specs.Sent.{Sent}
+use Rattle.fx_traffic.proofs.TextLemmas.{texts_of_more}
 use Rattle.fx_wire.specs.Exchanges.{Exchange, Seen}
 use Rattle.fx_pool.specs.Flows.{IsBadBatch, IsLongBatch}
 use Rattle.fx_pool.specs.RunFlows.{HasFlowCause, IsFlowCause}
@@ -27,7 +29,7 @@ use Rattle.fx_pool.specs.declared.flows.FlowError.{FlowError}
 use Rattle.fx_pool.specs.declared.flows.FlowError.TheVariants as flow
 use Rattle.fx_pool.specs.declared.jobs.BadReply.{BadReply}
 use Rattle.fx_engine.specs.GroupsAsked.{CanBeAsked, part_units, units_in}
-use Rattle.fx_engine.specs.Mediation.{HasFedCause, IsBatchFor, IsNamed, IsPlaced}
+use Rattle.fx_engine.specs.Mediation.{HasFedCause, IsBatchFor, IsNamed, IsPlaced, IsUnitOf}
 use Rattle.fx_engine.specs.Sections.{part_with, parts_by, run_patterns, sections}
 use Rattle.fx_engine.specs.declared.mediator.FedError.{FedError}
 use Rattle.fx_engine.specs.declared.mediator.FedError.TheVariants as fed
@@ -87,6 +89,17 @@ units_fit : (n : ℕ) (parts : List Part) → AllByRecursion (CanBeAsked n) part
 units_fit n [] h = tt
 units_fit n (p ∷ parts) h = all_both IsFit (part_units p) (units_in parts) (part_fit n p h.0) (units_fit n parts h.1)
 
+module _ (es : List EndpointParts) (q : Query) (n : ℕ) (entries : List Entry) (parts : List Part) (are : parts ≡ parts_by (sections q) (chosen q n entries)) (can : All (CanBeAsked (length es)) parts) where
+  unit_of_query : (u : unit.Unit) → Contains (units_in parts) u → IsUnitOf q u
+  unit_of_query u its = record {
+    fit = All-contains IsFit (units_in parts) u (All-from_recursion IsFit (units_in parts) (units_fit (length es) parts (recursion_from_All (CanBeAsked (length es)) parts can))) its;
+    of_query = All-contains (λ u. All (Contains (patterns q)) u.patterns) (units_in parts) u (subst (λ (v : List Part). All (λ u. All (Contains (patterns q)) u.patterns) (units_in v)) (sym are) (units_have_patterns q n entries)) its;
+  }
+
+  -- so the texts of their batches are of the query
+  pub texts_of_query : (block : ℕ) (xs : List Sent) → All (IsBatchText es block (Contains (units_in parts))) xs → All (IsBatchText es block (IsUnitOf q)) xs
+  texts_of_query block xs h = texts_of_more es block (Contains (units_in parts)) (IsUnitOf q) unit_of_query xs h
+
 -- ---- the cause
 
 some_pattern : (q : Query) (u : unit.Unit) → IsFit u → All (Contains (patterns q)) u.patterns → 0 < length (patterns q)
@@ -100,22 +113,15 @@ some_pattern q u fit of = by u.patterns fit.some (recursion_from_All (Contains (
     by [] some h = absurd (omega arith)
     by (p ∷ ps) some h = more (patterns q) p (among_from (patterns q) p h.0)
 
-module _ (es : List EndpointParts) (q : Query) (old : List Entry) (n : ℕ) (entries : List Entry) (parts : List Part) (are : parts ≡ parts_by (sections q) (chosen q n entries)) (can : All (CanBeAsked (length es)) parts) (s t : List Seen) (xs : List Exchange) (wanted : List Sent) where
-  batch_for : (why : FlowError) (k : IsFlowCause s t es (units_in parts) wanted xs why) → IsBatchFor es q k.endpoint k.unit k.batch
-  batch_for why k = record {
-    fit = All-contains IsFit (units_in parts) k.unit (All-from_recursion IsFit (units_in parts) (units_fit (length es) parts (recursion_from_All (CanBeAsked (length es)) parts can))) k.of_run;
-    of_query =
-        All-contains (λ u. All (Contains (patterns q)) u.patterns) (units_in parts) k.unit (subst (λ (v : List Part). All (λ u. All (Contains (patterns q)) u.patterns) (units_in v)) (sym are) (units_have_patterns q n entries)) k.of_run;
-    at = k.at;
-    member = k.member;
-    found = k.found;
-  }
+module _ (es : List EndpointParts) (q : Query) (old : List Entry) (n : ℕ) (entries : List Entry) (parts : List Part) (are : parts ≡ parts_by (sections q) (chosen q n entries)) (can : All (CanBeAsked (length es)) parts) (block : ℕ) (s t : List Seen) (xs : List Exchange) (wanted : List Sent) where
+  batch_for : (why : FlowError) (k : IsFlowCause s t es (units_in parts) block wanted xs why) → IsBatchFor es q block k.endpoint k.unit k.batch
+  batch_for why k = record { of_query = unit_of_query es q n entries parts are can k.unit k.of_run; sized = k.sized; at = k.at; member = k.member; found = k.found }
 
-  named_batch_cause : (why : FlowError) (e : FedError) → IsFlowCause s t es (units_in parts) wanted xs why → IsNamed es why e → HasFedCause s t es q old wanted xs e
+  named_batch_cause : (why : FlowError) (e : FedError) → IsFlowCause s t es (units_in parts) block wanted xs why → IsNamed es why e → HasFedCause s t es q old wanted xs block e
   named_batch_cause why fed.Memory k n = tt
   named_batch_cause (flow.Member at) (fed.Member name) k n =
       let b = batch_for (flow.Member at) k in
-      (some_pattern q k.unit b.fit b.of_query, (k.endpoint, found_here es k.at k.endpoint k.found, its_name es k.at at k.endpoint name k.named k.found n, k.cause))
+      (some_pattern q k.unit b.of_query.fit b.of_query.of_query, (k.endpoint, found_here es k.at k.endpoint k.found, its_name es k.at at k.endpoint name k.named k.found n, k.cause))
   named_batch_cause (flow.BadReply at bad) (fed.BadReply name other) k n =
       let is : IsBadBatch (Tell s k.endpoint.iri) k.endpoint (record { unit = k.unit; rows = k.batch }) xs other = subst (λ (b : BadReply). IsBadBatch (Tell s k.endpoint.iri) k.endpoint (record { unit = k.unit; rows = k.batch }) xs b) (sym n.1) k.cause in (
         k.endpoint,
@@ -139,7 +145,7 @@ module _ (es : List EndpointParts) (q : Query) (old : List Entry) (n : ℕ) (ent
   named_batch_cause flow.Memory (fed.BadReply name other) k n = absurd n
   named_batch_cause flow.Memory (fed.RequestTooLong name other) k n = absurd n
 
-  batch_cause : (why : FlowError) (e : FedError) → HasFlowCause s t es (units_in parts) wanted xs why → IsNamed es why e → HasFedCause s t es q old wanted xs e
+  batch_cause : (why : FlowError) (e : FedError) → HasFlowCause s t es (units_in parts) block wanted xs why → IsNamed es why e → HasFedCause s t es q old wanted xs block e
   batch_cause (flow.Member at) e k n = named_batch_cause (flow.Member at) e k n
   batch_cause (flow.BadReply at bad) e k n = named_batch_cause (flow.BadReply at bad) e k n
   batch_cause (flow.RequestTooLong at size) e k n = named_batch_cause (flow.RequestTooLong at size) e k n
@@ -149,13 +155,13 @@ module _ (es : List EndpointParts) (q : Query) (old : List Entry) (n : ℕ) (ent
   batch_cause flow.Memory (fed.RequestTooLong name other) k n = absurd n
 
 -- the cause behind other exchanges
-pub batch_cause_behind : (es : List EndpointParts) (q : Query) (old : List Entry) (n : ℕ) (entries : List Entry) (parts : List Part) → parts ≡ parts_by (sections q) (chosen q n entries) → All (CanBeAsked (length es)) parts → (s t u : List Seen) → AreAfter s t
-    → (xs all : List Exchange) → ((x : Exchange) → Contains xs x → Contains all x) → (wanted : List Sent) (why : FlowError) (e : FedError) → HasFlowCause t u es (units_in parts) wanted xs why → IsNamed es why e → HasFedCause s u es q old wanted all e
-batch_cause_behind es q old n entries parts are can s t u after xs all among wanted why e k named =
-    batch_cause es q old n entries parts are can s u all wanted why e (flow_cause_behind s t u after xs all among es (units_in parts) [] wanted why k) named
+pub batch_cause_behind : (es : List EndpointParts) (q : Query) (old : List Entry) (n : ℕ) (entries : List Entry) (parts : List Part) → parts ≡ parts_by (sections q) (chosen q n entries) → All (CanBeAsked (length es)) parts → (block : ℕ) (s t u : List Seen) → AreAfter s t
+    → (xs all : List Exchange) → ((x : Exchange) → Contains xs x → Contains all x) → (wanted : List Sent) (why : FlowError) (e : FedError) → HasFlowCause t u es (units_in parts) block wanted xs why → IsNamed es why e → HasFedCause s u es q old wanted all block e
+batch_cause_behind es q old n entries parts are can block s t u after xs all among wanted why e k named =
+    batch_cause es q old n entries parts are can block s u all wanted why e (flow_cause_behind s t u after xs all among es (units_in parts) block [] wanted why k) named
 
-pub flow_placed : (es : List EndpointParts) (us : List unit.Unit) (s t : List Seen) (xs : List Exchange) (wanted : List Sent) (why : FlowError) → HasFlowCause s t es us wanted xs why → IsPlaced (length es) why
-flow_placed es us s t xs wanted (flow.Member at) k = below es k.at at k.endpoint k.named k.found
-flow_placed es us s t xs wanted (flow.BadReply at bad) k = below es k.at at k.endpoint k.named k.found
-flow_placed es us s t xs wanted (flow.RequestTooLong at size) k = below es k.at at k.endpoint k.named k.found
-flow_placed es us s t xs wanted flow.Memory k = tt
+pub flow_placed : (es : List EndpointParts) (us : List unit.Unit) (block : ℕ) (s t : List Seen) (xs : List Exchange) (wanted : List Sent) (why : FlowError) → HasFlowCause s t es us block wanted xs why → IsPlaced (length es) why
+flow_placed es us block s t xs wanted (flow.Member at) k = below es k.at at k.endpoint k.named k.found
+flow_placed es us block s t xs wanted (flow.BadReply at bad) k = below es k.at at k.endpoint k.named k.found
+flow_placed es us block s t xs wanted (flow.RequestTooLong at size) k = below es k.at at k.endpoint k.named k.found
+flow_placed es us block s t xs wanted flow.Memory k = tt

@@ -38,10 +38,10 @@ module _ (tells alone : Bool) (endpoints : List EndpointParts) (block : ℕ) (pa
   ended_none graphs [] filters known defined rest runs fewer is = (record { behind = is; sent = refl }, fewer)
   ended_none graphs (p ∷ ps) filters known defined rest runs fewer is = absurd (cc)
 
-  pub no_run_ends : (wires : List Seen) (in_run : Bool) → in_run ≡ false → Asked tells alone wires wires endpoints (units_in parts) (EndGiven endpoints block parts next next in_run before) (EndDue endpoints block parts next in_run before) (Ok before)
+  pub no_run_ends : (wires : List Seen) (in_run : Bool) → in_run ≡ false → Asked tells alone wires wires endpoints (units_in parts) block (EndGiven endpoints block parts next next in_run before) (EndDue endpoints block parts next in_run before) (Ok before)
   no_run_ends wires in_run none =
-      subst (λ (b : Bool). Asked tells alone wires wires endpoints (units_in parts) (EndGiven endpoints block parts next next b before) (EndDue endpoints block parts next b before) (Ok before)) (sym none)
-      (given_unasked tells alone endpoints (units_in parts) (EndGiven endpoints block parts next next false before) (EndDue endpoints block parts next false before) wires before ended_none)
+      subst (λ (b : Bool). Asked tells alone wires wires endpoints (units_in parts) block (EndGiven endpoints block parts next next b before) (EndDue endpoints block parts next b before) (Ok before)) (sym none)
+      (given_unasked tells alone endpoints (units_in parts) block (EndGiven endpoints block parts next next false before) (EndDue endpoints block parts next false before) wires before ended_none)
 
   module _ (later : ℕ) (up : All (λ s. IsTrue (rises s)) before) where
     ended_run : (graphs : List (List Triple)) (wanted : List Sent) (found : List Row) → RunGiven endpoints block parts next later before graphs wanted found → EndGiven endpoints block parts next later true before graphs wanted (solutions_of found)
@@ -59,21 +59,21 @@ module _ (tells alone : Bool) (endpoints : List EndpointParts) (block : ℕ) (pa
 
   pub run_ends : (before_wires after_wires : List Seen) (later : ℕ) (in_run : Bool) → in_run ≡ true → All (λ s. IsTrue (rises s)) before → (found : List Row) (r : Result (Vec Bindings Global) FlowError)
       → IfOk r (λ rows. rows.items ≡ solutions_of found) → IfErr r (λ e. e ≡ flow.Memory)
-      → Asked tells alone before_wires after_wires endpoints (units_in parts) (RunGiven endpoints block parts next later before) (RunDue endpoints block parts next before) (Ok found)
-      → Asked tells alone before_wires after_wires endpoints (units_in parts) (EndGiven endpoints block parts next later in_run before) (EndDue endpoints block parts next in_run before) (solutions_in r)
+      → Asked tells alone before_wires after_wires endpoints (units_in parts) block (RunGiven endpoints block parts next later before) (RunDue endpoints block parts next before) (Ok found)
+      → Asked tells alone before_wires after_wires endpoints (units_in parts) block (EndGiven endpoints block parts next later in_run before) (EndDue endpoints block parts next in_run before) (solutions_in r)
   run_ends s t later in_run is up found r given memory h =
-      subst (λ (b : Bool). Asked tells alone s t endpoints (units_in parts) (EndGiven endpoints block parts next later b before) (EndDue endpoints block parts next b before) (solutions_in r)) (sym is)
-      (made_of tells alone endpoints (units_in parts) (RunGiven endpoints block parts next later before) (RunDue endpoints block parts next before) (EndGiven endpoints block parts next later true before) (EndDue endpoints block parts next true before)
+      subst (λ (b : Bool). Asked tells alone s t endpoints (units_in parts) block (EndGiven endpoints block parts next later b before) (EndDue endpoints block parts next b before) (solutions_in r)) (sym is)
+      (made_of tells alone endpoints (units_in parts) block (RunGiven endpoints block parts next later before) (RunDue endpoints block parts next before) (EndGiven endpoints block parts next later true before) (EndDue endpoints block parts next true before)
       (λ rows. rows ≡ solutions_of found) s t found r given memory
       (λ graphs wanted rows k e. subst (EndGiven endpoints block parts next later true before graphs wanted) (sym e) (ended_run later up graphs wanted found k))
       (λ graphs wanted k. ended_due graphs wanted (given_due later graphs wanted found k)) h)
 
   pub run_refused : (s t : List Seen) (later : ℕ) (in_run : Bool) → in_run ≡ true → (why : FlowError)
-      → Asked {X = List Row} tells alone s t endpoints (units_in parts) (RunGiven endpoints block parts next later before) (RunDue endpoints block parts next before) (Err why)
-      → Asked {X = List Bindings} tells alone s t endpoints (units_in parts) (EndGiven endpoints block parts next later in_run before) (EndDue endpoints block parts next in_run before) (Err why)
+      → Asked {X = List Row} tells alone s t endpoints (units_in parts) block (RunGiven endpoints block parts next later before) (RunDue endpoints block parts next before) (Err why)
+      → Asked {X = List Bindings} tells alone s t endpoints (units_in parts) block (EndGiven endpoints block parts next later in_run before) (EndDue endpoints block parts next in_run before) (Err why)
   run_refused s t later in_run is why h =
-      subst (λ (b : Bool). Asked {X = List Bindings} tells alone s t endpoints (units_in parts) (EndGiven endpoints block parts next later b before) (EndDue endpoints block parts next b before) (Err why)) (sym is)
-      (refused_as tells alone endpoints (units_in parts) s t (RunGiven endpoints block parts next later before) (RunDue endpoints block parts next before) (EndGiven endpoints block parts next later true before) (EndDue endpoints block parts next true before) why ended_due h)
+      subst (λ (b : Bool). Asked {X = List Bindings} tells alone s t endpoints (units_in parts) block (EndGiven endpoints block parts next later b before) (EndDue endpoints block parts next b before) (Err why)) (sym is)
+      (refused_as tells alone endpoints (units_in parts) block s t (RunGiven endpoints block parts next later before) (RunDue endpoints block parts next before) (EndGiven endpoints block parts next later true before) (EndDue endpoints block parts next true before) why ended_due h)
 
   -- ---- an OPTIONAL whose group is one run
 
@@ -106,19 +106,19 @@ module _ (tells alone : Bool) (endpoints : List EndpointParts) (block : ℕ) (pa
 
     pub optional_asked : (s t : List Seen) (later : ℕ) → is_run (own_patterns g) ≡ true → All (λ s. IsTrue (rises s)) before → (found : List Row) (r : Result (Vec Bindings Global) FlowError)
         → IfOk r (λ rows. rows.items ≡ optional_rows (group_of g).filters 0 before found) → IfErr r (λ e. e ≡ flow.Memory)
-        → Asked tells alone s t endpoints (units_in parts) (RunGiven endpoints block parts next later before) (RunDue endpoints block parts next before) (Ok found)
-        → Asked tells alone s t endpoints (units_in parts) (OperatorGiven endpoints block parts next later (Optional g) before) (OperatorDue endpoints block parts next (Optional g) before) (solutions_in r)
+        → Asked tells alone s t endpoints (units_in parts) block (RunGiven endpoints block parts next later before) (RunDue endpoints block parts next before) (Ok found)
+        → Asked tells alone s t endpoints (units_in parts) block (OperatorGiven endpoints block parts next later (Optional g) before) (OperatorDue endpoints block parts next (Optional g) before) (solutions_in r)
     optional_asked s t later has up found r given memory h =
-        made_of tells alone endpoints (units_in parts) (RunGiven endpoints block parts next later before) (RunDue endpoints block parts next before) (OperatorGiven endpoints block parts next later (Optional g) before) (OperatorDue endpoints block parts next (Optional g) before)
+        made_of tells alone endpoints (units_in parts) block (RunGiven endpoints block parts next later before) (RunDue endpoints block parts next before) (OperatorGiven endpoints block parts next later (Optional g) before) (OperatorDue endpoints block parts next (Optional g) before)
         (λ rows. rows ≡ optional_rows (group_of g).filters 0 before found) s t found r given memory
         (λ graphs wanted rows k e. subst (OperatorGiven endpoints block parts next later (Optional g) before graphs wanted) (sym e) (of_run_found has later up graphs wanted found k))
         (λ graphs wanted k. due_of_run has graphs wanted (given_due later graphs wanted found k)) h
 
     pub optional_refused : (s t : List Seen) (later : ℕ) → is_run (own_patterns g) ≡ true → (why : FlowError)
-        → Asked {X = List Row} tells alone s t endpoints (units_in parts) (RunGiven endpoints block parts next later before) (RunDue endpoints block parts next before) (Err why)
-        → Asked {X = List Bindings} tells alone s t endpoints (units_in parts) (OperatorGiven endpoints block parts next later (Optional g) before) (OperatorDue endpoints block parts next (Optional g) before) (Err why)
+        → Asked {X = List Row} tells alone s t endpoints (units_in parts) block (RunGiven endpoints block parts next later before) (RunDue endpoints block parts next before) (Err why)
+        → Asked {X = List Bindings} tells alone s t endpoints (units_in parts) block (OperatorGiven endpoints block parts next later (Optional g) before) (OperatorDue endpoints block parts next (Optional g) before) (Err why)
     optional_refused s t later has why h =
-        refused_as tells alone endpoints (units_in parts) s t (RunGiven endpoints block parts next later before) (RunDue endpoints block parts next before) (OperatorGiven endpoints block parts next later (Optional g) before) (OperatorDue endpoints block parts next (Optional g) before) why
+        refused_as tells alone endpoints (units_in parts) block s t (RunGiven endpoints block parts next later before) (RunDue endpoints block parts next before) (OperatorGiven endpoints block parts next later (Optional g) before) (OperatorDue endpoints block parts next (Optional g) before) why
         (due_of_run has) h
 
     -- it has none
@@ -140,7 +140,7 @@ module _ (tells alone : Bool) (endpoints : List EndpointParts) (block : ℕ) (pa
 
     pub optional_unasked : (wires : List Seen) → is_run (own_patterns g) ≡ false → (r : Result (Vec Bindings Global) FlowError)
         → IfOk r (λ rows. IsPermutation (left_join before one_empty (group_of g).filters) rows.items) → IfErr r (λ e. e ≡ flow.Memory)
-        → Asked tells alone wires wires endpoints (units_in parts) (OperatorGiven endpoints block parts next next (Optional g) before) (OperatorDue endpoints block parts next (Optional g) before) (solutions_in r)
+        → Asked tells alone wires wires endpoints (units_in parts) block (OperatorGiven endpoints block parts next next (Optional g) before) (OperatorDue endpoints block parts next (Optional g) before) (solutions_in r)
     optional_unasked wires none r given memory =
-        made_unasked tells alone endpoints (units_in parts) (OperatorGiven endpoints block parts next next (Optional g) before) (OperatorDue endpoints block parts next (Optional g) before)
+        made_unasked tells alone endpoints (units_in parts) block (OperatorGiven endpoints block parts next next (Optional g) before) (OperatorDue endpoints block parts next (Optional g) before)
         (λ rows. IsPermutation (left_join before one_empty (group_of g).filters) rows) wires r given memory (no_run_found none) (no_run_due none)

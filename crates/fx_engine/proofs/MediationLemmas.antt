@@ -1,7 +1,7 @@
 -- A query was asked over wires: its plan or its answer, or the cause of a refusal.
 use Rattle.std.proofs.Common.{◌≡◌, ◌∙◌, sym, subst, refl, ℕ, ◌+◌, ◌≤◌, ◌⊎◌, inl, Bool, List, [], ◌++◌, length, Ok, Err, IfErr, IfOk, IsTrue, Result, arith, append-nil}
 use Rattle.std.specs.Prelude.{All, Contains}
-use Rattle.std.proofs.lemmas.List.Elements.{Contains-append_left, Contains-append_right}
+use Rattle.std.proofs.lemmas.List.Elements.{All-nil, Contains-append_left, Contains-append_right}
 use Rattle.std.proofs.lemmas.List.Sorted.{Contains-permutation}
 use Rattle.std.specs.List.{zip}
 use Rattle.fx_terms.specs.declared.triples.Triple.{Triple}
@@ -17,7 +17,10 @@ use Rattle.fx_algebra.proofs.CutLemmas.{seeds_for_each}
 use Rattle.fx_plan.specs.Explained.{HasMembers}
 use Rattle.fx_plan.specs.declared.parts.Part.{Part}
 use Rattle.fx_sources.specs.Probes.{Entry, chosen, learned, missing, told}
+use Rattle.fx_sources.specs.Sources as source
 use Rattle.fx_sources.specs.declared.probes.Probe.{Probe}
+use Rattle.fx_sources.proofs.SourceLemmas.{kept_tells, learned_tells}
+use Rattle.fx_traffic.specs.Batches.{IsBatchText}
 use Rattle.fx_traffic.specs.Gains.{faults_at}
 use Rattle.fx_traffic.specs.Sent.{Sent, Sends}
 use Rattle.fx_traffic.specs.Traffic.{AreStationsSent}
@@ -28,7 +31,7 @@ use Rattle.fx_pool.specs.declared.flows.FlowError.{FlowError}
 use Rattle.fx_engine.specs.AnswersAsked.{AnswerDue, AnswerGiven}
 use Rattle.fx_engine.specs.Asked.{Asked, Knows}
 use Rattle.fx_engine.specs.Asks.{AskedAll}
-use Rattle.fx_engine.specs.Mediation.{AreKnown, Federated, HasFedCause, HasKept, HasLearned, HasPlanCause, HoldsBehind, IsNamed, Planned}
+use Rattle.fx_engine.specs.Mediation.{AreKnown, Federated, HasFedCause, HasKept, HasLearned, HasPlanCause, HoldsBehind, IsNamed, IsUnitOf, Planned}
 use Rattle.fx_engine.specs.Sections.{parts_by, parts_with, sections}
 use Rattle.fx_engine.specs.declared.mediator.FedError.{FedError}
 use Rattle.fx_engine.specs.declared.mediator.FedError.TheVariants as fed
@@ -48,6 +51,13 @@ module _ (tells alone : Bool) (s t : List Seen) (es : List EndpointParts) (q : Q
   abbrev probes : List Probe
   probes = missing q (length es) old
 
+  -- the entries are true of graphs that are told
+  abbrev StaysTrue : List Entry → Type 0
+  StaysTrue new = (graphs : List (List Triple)) → AreKnown s es old graphs → All (source.Tells graphs) new
+
+  pub stays_as_known : StaysTrue old
+  stays_as_known graphs known = known.entries_are
+
   -- ---- a plan
 
   pub planned_refused : (why : FlowError) (e : FedError) → AskedAll tells alone s t es probes (Err why) → IsNamed es why e → Planned tells alone s t es q old old (Err e)
@@ -65,9 +75,16 @@ module _ (tells alone : Bool) (s t : List Seen) (es : List EndpointParts) (q : Q
     within = tt;
     cause = plan_cause es q old s t h.exchanges why e h.cause n;
     held = stays (List Part) es q old h.exchanges e;
+    stays_true = stays_as_known;
   }
 
   module _ (truths : List Bool) (h : AskedAll tells alone s t es probes (Ok truths)) where
+    pub learned_true : (new : List Entry) → new ≡ learned old probes truths → StaysTrue new
+    learned_true new so graphs known = subst (All (source.Tells graphs)) (sym so) (learned_tells graphs old probes truths known.entries_are (h.told graphs known.told))
+
+    pub kept_true : (new : List Entry) → All (λ (e : Entry). Contains old e ⊎ Contains (zip probes truths) e) new → StaysTrue new
+    kept_true new kept graphs known = kept_tells graphs old (zip probes truths) new known.entries_are (h.told graphs known.told) kept
+
     pub planned : (new : List Entry) (parts : List Part) → new ≡ learned old probes truths → parts ≡ parts_by (sections q) (chosen q (length es) (told probes truths ++ old)) → All (HasMembers (length es)) parts → Planned tells alone s t es q old new (Ok parts)
     planned new parts so are within =
         let learns : HasLearned es q old new h.exchanges = record { truths = truths; many = h.many; answered = h.answered; learned_so = so } in
@@ -85,6 +102,7 @@ module _ (tells alone : Bool) (s t : List Seen) (es : List EndpointParts) (q : Q
           within = within;
           cause = tt;
           held = learns;
+          stays_true = learned_true new so;
         }
 
     pub planned_lost : (new : List Entry) → All (λ (e : Entry). Contains old e ⊎ Contains (zip probes truths) e) new → Planned tells alone s t es q old new (Err fed.Memory)
@@ -102,6 +120,7 @@ module _ (tells alone : Bool) (s t : List Seen) (es : List EndpointParts) (q : Q
       within = tt;
       cause = tt;
       held = has_kept es q old h.exchanges h.exchanges (λ x m. m) truths h.answered new kept;
+      stays_true = kept_true new kept;
     }
 
   -- ---- an answer
@@ -111,7 +130,7 @@ module _ (tells alone : Bool) (s t : List Seen) (es : List EndpointParts) (q : Q
     nothing_more : (graphs : List (List Triple)) → AreStationsSent es graphs block (stations q) (seeds q (union graphs) no_graphs []) []
     nothing_more graphs = nothing_sent_of es graphs block (stations q) (seeds q (union graphs) no_graphs []) (seeds_for_each q (union graphs) no_graphs [])
 
-    fed_cause : (xs : List Exchange) (texts : List Sent) (e : FedError) → HasPlanCause s t es q old xs e → HasFedCause s t es q old texts xs e
+    fed_cause : (xs : List Exchange) (texts : List Sent) (e : FedError) → HasPlanCause s t es q old xs e → HasFedCause s t es q old texts xs block e
     fed_cause xs texts (fed.Member name) k = k
     fed_cause xs texts (fed.BadReply name bad) k = (k.0, k.1, k.2, inl k.3)
     fed_cause xs texts (fed.RequestTooLong name size) k = (k.0, k.1, k.2, inl k.3)
@@ -126,6 +145,7 @@ module _ (tells alone : Bool) (s t : List Seen) (es : List EndpointParts) (q : Q
       asks = h.wanted;
       asked = record { probes = h.asked; unasked = h.unasked; lacked = h.split; texts = h.texts };
       texts = [];
+      of_batches = All-nil (IsBatchText es block (IsUnitOf q));
       of_stations = λ graphs known. nothing_more graphs;
       left = h.left;
       sent = subst (λ (v : List Sent). Sends v h.left h.exchanges) (sym (append-nil h.wanted)) h.sent;
@@ -133,10 +153,11 @@ module _ (tells alone : Bool) (s t : List Seen) (es : List EndpointParts) (q : Q
       none_down = tt;
       cause = fed_cause h.exchanges [] e (plan_cause es q old s t h.exchanges why e h.cause n);
       held = stays Outcome es q old h.exchanges e;
+      stays_true = stays_as_known;
     }
 
     module _ (u : List Seen) (a : AllTell tells s) (b : AllTell tells t) (us : List unit.Unit) (truths : List Bool) (h : AskedAll tells alone s t es probes (Ok truths)) (parts : List Part) (are : parts ≡ parts_by (sections q) (chosen q (length es) (told probes truths ++ old)))
-        (r : Result Answer FlowError) (k : Asked tells alone t u es us (AnswerGiven es block parts q) (AnswerDue es block parts q) r) where
+        (r : Result Answer FlowError) (k : Asked tells alone t u es us block (AnswerGiven es block parts q) (AnswerDue es block parts q) r) where
       by_graphs : (graphs : List (List Triple)) → AreKnown s es old graphs → parts ≡ parts_with (sources graphs) q
       by_graphs graphs known = are ∙ parts_are_by_graphs s es q old graphs truths known.told known.entries_are h.many (h.told graphs known.told)
 
@@ -160,10 +181,12 @@ module _ (tells alone : Bool) (s t : List Seen) (es : List EndpointParts) (q : Q
       Among xs all = (x : Exchange) → Contains xs x → Contains all x
 
       pub federated : (o : Result Outcome FedError) (new : List Entry) → IfOk o (λ _. k.failed ≡ 0) → IfOk o (λ outcome. (graphs : List (List Triple)) → AreKnown s es old graphs → outcome.answer ≡ answer_alone q (union graphs)) → IfOk o (λ outcome. outcome.down ≡ [])
-          → ((all : List Exchange) → Among k.exchanges all → IfErr o (HasFedCause s u es q old k.wanted all))
+          → ((all : List Exchange) → Among k.exchanges all → IfErr o (HasFedCause s u es q old k.wanted all block))
           → ((all : List Exchange) → Among h.exchanges all → HoldsBehind es q old new all o)
+          → All (IsBatchText es block (IsUnitOf q)) k.wanted
+          → StaysTrue new
           → Federated tells alone s u es q old new block o
-      federated o new none answer down cause held =
+      federated o new none answer down cause held of_batches still =
           let both = gained_both tells s t u h.exchanges k.exchanges h.gained k.went.gained in
           record {
             exchanges = both.all;
@@ -173,6 +196,7 @@ module _ (tells alone : Bool) (s t : List Seen) (es : List EndpointParts) (q : Q
             asks = h.wanted;
             asked = record { probes = h.asked; unasked = h.unasked; lacked = h.split; texts = h.texts };
             texts = k.wanted;
+            of_batches = of_batches;
             of_stations = λ graphs known. sent_for r graphs (by_graphs graphs known) (behind_them graphs known);
             left = h.left ++ k.left;
             sent = sent_laws.any_order (h.wanted ++ k.wanted) (h.left ++ k.left) (h.exchanges ++ k.exchanges) both.all both.same (sent_laws.together h.wanted h.left k.wanted k.left h.exchanges k.exchanges h.sent k.sent);
@@ -180,6 +204,7 @@ module _ (tells alone : Bool) (s t : List Seen) (es : List EndpointParts) (q : Q
             none_down = down;
             cause = cause both.all (λ x m. Contains-permutation (h.exchanges ++ k.exchanges) both.all x both.same (Contains-append_right h.exchanges k.exchanges x m));
             held = held both.all (λ x m. Contains-permutation (h.exchanges ++ k.exchanges) both.all x both.same (Contains-append_left h.exchanges k.exchanges x m));
+            stays_true = still;
           }
 
       pub learns_behind : (new : List Entry) → new ≡ learned old probes truths → (all : List Exchange) → Among h.exchanges all → HasLearned es q old new all

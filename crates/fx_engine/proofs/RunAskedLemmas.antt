@@ -24,6 +24,7 @@ use Rattle.fx_traffic.specs.Gains.{TellAll}
 use Rattle.fx_traffic.specs.Sent.{Sent}
 use Rattle.fx_traffic.specs.Traffic.{IsStationSent, SentUnless}
 use Rattle.fx_traffic.proofs.FewerLemmas.{fewer_laws}
+use Rattle.fx_traffic.proofs.TextLemmas.{texts_of_more}
 use Rattle.fx_wire.specs.Exchanges.{Exchange, Seen}
 use Rattle.fx_pool.specs.RunFlows.{HasFlowCause, IsFlowCause, RunFlowed}
 use Rattle.fx_pool.specs.declared.flows.FlowError.{FlowError}
@@ -83,18 +84,18 @@ first_is x y xs ys h = (cc, cc)
 
 module _ (tells alone : Bool) (before after : List Seen) (endpoints : List EndpointParts) (block : ℕ) (parts : List Part) (next : ℕ) (rows : List Bindings) where
   -- there is no part: what is claimed is of no run
-  pub no_part : length parts ≤ next → Asked {X = List Row} tells alone before before endpoints (units_in parts) (RunGiven endpoints block parts next next rows) (RunDue endpoints block parts next rows) (Ok [])
+  pub no_part : length parts ≤ next → Asked {X = List Row} tells alone before before endpoints (units_in parts) block (RunGiven endpoints block parts next next rows) (RunDue endpoints block parts next rows) (Ok [])
   no_part over =
-      given_unasked tells alone endpoints (units_in parts) (RunGiven endpoints block parts next next rows) (RunDue endpoints block parts next rows) before []
+      given_unasked tells alone endpoints (units_in parts) block (RunGiven endpoints block parts next next rows) (RunDue endpoints block parts next rows) before []
       (λ graphs ps filters known gone defined rest moved next_is.
       let none : [] ≡ planned graphs (station.run ps filters known) ∷ rest = sym (drop_of_length-le parts over) ∙ next_is in
       absurd (cc))
 
   module _ (it : Part) (next_is : drop next parts ≡ it ∷ drop (next + 1) parts) where
     -- a pattern lacks a source
-    pub no_run : it ≡ part.EmptyRun → Asked {X = List Row} tells alone before before endpoints (units_in parts) (RunGiven endpoints block parts next (next + 1) rows) (RunDue endpoints block parts next rows) (Ok [])
+    pub no_run : it ≡ part.EmptyRun → Asked {X = List Row} tells alone before before endpoints (units_in parts) block (RunGiven endpoints block parts next (next + 1) rows) (RunDue endpoints block parts next rows) (Ok [])
     no_run empty =
-        given_unasked tells alone endpoints (units_in parts) (RunGiven endpoints block parts next (next + 1) rows) (RunDue endpoints block parts next rows) before []
+        given_unasked tells alone endpoints (units_in parts) block (RunGiven endpoints block parts next (next + 1) rows) (RunDue endpoints block parts next rows) before []
         (λ graphs ps filters known gone defined rest moved is.
         let here = first_is _ _ _ _ (sym is ∙ next_is) in
         let lacks = lacks_one graphs ps filters known (here.0 ∙ empty) in (
@@ -110,9 +111,9 @@ module _ (tells alone : Bool) (before after : List Seen) (endpoints : List Endpo
         unless graphs ps filters known defined true e = refl
         unless graphs ps filters known defined false e = absurd (cc)
 
-    pub not_a_run : (iri : List ℕ) → it ≡ part.Service iri → Asked {X = List Row} tells alone before before endpoints (units_in parts) (RunGiven endpoints block parts next (next + 1) rows) (RunDue endpoints block parts next rows) (Ok [])
+    pub not_a_run : (iri : List ℕ) → it ≡ part.Service iri → Asked {X = List Row} tells alone before before endpoints (units_in parts) block (RunGiven endpoints block parts next (next + 1) rows) (RunDue endpoints block parts next rows) (Ok [])
     not_a_run iri service =
-        given_unasked tells alone endpoints (units_in parts) (RunGiven endpoints block parts next (next + 1) rows) (RunDue endpoints block parts next rows) before []
+        given_unasked tells alone endpoints (units_in parts) block (RunGiven endpoints block parts next (next + 1) rows) (RunDue endpoints block parts next rows) before []
         (λ graphs ps filters known gone defined rest moved is.
         let here = first_is _ _ _ _ (sym is ∙ next_is) in
         absurd (no_service graphs ps filters known iri (here.0 ∙ service)))
@@ -146,11 +147,12 @@ module _ (tells alone : Bool) (before after : List Seen) (endpoints : List Endpo
       of_plan : (u : unit.Unit) → Contains units u → Contains (units_in parts) u
       of_plan u m = contains_from (units_in parts) u (among_flat_map part_units it u parts (among_from parts it its) (among_from (part_units it) u (subst (λ (p : Part). Contains (part_units p) u) (sym is_run) m)))
 
-      its_cause : (wanted : List Sent) (xs : List Exchange) (why : FlowError) → IsFlowCause before after endpoints units wanted xs why → IsFlowCause before after endpoints (units_in parts) wanted xs why
+      its_cause : (wanted : List Sent) (xs : List Exchange) (why : FlowError) → IsFlowCause before after endpoints units block wanted xs why → IsFlowCause before after endpoints (units_in parts) block wanted xs why
       its_cause wanted xs why k = record {
         unit = k.unit;
         of_run = of_plan k.unit k.of_run;
         batch = k.batch;
+        sized = k.sized;
         allowed = k.allowed;
         at = k.at;
         member = k.member;
@@ -160,7 +162,7 @@ module _ (tells alone : Bool) (before after : List Seen) (endpoints : List Endpo
         cause = k.cause;
       }
 
-      has_cause : (wanted : List Sent) (xs : List Exchange) (why : FlowError) → HasFlowCause before after endpoints units wanted xs why → HasFlowCause before after endpoints (units_in parts) wanted xs why
+      has_cause : (wanted : List Sent) (xs : List Exchange) (why : FlowError) → HasFlowCause before after endpoints units block wanted xs why → HasFlowCause before after endpoints (units_in parts) block wanted xs why
       has_cause wanted xs (flow.Member at) k = its_cause wanted xs (flow.Member at) k
       has_cause wanted xs (flow.BadReply at bad) k = its_cause wanted xs (flow.BadReply at bad) k
       has_cause wanted xs (flow.RequestTooLong at size) k = its_cause wanted xs (flow.RequestTooLong at size) k
@@ -168,7 +170,7 @@ module _ (tells alone : Bool) (before after : List Seen) (endpoints : List Endpo
 
       -- its units were asked for
       pub run_asked : (r : Result (List Row) FlowError) → RunFlowed tells alone before after endpoints units block (numbered 0 rows) r
-          → Asked tells alone before after endpoints (units_in parts) (RunGiven endpoints block parts next (next + 1) rows) (RunDue endpoints block parts next rows) r
+          → Asked tells alone before after endpoints (units_in parts) block (RunGiven endpoints block parts next (next + 1) rows) (RunDue endpoints block parts next rows) r
       run_asked r h = record {
         exchanges = h.exchanges;
         failed = h.failed;
@@ -178,11 +180,12 @@ module _ (tells alone : Bool) (before after : List Seen) (endpoints : List Endpo
         wanted = h.wanted;
         left = h.left;
         sent = h.sent;
+        of_batches = texts_of_more endpoints block (Contains units) (Contains (units_in parts)) of_plan h.wanted h.of_batches;
         known = λ graphs told. known r h.done graphs told;
         cause = cause r h.cause;
       }
         where
-          cause : (o : Result (List Row) FlowError) → IfErr o (HasFlowCause before after endpoints units h.wanted h.exchanges) → IfErr o (HasFlowCause before after endpoints (units_in parts) h.wanted h.exchanges)
+          cause : (o : Result (List Row) FlowError) → IfErr o (HasFlowCause before after endpoints units block h.wanted h.exchanges) → IfErr o (HasFlowCause before after endpoints (units_in parts) block h.wanted h.exchanges)
           cause (Ok found) k = tt
           cause (Err why) k = has_cause h.wanted h.exchanges why k
 

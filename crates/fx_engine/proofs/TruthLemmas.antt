@@ -3,7 +3,8 @@ use Rattle.std.proofs.Common.{◌≡◌, ◌∙◌, ap, subst, ◌≤◌, Bool, 
 use Rattle.fx_terms.specs.declared.patterns.Pattern.{Pattern}
 use Rattle.fx_terms.specs.declared.triples.Triple.{Triple}
 use Rattle.fx_algebra.specs.Units.{fits}
-use Rattle.fx_algebra.specs.declared.answers.Answer.TheVariants.{Truth}
+use Rattle.fx_algebra.specs.declared.answers.Answer.{Answer}
+use Rattle.fx_algebra.specs.declared.answers.Answer.TheVariants.{Table, Truth}
 use Rattle.fx_http.specs.Requests.{IsRequest}
 use Rattle.fx_results.specs.Meanings.{SameAnswer}
 use Rattle.fx_spelling.specs.Printable.{IsTriple}
@@ -13,7 +14,10 @@ use Rattle.fx_wire.specs.Honest.{IsHonest}
 use Rattle.fx_pool.specs.Reading.{HasResults}
 use Rattle.fx_pool.proofs.FaultLemmas.{same_results}
 use Rattle.fx_engine.proofs.AskTextLemmas.{ask_accepted, no_services}
-use Rattle.fx_engine.proofs.FitLemmas.{truth_told}
+
+truth_told : (told : Answer) (truth : Bool) → SameAnswer told (Truth truth) → told ≡ Truth truth
+truth_told (Truth t) truth s = ap Truth s
+truth_told (Table columns rows) truth s = absurd s
 
 -- an honest reply is read as whether the pattern fits
 pub honest_truth : (p : Pattern) (graph : List Triple) (request bytes : List ℕ) → IsTriple p → IsHonest graph request bytes → IsRequest request (ask_text p) → length (ask_text p) ≤ 67108864 → length bytes ≤ 67108864

@@ -156,37 +156,37 @@ module _ (endpoints : List EndpointParts) (block : ℕ) (parts : List Part) (nex
   -- ---- what was asked for
 
   module _ (tells alone : Bool) where
-    pub so_far_begun : (wires : List Seen) (rows : List Bindings) → rows ≡ one_empty → Asked tells alone wires wires endpoints (units_in parts) (SoFar next false all) (GroupDue endpoints block parts next g) (Ok rows)
-    so_far_begun wires rows one = given_unasked tells alone endpoints (units_in parts) (SoFar next false all) (GroupDue endpoints block parts next g) wires rows (λ graphs. at_begin graphs rows one)
+    pub so_far_begun : (wires : List Seen) (rows : List Bindings) → rows ≡ one_empty → Asked tells alone wires wires endpoints (units_in parts) block (SoFar next false all) (GroupDue endpoints block parts next g) (Ok rows)
+    so_far_begun wires rows one = given_unasked tells alone endpoints (units_in parts) block (SoFar next false all) (GroupDue endpoints block parts next g) wires rows (λ graphs. at_begin graphs rows one)
 
     module _ (before between after : List Seen) (a : AllTell tells before) (b : AllTell tells between) (later last : ℕ) (was_run : Bool) (rows : List Bindings) (left : List Element)
-        (so : Asked tells alone before between endpoints (units_in parts) (SoFar later was_run left) (GroupDue endpoints block parts next g) (Ok rows)) where
+        (so : Asked tells alone before between endpoints (units_in parts) block (SoFar later was_run left) (GroupDue endpoints block parts next g) (Ok rows)) where
       so_far_next : (in_run : Bool) (e : Element) (others : List Element) → left ≡ e ∷ others → (r : Result (List Bindings) FlowError)
-          → Asked tells alone between after endpoints (units_in parts) (ElementGiven endpoints block parts later last was_run in_run e rows) (ElementDue endpoints block parts later was_run e rows) r
-          → Asked tells alone before after endpoints (units_in parts) (SoFar last in_run others) (GroupDue endpoints block parts next g) r
+          → Asked tells alone between after endpoints (units_in parts) block (ElementGiven endpoints block parts later last was_run in_run e rows) (ElementDue endpoints block parts later was_run e rows) r
+          → Asked tells alone before after endpoints (units_in parts) block (SoFar last in_run others) (GroupDue endpoints block parts next g) r
       so_far_next in_run e others is r h =
-          asked_behind tells alone endpoints (units_in parts) before between after a b (SoFar later was_run left) (GroupDue endpoints block parts next g) (ElementGiven endpoints block parts later last was_run in_run e rows) (ElementDue endpoints block parts later was_run e rows)
+          asked_behind tells alone endpoints (units_in parts) block before between after a b (SoFar later was_run left) (GroupDue endpoints block parts next g) (ElementGiven endpoints block parts later last was_run in_run e rows) (ElementDue endpoints block parts later was_run e rows)
           (SoFar last in_run others) (GroupDue endpoints block parts next g) rows r
           (λ graphs own more y s k. at_next graphs e others left is later last was_run in_run rows own more y s k)
           (λ graphs own more s k. due_next graphs e others left is later last was_run in_run rows own more s k) so h
 
       pub so_far_more : (in_run : Bool) (e : Element) (others : List Element) → left ≡ e ∷ others → (found : List Bindings)
-          → Asked tells alone between after endpoints (units_in parts) (ElementGiven endpoints block parts later last was_run in_run e rows) (ElementDue endpoints block parts later was_run e rows) (Ok found)
-          → Asked tells alone before after endpoints (units_in parts) (SoFar last in_run others) (GroupDue endpoints block parts next g) (Ok found)
+          → Asked tells alone between after endpoints (units_in parts) block (ElementGiven endpoints block parts later last was_run in_run e rows) (ElementDue endpoints block parts later was_run e rows) (Ok found)
+          → Asked tells alone before after endpoints (units_in parts) block (SoFar last in_run others) (GroupDue endpoints block parts next g) (Ok found)
       so_far_more in_run e others is found h = so_far_next in_run e others is (Ok found) h
 
       pub so_far_refused : (in_run : Bool) (e : Element) (others : List Element) → left ≡ e ∷ others → (why : FlowError)
-          → Asked {X = List Bindings} tells alone between after endpoints (units_in parts) (ElementGiven endpoints block parts later last was_run in_run e rows) (ElementDue endpoints block parts later was_run e rows) (Err why)
-          → Asked {X = List Bindings} tells alone before after endpoints (units_in parts) (UnfilteredGiven endpoints block parts next last g) (GroupDue endpoints block parts next g) (Err why)
+          → Asked {X = List Bindings} tells alone between after endpoints (units_in parts) block (ElementGiven endpoints block parts later last was_run in_run e rows) (ElementDue endpoints block parts later was_run e rows) (Err why)
+          → Asked {X = List Bindings} tells alone before after endpoints (units_in parts) block (UnfilteredGiven endpoints block parts next last g) (GroupDue endpoints block parts next g) (Err why)
       so_far_refused in_run e others is why h =
-          refused_as tells alone endpoints (units_in parts) before after (SoFar last in_run others) (GroupDue endpoints block parts next g) (UnfilteredGiven endpoints block parts next last g) (GroupDue endpoints block parts next g) why (λ graphs wanted due. due)
+          refused_as tells alone endpoints (units_in parts) block before after (SoFar last in_run others) (GroupDue endpoints block parts next g) (UnfilteredGiven endpoints block parts next last g) (GroupDue endpoints block parts next g) why (λ graphs wanted due. due)
           (so_far_next in_run e others is (Err why) h)
 
       pub so_far_ended : left ≡ [] → (r : Result (List Bindings) FlowError)
-          → Asked tells alone between after endpoints (units_in parts) (EndGiven endpoints block parts later last was_run rows) (EndDue endpoints block parts later was_run rows) r
-          → Asked tells alone before after endpoints (units_in parts) (UnfilteredGiven endpoints block parts next last g) (GroupDue endpoints block parts next g) r
+          → Asked tells alone between after endpoints (units_in parts) block (EndGiven endpoints block parts later last was_run rows) (EndDue endpoints block parts later was_run rows) r
+          → Asked tells alone before after endpoints (units_in parts) block (UnfilteredGiven endpoints block parts next last g) (GroupDue endpoints block parts next g) r
       so_far_ended is r h =
-          asked_behind tells alone endpoints (units_in parts) before between after a b (SoFar later was_run left) (GroupDue endpoints block parts next g) (EndGiven endpoints block parts later last was_run rows) (EndDue endpoints block parts later was_run rows)
+          asked_behind tells alone endpoints (units_in parts) block before between after a b (SoFar later was_run left) (GroupDue endpoints block parts next g) (EndGiven endpoints block parts later last was_run rows) (EndDue endpoints block parts later was_run rows)
           (UnfilteredGiven endpoints block parts next last g) (GroupDue endpoints block parts next g) rows r
           (λ graphs own more y s k. at_end graphs left is later last was_run rows own more y s k)
           (λ graphs own more s k. due_end graphs left is later last was_run rows own more s k) so h

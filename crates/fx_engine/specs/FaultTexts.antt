@@ -7,8 +7,10 @@ use Rattle.fx_results.specs.declared.faults.ResultsError.{ResultsError}
 use Rattle.fx_results.specs.declared.faults.ResultsError.TheVariants as results
 use Rattle.fx_results.specs.declared.faults.ShapeFault.{ShapeFault}
 use Rattle.fx_results.specs.declared.faults.ShapeFault.TheVariants as shape
-use Rattle.fx_engine.specs.declared.errors.ReplyFault.{ReplyFault}
-use Rattle.fx_engine.specs.declared.errors.ReplyFault.TheVariants.{Http, Results, NotFirst, NotTruth}
+use Rattle.fx_bound.specs.declared.faults.BatchError.{BatchError}
+use Rattle.fx_bound.specs.declared.faults.BatchError.TheVariants as batch
+use Rattle.fx_pool.specs.declared.faults.ReplyFault.{ReplyFault}
+use Rattle.fx_pool.specs.declared.faults.ReplyFault.TheVariants.{Http, Results, Batch, NotTruth, NotTable, Foreign}
 
 abbrev pub http_words : ReplyError → List ℕ
 http_words reply.TooLong = codes "TooLong"
@@ -36,12 +38,21 @@ results_words results.Blank = codes "Blank"
 results_words results.BadTerm = codes "BadTerm"
 results_words results.Memory = codes "Memory"
 
+abbrev pub batch_words : BatchError → List ℕ
+batch_words batch.NotTable = codes "NotTable"
+batch_words (batch.Foreign row) = codes "Foreign"
+batch_words (batch.Mixed row) = codes "Mixed"
+batch_words (batch.Partial row) = codes "Partial"
+batch_words batch.Memory = codes "Memory"
+
 -- all but the number
 abbrev pub fault_words : ReplyFault → List ℕ
 fault_words (Http e) = http_words e
 fault_words (Results e) = results_words e
-fault_words NotFirst = codes "NotFirst"
+fault_words (Batch e) = batch_words e
 fault_words NotTruth = codes "NotTruth"
+fault_words NotTable = codes "NotTable"
+fault_words (Foreign row) = codes "Foreign"
 
 abbrev pub http_code : ReplyError → Option ℕ
 http_code (reply.Status code) = Some code
@@ -50,9 +61,7 @@ http_code e = None
 -- the number behind the words, where there is one
 abbrev pub fault_code : ReplyFault → Option ℕ
 fault_code (Http e) = http_code e
-fault_code (Results e) = None
-fault_code NotFirst = None
-fault_code NotTruth = None
+fault_code e = None
 
 -- words, and a number behind a space
 abbrev pub with_code : List ℕ → Option ℕ → List ℕ

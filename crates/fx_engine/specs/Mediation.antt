@@ -24,7 +24,7 @@ use Rattle.fx_sources.specs.Probes.{Entry, chosen, learned, missing, told}
 use Rattle.fx_sources.specs.Sources as source
 use Rattle.fx_sources.specs.declared.probes.Probe.{Probe}
 use Rattle.fx_spelling.specs.Units.{IsFit}
-use Rattle.fx_traffic.specs.Batches.{unit_sent}
+use Rattle.fx_traffic.specs.Batches.{IsBatchText, IsSized, unit_sent}
 use Rattle.fx_traffic.specs.Gains.{AreAfter, HaveGained, Tell, TellAll, faults_at}
 use Rattle.fx_traffic.specs.Sent.{Sent, Sends}
 use Rattle.fx_traffic.specs.Traffic.{AreAsked, AreStationsSent}
@@ -46,19 +46,24 @@ pub record IsMissing (endpoints : List EndpointParts) (q : Query) (entries : Lis
   pub lacked : Contains (missing q (length endpoints) entries) p
   pub found : slice_get endpoints p.at ≡ Some e
 
--- a batch that an endpoint is asked for, of a unit of the query's patterns outside SERVICE
-pub record IsBatchFor (endpoints : List EndpointParts) (q : Query) (e : EndpointParts) (u : unit.Unit) (batch : List Row) : Type 0 where
+-- a unit that can be asked for, of the query's patterns outside SERVICE
+pub record IsUnitOf (q : Query) (u : unit.Unit) : Type 0 where
   pub fit : IsFit u
   pub of_query : All (Contains (patterns q)) u.patterns
+
+-- a batch that an endpoint is asked for, of such a unit, of no more rows than so many
+pub record IsBatchFor (endpoints : List EndpointParts) (q : Query) (block : ℕ) (e : EndpointParts) (u : unit.Unit) (batch : List Row) : Type 0 where
+  pub of_query : IsUnitOf q u
+  pub sized : IsSized block batch
   pub at : ℕ
   pub member : Contains u.members at
   pub found : slice_get endpoints at ≡ Some e
 
 -- one of the exchanges has a bad reply to a batch
-pub record HasBadBatch (before : List Seen) (endpoints : List EndpointParts) (q : Query) (e : EndpointParts) (xs : List Exchange) (bad : BadReply) : Type 0 where
+pub record HasBadBatch (before : List Seen) (endpoints : List EndpointParts) (q : Query) (block : ℕ) (e : EndpointParts) (xs : List Exchange) (bad : BadReply) : Type 0 where
   pub unit : unit.Unit
   pub batch : List Row
-  pub asked : IsBatchFor endpoints q e unit batch
+  pub asked : IsBatchFor endpoints q block e unit batch
   pub is_bad : IsBadBatch (Tell before e.iri) e (record { unit = unit; rows = batch }) xs bad
 
 -- to an ASK
@@ -66,10 +71,10 @@ abbrev pub HasBadAsk : List Seen → List EndpointParts → Query → List Entry
 HasBadAsk before endpoints q entries e xs bad = (p : Probe) × IsMissing endpoints q entries e p × IsBadAsk (Tell before e.iri) e p xs bad
 
 -- the text of a batch, which is among those that are wanted of the query, is too long
-pub record HasLongBatch (endpoints : List EndpointParts) (q : Query) (e : EndpointParts) (texts : List Sent) (size : ℕ) : Type 0 where
+pub record HasLongBatch (endpoints : List EndpointParts) (q : Query) (block : ℕ) (e : EndpointParts) (texts : List Sent) (size : ℕ) : Type 0 where
   pub unit : unit.Unit
   pub batch : List Row
-  pub asked : IsBatchFor endpoints q e unit batch
+  pub asked : IsBatchFor endpoints q block e unit batch
   pub allowed : (x : Sent) → Contains (unit_sent endpoints unit batch) x → Contains texts x
   pub is_long : IsLongBatch (record { unit = unit; rows = batch }) size
 
@@ -88,12 +93,12 @@ HasPlanCause before after endpoints q entries xs (fed.BadReply name bad) = AtNam
 HasPlanCause before after endpoints q entries xs (fed.RequestTooLong name size) = AtNamed endpoints name (λ e. HasLongAsk endpoints q entries e size)
 HasPlanCause before after endpoints q entries xs fed.Memory = Unit {0}
 
--- Why there is no answer: such a cause, or so it is of a batch.
-abbrev pub HasFedCause : List Seen → List Seen → List EndpointParts → Query → List Entry → List Sent → List Exchange → FedError → Type 0
-HasFedCause before after endpoints q entries texts xs (fed.Member name) = (0 < length (patterns q)) × AtNamed endpoints name (λ e. faults_at before e.iri < faults_at after e.iri)
-HasFedCause before after endpoints q entries texts xs (fed.BadReply name bad) = AtNamed endpoints name (λ e. HasBadAsk before endpoints q entries e xs bad ⊎ HasBadBatch before endpoints q e xs bad)
-HasFedCause before after endpoints q entries texts xs (fed.RequestTooLong name size) = AtNamed endpoints name (λ e. HasLongAsk endpoints q entries e size ⊎ HasLongBatch endpoints q e texts size)
-HasFedCause before after endpoints q entries texts xs fed.Memory = Unit {0}
+-- Why there is no answer: such a cause, or so it is of a batch of no more rows than so many.
+abbrev pub HasFedCause : List Seen → List Seen → List EndpointParts → Query → List Entry → List Sent → List Exchange → ℕ → FedError → Type 0
+HasFedCause before after endpoints q entries texts xs block (fed.Member name) = (0 < length (patterns q)) × AtNamed endpoints name (λ e. faults_at before e.iri < faults_at after e.iri)
+HasFedCause before after endpoints q entries texts xs block (fed.BadReply name bad) = AtNamed endpoints name (λ e. HasBadAsk before endpoints q entries e xs bad ⊎ HasBadBatch before endpoints q block e xs bad)
+HasFedCause before after endpoints q entries texts xs block (fed.RequestTooLong name size) = AtNamed endpoints name (λ e. HasLongAsk endpoints q entries e size ⊎ HasLongBatch endpoints q block e texts size)
+HasFedCause before after endpoints q entries texts xs block fed.Memory = Unit {0}
 
 -- the refusal, with the name of the endpoint in place of its number, unless memory ran out
 abbrev pub HasName : List EndpointParts → ℕ → List ℕ → Type 0
@@ -139,7 +144,8 @@ pub record AreKnown (before : List Seen) (endpoints : List EndpointParts) (entri
 -- ---- a federation
 
 -- A query without SERVICE was asked over wires, in batches of so many rows at most: what was exchanged, one wire's part behind the other's; the ASKs and the
--- texts that were wanted of it, which are those of the query's traffic where graphs are told; the answer over the union of the graphs, or the cause.
+-- texts of batches that were wanted of it, which are those of the query's traffic where graphs are told; the answer over the union of the graphs, or the
+-- cause; and what the cache holds, which stays true of graphs.
 pub record Federated (tells alone : Bool) (before after : List Seen) (endpoints : List EndpointParts) (q : Query) (old new : List Entry) (block : ℕ) (result : Result Outcome FedError) : Type 0 where
   pub exchanges : List Exchange
   pub gained : IsTrue tells → HaveGained before after exchanges
@@ -148,20 +154,23 @@ pub record Federated (tells alone : Bool) (before after : List Seen) (endpoints 
   pub asks : List Sent
   pub asked : AreAsked endpoints q old asks
   pub texts : List Sent
+  pub of_batches : All (IsBatchText endpoints block (IsUnitOf q)) texts
   pub of_stations : (graphs : List (List Triple)) → AreKnown before endpoints old graphs → AreStationsSent endpoints graphs block (stations q) (seeds q (union graphs) no_graphs []) texts
   pub left : List Sent
   pub sent : Sends (asks ++ texts) left exchanges
   pub answer : IfOk result (λ outcome. (graphs : List (List Triple)) → AreKnown before endpoints old graphs → outcome.answer ≡ answer_alone q (union graphs))
   pub none_down : IfOk result (λ outcome. outcome.down ≡ [])
-  pub cause : IfErr result (HasFedCause before after endpoints q old texts exchanges)
+  pub cause : IfErr result (HasFedCause before after endpoints q old texts exchanges block)
   pub held : HoldsBehind endpoints q old new exchanges result
+  pub stays_true : (graphs : List (List Triple)) → AreKnown before endpoints old graphs → All (source.Tells graphs) new
 
 -- the plan is the query's by the sources that the cache's answers tell, those that it held before and those that it learned
 pub record IsPlannedBy (endpoints : List EndpointParts) (q : Query) (old new : List Entry) (xs : List Exchange) (parts : List Part) : Type 0 where
   pub answers : HasLearned endpoints q old new xs
   pub parts_are : parts ≡ parts_by (sections q) (chosen q (length endpoints) (told (missing q (length endpoints) old) answers.truths ++ old))
 
--- The ASKs of a query were asked over wires, and nothing else: its plan, which where graphs are told is that by the sources of its patterns, or the cause.
+-- The ASKs of a query were asked over wires, and nothing else: its plan, which where graphs are told is that by the sources of its patterns, or the cause;
+-- and what the cache holds, which stays true of graphs.
 pub record Planned (tells alone : Bool) (before after : List Seen) (endpoints : List EndpointParts) (q : Query) (old new : List Entry) (result : Result (List Part) FedError) : Type 0 where
   pub exchanges : List Exchange
   pub gained : IsTrue tells → HaveGained before after exchanges
@@ -176,6 +185,7 @@ pub record Planned (tells alone : Bool) (before after : List Seen) (endpoints : 
   pub within : IfOk result (All (HasMembers (length endpoints)))
   pub cause : IfErr result (HasPlanCause before after endpoints q old exchanges)
   pub held : HoldsBehind endpoints q old new exchanges result
+  pub stays_true : (graphs : List (List Triple)) → AreKnown before endpoints old graphs → All (source.Tells graphs) new
 
 abbrev pub parts_in : Result (Vec Part Global) FedError → Result (List Part) FedError
 parts_in (Ok parts) = Ok parts.items

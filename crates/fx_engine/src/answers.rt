@@ -17,8 +17,8 @@ use fx_terms::Memory;
 use fx_wire::Wire;
 use std::alloc::Global;
 
-/// The answer of a query without SERVICE over the union of the endpoints' graphs, by the parts of its plan, in text order. The first refusal ends the
-/// call: its cause is that of a batch of one of the plan's units.
+/// The answer of a query without SERVICE over the union of the endpoints' graphs, by the parts of its plan, in text order. The cause of a refusal is
+/// that of a batch of one of the plan's units.
 pub(crate) fn answer_by_plan<W: Wire + Send>(
     alloc: Global,
     query: &Query,
@@ -32,7 +32,7 @@ pub(crate) fn answer_by_plan<W: Wire + Send>(
     requires block { (0 < block) × (block ≤ 64) }
     requires asked { All (CanBeAsked (length endpoints.now)) plan.now }
     requires alone { services query.now ≡ [] }
-    ensures { Asked W.tells_log W.counts_alone (map W.seen wires.old) (map W.seen wires.new) endpoints.now (units_in plan.now) (spec.AnswerGiven endpoints.now block plan.now query.now) (spec.AnswerDue endpoints.now block plan.now query.now) result }
+    ensures { Asked W.tells_log W.counts_alone (map W.seen wires.old) (map W.seen wires.new) endpoints.now (units_in plan.now) block (spec.AnswerGiven endpoints.now block plan.now query.now) (spec.AnswerDue endpoints.now block plan.now query.now) result }
 {
     let mut next = 0;
     match group_rows(

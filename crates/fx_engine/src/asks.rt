@@ -18,9 +18,10 @@ const MOST: usize = 65_536;
 
 /// What the endpoints answer to probes, in their order.
 ///
-/// The ASK of each probe's key goes to the probe's endpoint, once. The first of these ends the call: `Member`, the exchange with the endpoint
+/// The ASK of each probe's key goes to the probe's endpoint, once. A refusal is that of one of the probes: `Member`, the exchange with the endpoint
 /// failed, and was counted as a fault at its address; `BadReply`, with the first fault of what was replied; `RequestTooLong`, the text has more
-/// than 67,108,864 bytes, and wasn't sent; `Memory`.
+/// than 67,108,864 bytes, and wasn't sent; or it is `Memory`. The probes are asked for in pieces of 65,536. Other probes of the piece in which one has no
+/// answer may be asked for as well, and of a later piece none is.
 pub(crate) fn ask_all<W: Wire + Send>(
     alloc: Global,
     probes: &[Probe],

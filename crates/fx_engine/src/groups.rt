@@ -31,7 +31,7 @@ use std::alloc::Global;
 /// patterns and filters alone begins with the rows on its left. The filters of the group are applied at its end, those that went with
 /// units too.
 ///
-/// The first refusal ends the call: its cause is that of a batch of one of the plan's units.
+/// The cause of a refusal is that of a batch of one of the plan's units. No later run is asked for then.
 #[cycle(rows)]
 pub(crate) fn group_rows<W: Wire + Send>(
     alloc: Global,
@@ -47,7 +47,7 @@ pub(crate) fn group_rows<W: Wire + Send>(
     requires block { (0 < block) × (block ≤ 64) }
     requires asked { All (CanBeAsked (length endpoints.now)) plan.now }
     requires alone { (group_of group.now).services ≡ 0 }
-    ensures { Asked W.tells_log W.counts_alone (map W.seen wires.old) (map W.seen wires.new) endpoints.now (units_in plan.now) (spec.GroupGiven endpoints.now block plan.now next.old next.new group.now) (spec.GroupDue endpoints.now block plan.now next.old group.now) (solutions_in result) }
+    ensures { Asked W.tells_log W.counts_alone (map W.seen wires.old) (map W.seen wires.new) endpoints.now (units_in plan.now) block (spec.GroupGiven endpoints.now block plan.now next.old next.new group.now) (spec.GroupDue endpoints.now block plan.now next.old group.now) (solutions_in result) }
 {
     match unfiltered(alloc, group, plan, next, endpoints, block, wires) {
         Err(error) => Err(error),
@@ -71,7 +71,7 @@ fn unfiltered<W: Wire + Send>(
     requires block { (0 < block) × (block ≤ 64) }
     requires asked { All (CanBeAsked (length endpoints.now)) plan.now }
     requires alone { (group_of group.now).services ≡ 0 }
-    ensures { Asked W.tells_log W.counts_alone (map W.seen wires.old) (map W.seen wires.new) endpoints.now (units_in plan.now) (spec.UnfilteredGiven endpoints.now block plan.now next.old next.new group.now) (spec.GroupDue endpoints.now block plan.now next.old group.now) (solutions_in result) }
+    ensures { Asked W.tells_log W.counts_alone (map W.seen wires.old) (map W.seen wires.new) endpoints.now (units_in plan.now) block (spec.UnfilteredGiven endpoints.now block plan.now next.old next.new group.now) (spec.GroupDue endpoints.now block plan.now next.old group.now) (solutions_in result) }
 {
     let Ok(mut rows) = one_row(alloc) else {
         return Err(FlowError::Memory);
@@ -114,7 +114,7 @@ fn after_element<W: Wire + Send>(
     requires block { (0 < block) × (block ≤ 64) }
     requires asked { All (CanBeAsked (length endpoints.now)) plan.now }
     requires alone { part_services (part_of element.now) ≡ 0 }
-    ensures { Asked W.tells_log W.counts_alone (map W.seen wires.old) (map W.seen wires.new) endpoints.now (units_in plan.now) (spec.ElementGiven endpoints.now block plan.now next.old next.new in_run.old in_run.new element.now before.items) (spec.ElementDue endpoints.now block plan.now next.old in_run.old element.now before.items) (solutions_in result) }
+    ensures { Asked W.tells_log W.counts_alone (map W.seen wires.old) (map W.seen wires.new) endpoints.now (units_in plan.now) block (spec.ElementGiven endpoints.now block plan.now next.old next.new in_run.old in_run.new element.now before.items) (spec.ElementDue endpoints.now block plan.now next.old in_run.old element.now before.items) (solutions_in result) }
 {
     if is_pattern(element) {
         *in_run = true;
@@ -149,7 +149,7 @@ fn after_operator<W: Wire + Send>(
     requires block { (0 < block) × (block ≤ 64) }
     requires asked { All (CanBeAsked (length endpoints.now)) plan.now }
     requires alone { part_services (part_of element.now) ≡ 0 }
-    ensures { Asked W.tells_log W.counts_alone (map W.seen wires.old) (map W.seen wires.new) endpoints.now (units_in plan.now) (spec.OperatorGiven endpoints.now block plan.now next.old next.new element.now before.items) (spec.OperatorDue endpoints.now block plan.now next.old element.now before.items) (solutions_in result) }
+    ensures { Asked W.tells_log W.counts_alone (map W.seen wires.old) (map W.seen wires.new) endpoints.now (units_in plan.now) block (spec.OperatorGiven endpoints.now block plan.now next.old next.new element.now before.items) (spec.OperatorDue endpoints.now block plan.now next.old element.now before.items) (solutions_in result) }
 {
     match element {
         Element::Triple(_) => Ok(before),
@@ -204,7 +204,7 @@ fn optional<W: Wire + Send>(
     requires block { (0 < block) × (block ≤ 64) }
     requires asked { All (CanBeAsked (length endpoints.now)) plan.now }
     requires alone { (group_of group.now).services ≡ 0 }
-    ensures { Asked W.tells_log W.counts_alone (map W.seen wires.old) (map W.seen wires.new) endpoints.now (units_in plan.now) (spec.OperatorGiven endpoints.now block plan.now next.old next.new (Element.Optional group.now) before.items) (spec.OperatorDue endpoints.now block plan.now next.old (Element.Optional group.now) before.items) (solutions_in result) }
+    ensures { Asked W.tells_log W.counts_alone (map W.seen wires.old) (map W.seen wires.new) endpoints.now (units_in plan.now) block (spec.OperatorGiven endpoints.now block plan.now next.old next.new (Element.Optional group.now) before.items) (spec.OperatorDue endpoints.now block plan.now next.old (Element.Optional group.now) before.items) (solutions_in result) }
 {
     if is_simple(group) {
         return optional_run(alloc, group, before, plan, next, endpoints, block, wires);
@@ -231,7 +231,7 @@ fn alternatives<W: Wire + Send>(
     requires block { (0 < block) × (block ≤ 64) }
     requires asked { All (CanBeAsked (length endpoints.now)) plan.now }
     requires alone { groups_services (map group_of groups.now) ≡ 0 }
-    ensures { Asked W.tells_log W.counts_alone (map W.seen wires.old) (map W.seen wires.new) endpoints.now (units_in plan.now) (spec.AlternativesGiven endpoints.now block plan.now next.old next.new groups.now) (spec.AlternativesDue endpoints.now block plan.now next.old groups.now) (solutions_in result) }
+    ensures { Asked W.tells_log W.counts_alone (map W.seen wires.old) (map W.seen wires.new) endpoints.now (units_in plan.now) block (spec.AlternativesGiven endpoints.now block plan.now next.old next.new groups.now) (spec.AlternativesDue endpoints.now block plan.now next.old groups.now) (solutions_in result) }
 {
     let mut rows = Vec::new(alloc);
     for group in groups {
@@ -263,7 +263,7 @@ fn optional_run<W: Wire + Send>(
     requires block { (0 < block) × (block ≤ 64) }
     requires asked { All (CanBeAsked (length endpoints.now)) plan.now }
     requires simple { (group_of group.now).is_simple ≡ true }
-    ensures { Asked W.tells_log W.counts_alone (map W.seen wires.old) (map W.seen wires.new) endpoints.now (units_in plan.now) (spec.OperatorGiven endpoints.now block plan.now next.old next.new (Element.Optional group.now) before.items) (spec.OperatorDue endpoints.now block plan.now next.old (Element.Optional group.now) before.items) (solutions_in result) }
+    ensures { Asked W.tells_log W.counts_alone (map W.seen wires.old) (map W.seen wires.new) endpoints.now (units_in plan.now) block (spec.OperatorGiven endpoints.now block plan.now next.old next.new (Element.Optional group.now) before.items) (spec.OperatorDue endpoints.now block plan.now next.old (Element.Optional group.now) before.items) (solutions_in result) }
 {
     known_to_rise(before.as_slice());
     if !has_pattern(group) {
@@ -298,7 +298,7 @@ fn after_run<W: Wire + Send>(
     requires sendable { All (λ e. is_sendable e ≡ true) endpoints.now }
     requires block { (0 < block) × (block ≤ 64) }
     requires asked { All (CanBeAsked (length endpoints.now)) plan.now }
-    ensures { Asked W.tells_log W.counts_alone (map W.seen wires.old) (map W.seen wires.new) endpoints.now (units_in plan.now) (spec.RunGiven endpoints.now block plan.now next.old next.new rows.now) (spec.RunDue endpoints.now block plan.now next.old rows.now) (rows_in result) }
+    ensures { Asked W.tells_log W.counts_alone (map W.seen wires.old) (map W.seen wires.new) endpoints.now (units_in plan.now) block (spec.RunGiven endpoints.now block plan.now next.old next.new rows.now) (spec.RunDue endpoints.now block plan.now next.old rows.now) (rows_in result) }
 {
     if *next >= plan.len() {
         return Ok(Vec::new(alloc));
@@ -329,7 +329,7 @@ fn end_run<W: Wire + Send>(
     requires sendable { All (λ e. is_sendable e ≡ true) endpoints.now }
     requires block { (0 < block) × (block ≤ 64) }
     requires asked { All (CanBeAsked (length endpoints.now)) plan.now }
-    ensures { Asked W.tells_log W.counts_alone (map W.seen wires.old) (map W.seen wires.new) endpoints.now (units_in plan.now) (spec.EndGiven endpoints.now block plan.now next.old next.new in_run before.items) (spec.EndDue endpoints.now block plan.now next.old in_run before.items) (solutions_in result) }
+    ensures { Asked W.tells_log W.counts_alone (map W.seen wires.old) (map W.seen wires.new) endpoints.now (units_in plan.now) block (spec.EndGiven endpoints.now block plan.now next.old next.new in_run before.items) (spec.EndDue endpoints.now block plan.now next.old in_run before.items) (solutions_in result) }
 {
     if !in_run {
         return Ok(before);

@@ -2,30 +2,28 @@
 #![tactic(auto)]
 
 mod answers;
-mod asking;
 mod asks;
 mod choices;
-pub mod errors;
-pub mod federation;
-mod gathering;
+mod fault_texts;
 mod groups;
 pub mod laws;
 pub mod mediator;
 mod optionals;
 mod parts;
-pub mod planning;
-mod queries;
+mod planning;
 mod sections;
-mod selection;
-mod tables;
 
-pub use errors::{FedError, ReplyFault};
-pub use federation::federate;
+pub use fault_texts::{fault_code, fault_words};
+pub use fx_pool::{BadReply, ReplyFault};
 use fx_terms::shareable;
-pub use planning::plan_parts;
+pub use mediator::{Down, DownCause, FedError, MemberName, Options, Outcome, federate, plan_parts};
 
-/// Every type of this crate may be shared between threads and sent to them.
+/// Every type that the calls of this crate take or give may be shared between threads and sent to them.
 pub fn all_shareable() {
+    shareable::<Options>();
+    shareable::<Outcome>();
+    shareable::<Down>();
+    shareable::<DownCause>();
+    shareable::<MemberName>();
     shareable::<FedError>();
-    shareable::<ReplyFault>();
 }

@@ -1,11 +1,11 @@
 //! The plan of a query, part by part.
 ghost use Rattle.std.specs.Prelude.{◌≡◌, ◌<◌, All, IfOk, length};
-ghost use Rattle.std.specs.List.{flat_map};
+ghost use Rattle.std.specs.List.{flat_map, list_any};
+ghost use Rattle.fx_algebra.specs.Answers.{is_empty_list};
 ghost use Rattle.fx_plan.specs.Explained.{HasMembers};
 ghost use Rattle.fx_engine.specs.Sections as spec;
 ghost use Rattle.std.specs.Prelude.{ℕ};
 
-use crate::federation::lacks_one;
 use crate::sections::{Section, sections};
 use fx_algebra::{Expr, Query};
 use fx_plan::{Part, units};
@@ -74,4 +74,11 @@ fn part_of_run(
         units: Items::from_vec(units),
         bound,
     })
+}
+
+// Whether one of the lists is empty.
+fn lacks_one(sources: &[Items<u32>]) -> bool
+    ensures { result ≡ list_any is_empty_list sources.now }
+{
+    sources.iter().any(|members| members.as_slice().is_empty())
 }

@@ -2,16 +2,15 @@
 ghost use Rattle.std.specs.Prelude.{◌≡◌, ◌++◌, [], IfOk, OnOk, map};
 ghost use Rattle.std.specs.List.{flat_map};
 ghost use Rattle.fx_algebra.specs.BasicGraphPatterns.{variables};
-ghost use Rattle.fx_algebra.specs.Scopes.{once as once_each};
+ghost use Rattle.fx_algebra.specs.Scopes.{once as once_each, part_names, pattern_names};
 ghost use Rattle.fx_algebra.specs.Groups.{keeps_run as keeps};
 ghost use Rattle.fx_engine.specs.SectionSteps as spec;
 ghost use Rattle.fx_engine.specs.Sections.{sections as sections_of};
 
-use crate::queries::push_names;
 use fx_algebra::scopes::{add_element as add_names, once};
 use fx_algebra::units::{copy_filters, copy_patterns};
 use fx_algebra::{Element, Expr, Group, Query};
-use fx_terms::{Iri, Items, Memory, Name, Pattern};
+use fx_terms::{Iri, Items, Memory, Name, Pattern, PatternTerm};
 use std::alloc::Global;
 
 /// A part of a query that requests are sent for.
@@ -161,6 +160,24 @@ fn push_variables(names: &mut Vec<Name>, patterns: &[Pattern]) -> Result<(), Mem
 {
     for pattern in patterns {
         push_names(names, pattern)?;
+    }
+    Ok(())
+}
+
+// The variables of a pattern, behind the names that were there, with repeats.
+fn push_names(names: &mut Vec<Name>, pattern: &Pattern) -> Result<(), Memory>
+    ensures { OnOk result (names.new.items ≡ names.old.items ++ pattern_names pattern.now) }
+{
+    push_name(names, &pattern.subject)?;
+    push_name(names, &pattern.predicate)?;
+    push_name(names, &pattern.object)
+}
+
+fn push_name(names: &mut Vec<Name>, part: &PatternTerm) -> Result<(), Memory>
+    ensures { OnOk result (names.new.items ≡ names.old.items ++ part_names part.now) }
+{
+    if let PatternTerm::Variable(name) = part {
+        names.push(name.copy()?)?;
     }
     Ok(())
 }

@@ -4,13 +4,14 @@ ghost use Rattle.std.specs.Prelude.{◌≡◌, ◌<◌, ◌≤◌, IfSome, lengt
 ghost use Rattle.fx_engine.specs.Mediation.{IsSpellable};
 
 use fx_algebra::{Query, services};
-use fx_engine::mediator::{FedError, Options, federate, plan_parts};
-use fx_member::GraphWire;
+use fx_engine::{FedError, Options, federate, plan_parts};
+use fx_member::{FaultWire, GraphWire};
 use fx_notation::{escapes, notation, shown};
 use fx_plan::explain;
 use fx_sources::{AskCache, Registry};
 use fx_syntax::parse;
 use fx_terms::{Graph, Iri};
+use fx_wire::Wire;
 use std::alloc::Global;
 use std::fmt::Write;
 use std::str::from_utf8;
@@ -22,6 +23,9 @@ pub fn answer(alloc: Global, call: &str, inputs: &[&str]) -> Option<String> {
         ("answer of federate", [query, block, graphs @ ..]) => {
             let mut wires = wires_of(alloc, graphs)?;
             asked(alloc, query, block, graphs.len(), wires.as_mut_slice())
+        }
+        ("federate in turn", [first, second, steps @ ..]) => {
+            federated_in_turn(alloc, &[*first, *second], steps)
         }
         ("plan_parts", [query, graphs @ ..]) => planned(alloc, query, graphs),
         _ => None,
@@ -64,15 +68,66 @@ fn answered(
     requires wired { (0 < length wires.old) × (length wires.old ≤ 16) }
     requires spellable { IsSpellable query.now }
 {
+    let mut cache = AskCache::new(alloc).ok()?;
+    answered_by(alloc, query, block, registry, &mut cache, wires)
+}
+
+fn answered_by<W: Wire + Send>(
+    alloc: Global,
+    query: &Query,
+    block: u32,
+    registry: &Registry,
+    cache: &mut AskCache,
+    wires: &mut [W],
+) -> Option<String>
+    requires wired { (0 < length wires.old) × (length wires.old ≤ 16) }
+    requires spellable { IsSpellable query.now }
+{
     let occurrences = services(alloc, query).ok()?;
     if !occurrences.is_empty() || block == 0 || block > 64 {
         return None;
     }
-    let mut cache = AskCache::new(alloc).ok()?;
-    match federate(alloc, query, registry, &mut cache, Options { block }, wires) {
+    match federate(alloc, query, registry, cache, Options { block }, wires) {
         Ok(outcome) => shown::answer(alloc, &outcome.answer),
         Err(error) => refusal_text(alloc, &error),
     }
+}
+
+// Queries that are answered one after the other with one cache, each with the numbers of the exchanges that are to fail behind it.
+fn federated_in_turn(alloc: Global, graphs: &[&str], steps: &[&str]) -> Option<String> {
+    let registry = registry_of(alloc, graphs.len())?;
+    let mut cache = AskCache::new(alloc).ok()?;
+    let mut text = String::new(alloc);
+    for step in steps.chunks(2) {
+        let [query, fails] = step else {
+            return None;
+        };
+        if !text.is_empty() {
+            text.push_str(" || ").ok()?;
+        }
+        let told = told_next(alloc, query, fails, graphs, &registry, &mut cache)?;
+        text.push_str(told.as_str()).ok()?;
+    }
+    Some(text)
+}
+
+// The answer, or the refusal, and how many answers to ASKs the cache holds then.
+fn told_next(
+    alloc: Global,
+    query: &str,
+    fails: &str,
+    graphs: &[&str],
+    registry: &Registry,
+    cache: &mut AskCache,
+) -> Option<String> {
+    let mut wires = [failing_wire(alloc, graphs, fails)?];
+    let text = escapes::text(alloc, query)?;
+    let answer = match parse(alloc, text.as_bytes()) {
+        Ok(query) => answered_by(alloc, &query, 15, registry, cache, &mut wires)?,
+        Err(_) => return None,
+    };
+    let held = cache.len();
+    format!(in alloc; "{answer} holds {held}").ok()
 }
 
 // How many ASKs and how many other texts each member was sent, and the text of the plan.
@@ -204,6 +259,20 @@ fn wires_of(alloc: Global, fields: &[&str]) -> Option<Vec<GraphWire>>
     let mut wires = Vec::new(alloc);
     wires.push(GraphWire::new(alloc, graphs).ok()?).ok()?;
     Some(wires)
+}
+
+// A wire over all members whose exchanges with these numbers fail.
+fn failing_wire(alloc: Global, fields: &[&str], fails: &str) -> Option<FaultWire> {
+    let mut graphs = Vec::new(alloc);
+    for (number, field) in fields.iter().enumerate() {
+        graphs.push(addressed(alloc, number, field)?).ok()?;
+    }
+    let mut numbers = Vec::new(alloc);
+    for number in fails.split_whitespace() {
+        numbers.push(number.parse::<u64>().ok()?).ok()?;
+    }
+    let wire = GraphWire::new(alloc, graphs).ok()?;
+    FaultWire::new(alloc, wire, numbers, Vec::new(alloc)).ok()
 }
 
 fn addressed(alloc: Global, number: usize, field: &str) -> Option<(Iri, Graph)> {

@@ -1,9 +1,11 @@
-//! The calls of `fx_engine`, over two endpoints that answer by a script: A at port 8001, B at port 8002. The replies of an endpoint
+//! The calls of `fx_engine`, over two endpoints that answer by a script behind one wire: A at port 8001, B at port 8002. The replies of an endpoint
 //! have a `|` between: `yes` and `no`, tables as their columns, a `/`, and their rows with a `;` behind each, and bytes that begin
 //! with `HTTP/1.1 `.
+ghost use Rattle.std.specs.Prelude.{◌≡◌, ◌<◌, ◌≤◌, IfSome, length};
+ghost use Rattle.fx_engine.specs.Mediation.{IsSpellable};
 
-use fx_algebra::{Answer, Query, Solution, is_plain};
-use fx_engine::{FedError, ReplyFault, federate, plan_parts};
+use fx_algebra::{Answer, Query, Solution, services};
+use fx_engine::{FedError, Options, ReplyFault, fault_code, fault_words, federate, plan_parts};
 use fx_notation::escapes;
 use fx_plan::explain;
 use fx_print::print;
@@ -28,25 +30,28 @@ pub fn answer(alloc: Global, call: &str, inputs: &[&str]) -> Option<String> {
     }
 }
 
-// The query of a field.
-fn query_of(alloc: Global, field: &str) -> Option<Query> {
-    let text = escapes::text(alloc, field)?;
-    parse(alloc, text.as_bytes()).ok()
-}
-
-// Its printed text.
+// The printed text of a query.
 fn printed(alloc: Global, field: &str) -> Option<String> {
-    let query = query_of(alloc, field)?;
+    let text = escapes::text(alloc, field)?;
+    let query = parse(alloc, text.as_bytes()).ok()?;
     print(alloc, &query).ok()
 }
 
 // How many exchanges were answered, and the answer.
 fn federated(alloc: Global, query: &str, first: &str, second: &str) -> Option<String> {
-    let mut wire = wire_of(alloc, first, second)?;
+    let mut wires = wires_of(alloc, first, second)?;
     let mut cache = AskCache::new(alloc).ok()?;
-    let answer = answered(alloc, query, &mut cache, &mut wire)?;
-    let count = wire.log().len();
+    let answer = answered(alloc, query, &mut cache, wires.as_mut_slice())?;
+    let count = exchanges(wires.as_slice())?;
     format!(in alloc; "{count} exchanges: {answer}").ok()
+}
+
+fn exchanges(wires: &[ScriptWire]) -> Option<u64> {
+    let mut count: u64 = 0;
+    for wire in wires {
+        count = count.checked_add(wire.log().len() as u64)?;
+    }
+    Some(count)
 }
 
 // Queries that are answered one after the other with one cache, each with the replies of the endpoints behind it.
@@ -74,9 +79,9 @@ fn told(
     first: &str,
     second: &str,
 ) -> Option<String> {
-    let mut wire = wire_of(alloc, first, second)?;
-    let answer = answered(alloc, query, cache, &mut wire)?;
-    let sent = sent(alloc, &wire)?;
+    let mut wires = wires_of(alloc, first, second)?;
+    let answer = answered(alloc, query, cache, wires.as_mut_slice())?;
+    let sent = sent(alloc, wires.as_slice())?;
     let held = cache.len();
     format!(in alloc; "{sent} => {answer} holds {held}").ok()
 }
@@ -86,59 +91,76 @@ fn answered(
     alloc: Global,
     field: &str,
     cache: &mut AskCache,
-    wire: &mut ScriptWire,
-) -> Option<String> {
+    wires: &mut [ScriptWire],
+) -> Option<String>
+    requires { (0 < length wires.old) × (length wires.old ≤ 16) }
+{
     let registry = Registry::read(alloc, REGISTRY.as_bytes()).ok()?;
-    let query = query_of(alloc, field)?;
-    answered_by(alloc, &query, &registry, cache, wire)
+    let text = escapes::text(alloc, field)?;
+    match parse(alloc, text.as_bytes()) {
+        Ok(query) => answered_by(alloc, &query, &registry, cache, wires),
+        Err(_) => None,
+    }
 }
 
-// The same; nothing where the query isn't plain.
+// The same; nothing where the query has a SERVICE.
 fn answered_by(
     alloc: Global,
     query: &Query,
     registry: &Registry,
     cache: &mut AskCache,
-    wire: &mut ScriptWire,
-) -> Option<String> {
-    if !is_plain(query) {
+    wires: &mut [ScriptWire],
+) -> Option<String>
+    requires wired { (0 < length wires.old) × (length wires.old ≤ 16) }
+    requires spellable { IsSpellable query.now }
+{
+    let occurrences = services(alloc, query).ok()?;
+    if !occurrences.is_empty() {
         return None;
     }
-    match federate(alloc, query, registry, cache, wire) {
-        Ok(answer) => answer_text(alloc, &answer),
-        Err(error) => refusal_text(alloc, error),
+    match federate(alloc, query, registry, cache, Options { block: 15 }, wires) {
+        Ok(outcome) => answer_text(alloc, &outcome.answer),
+        Err(error) => refusal_text(alloc, &error),
     }
 }
 
 // The text of the plan, or the refusal.
 fn planned(alloc: Global, field: &str, first: &str, second: &str) -> Option<String> {
     let registry = Registry::read(alloc, REGISTRY.as_bytes()).ok()?;
-    let mut wire = wire_of(alloc, first, second)?;
-    let query = query_of(alloc, field)?;
-    planned_by(alloc, &query, &registry, &mut wire)
+    let mut wires = wires_of(alloc, first, second)?;
+    let text = escapes::text(alloc, field)?;
+    match parse(alloc, text.as_bytes()) {
+        Ok(query) => planned_by(alloc, &query, &registry, wires.as_mut_slice()),
+        Err(_) => None,
+    }
 }
 
 fn planned_by(
     alloc: Global,
     query: &Query,
     registry: &Registry,
-    wire: &mut ScriptWire,
-) -> Option<String> {
+    wires: &mut [ScriptWire],
+) -> Option<String>
+    requires wired { (0 < length wires.old) × (length wires.old ≤ 16) }
+    requires spellable { IsSpellable query.now }
+{
     let mut cache = AskCache::new(alloc).ok()?;
-    match plan_parts(alloc, query, registry, &mut cache, wire) {
+    match plan_parts(alloc, query, registry, &mut cache, wires) {
         Ok(parts) => explain(alloc, parts.as_slice(), registry.endpoints()).ok(),
-        Err(error) => refusal_text(alloc, error),
+        Err(error) => refusal_text(alloc, &error),
     }
 }
 
 // What was sent, each as its port and its text with a `;` behind.
-fn sent(alloc: Global, wire: &ScriptWire) -> Option<String> {
+fn sent(alloc: Global, wires: &[ScriptWire]) -> Option<String> {
     let mut text = String::new(alloc);
-    for exchange in wire.log() {
-        let request = from_utf8(exchange.request.as_slice()).ok()?;
-        let (_, body) = request.split_once("\r\n\r\n")?;
-        let port = exchange.at.port();
-        write!(text, "{port} {body};").ok()?;
+    for wire in wires {
+        for exchange in wire.log() {
+            let request = from_utf8(exchange.request.as_slice()).ok()?;
+            let (_, body) = request.split_once("\r\n\r\n")?;
+            let port = exchange.at.port();
+            write!(text, "{port} {body};").ok()?;
+        }
     }
     if text.is_empty() {
         text.push_str("nothing").ok()?;
@@ -146,22 +168,26 @@ fn sent(alloc: Global, wire: &ScriptWire) -> Option<String> {
     Some(text)
 }
 
-fn refusal_text(alloc: Global, refusal: FedError) -> Option<String> {
+fn refusal_text(alloc: Global, refusal: &FedError) -> Option<String> {
     match refusal {
-        FedError::Member { at } => format!(in alloc; "member {at} failed").ok(),
-        FedError::BadReply { at, why } => fault_text(alloc, at, why),
-        FedError::RequestTooLong { at, length } => {
-            format!(in alloc; "request for {at} has {length} bytes").ok()
+        FedError::Member { name } => {
+            let name = name.as_str();
+            format!(in alloc; "member {name} failed").ok()
+        }
+        FedError::BadReply { name, bad } => fault_text(alloc, name.as_str(), bad.why),
+        FedError::RequestTooLong { name, length } => {
+            let name = name.as_str();
+            format!(in alloc; "request for {name} has {length} bytes").ok()
         }
         FedError::Memory => None,
     }
 }
 
-fn fault_text(alloc: Global, at: usize, why: ReplyFault) -> Option<String> {
-    let words = why.words();
-    match why.code() {
-        None => format!(in alloc; "bad reply from {at}: {words}").ok(),
-        Some(code) => format!(in alloc; "bad reply from {at}: {words} {code}").ok(),
+fn fault_text(alloc: Global, name: &str, why: ReplyFault) -> Option<String> {
+    let words = fault_words(why);
+    match fault_code(why) {
+        None => format!(in alloc; "bad reply from {name}: {words}").ok(),
+        Some(code) => format!(in alloc; "bad reply from {name}: {words} {code}").ok(),
     }
 }
 
@@ -212,11 +238,16 @@ fn push_between(text: &mut String, number: usize, mark: &str) -> Option<()> {
     Some(())
 }
 
-fn wire_of(alloc: Global, first: &str, second: &str) -> Option<ScriptWire> {
+// One wire over both endpoints.
+fn wires_of(alloc: Global, first: &str, second: &str) -> Option<Vec<ScriptWire>>
+    ensures { IfSome result (λ wires. length wires.items ≡ 1) }
+{
     let mut script = Vec::new(alloc);
     push_replies(alloc, &mut script, 8001, first)?;
     push_replies(alloc, &mut script, 8002, second)?;
-    ScriptWire::new(alloc, script).ok()
+    let mut wires = Vec::new(alloc);
+    wires.push(ScriptWire::new(alloc, script).ok()?).ok()?;
+    Some(wires)
 }
 
 fn push_replies(
@@ -276,9 +307,18 @@ fn table(alloc: Global, columns: &str, rows: &str) -> Option<String> {
 fn push_row(text: &mut String, row: &str) -> Option<()> {
     text.push('{').ok()?;
     for (number, pair) in row.split_whitespace().enumerate() {
-        let (name, iri) = pair.split_once('=')?;
+        let (name, value) = pair.split_once('=')?;
         push_between(text, number, ",")?;
-        write!(text, "\"{name}\":{{\"type\":\"uri\",\"value\":\"{iri}\"}}").ok()?;
+        let kind = if value.parse::<u64>().is_ok() {
+            "literal"
+        } else {
+            "uri"
+        };
+        write!(
+            text,
+            "\"{name}\":{{\"type\":\"{kind}\",\"value\":\"{value}\"}}"
+        )
+        .ok()?;
     }
     text.push('}').ok()?;
     Some(())

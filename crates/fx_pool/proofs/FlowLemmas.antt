@@ -1,6 +1,6 @@
 -- What the units of a run, asked for over the first of several wires, leave of all of them.
-use Rattle.std.proofs.Common.{◌≡◌, ◌∙◌, ap, sym, subst, refl, ℕ, suc, ◌+◌, ◌<◌, ◌≤◌, Bool, List, [], ◌∷◌, ◌++◌, map, Some, IfOk, IfErr, IsTrue, Result, Ok, Err, All, length, get_or, slice_set, arith, append-nil, IsPermutation}
-use Rattle.std.proofs.lemmas.List.Elements.{All-from_recursion, recursion_from_All}
+use Rattle.std.proofs.Common.{◌≡◌, ◌∙◌, ap, sym, subst, refl, ℕ, suc, ◌+◌, ◌<◌, ◌≤◌, Bool, List, [], ◌∷◌, ◌++◌, map, Some, IfOk, IfErr, IsTrue, Result, Ok, Err, All, Contains, length, get_or, slice_set, arith, append-nil, IsPermutation}
+use Rattle.std.proofs.lemmas.List.Elements.{All-from_recursion, All-nil, recursion_from_All}
 use Rattle.std.proofs.lemmas.List.Sorted.{IsPermutation-refl}
 use Rattle.std.proofs.lemmas.List.Sums.{sum_by-cons}
 use Rattle.fx_terms.specs.declared.triples.Triple.{Triple}
@@ -13,6 +13,7 @@ use Rattle.fx_algebra.specs.declared.units.Unit as unit
 use Rattle.fx_spelling.specs.Units.{IsSound}
 use Rattle.fx_bound.specs.Parts.{Parts}
 use Rattle.fx_steps.specs.Steps.{numbered, stepped}
+use Rattle.fx_traffic.specs.Batches.{IsBatchText}
 use Rattle.fx_traffic.specs.Gains.{Tell, TellAll, faults_at}
 use Rattle.fx_traffic.specs.Sent.{Sent}
 use Rattle.fx_traffic.proofs.CutLemmas.{batch_laws}
@@ -68,11 +69,12 @@ module _ (tells alone : Bool) (w t : Seen) (others : List Seen) (es : List Endpo
   over e p xs (flow.RequestTooLong at size) k = k
   over e p xs flow.Memory k = tt
 
-  cause_over : (wanted : List Sent) (xs : List Exchange) (why : FlowError) (k : IsRunCause w t es us wanted xs why) → IsMemberCause w t es (record { unit = k.unit; rows = k.batch }) k.unit.members xs why → IsFlowCause (w ∷ others) (t ∷ others) es us wanted xs why
+  cause_over : (wanted : List Sent) (xs : List Exchange) (why : FlowError) (k : IsRunCause w t es us block wanted xs why) → IsMemberCause w t es (record { unit = k.unit; rows = k.batch }) k.unit.members xs why → IsFlowCause (w ∷ others) (t ∷ others) es us block wanted xs why
   cause_over wanted xs why k m = record {
     unit = k.unit;
     of_run = k.of_run;
     batch = k.batch;
+    sized = k.sized;
     allowed = k.allowed;
     at = m.at;
     member = m.member;
@@ -82,7 +84,7 @@ module _ (tells alone : Bool) (w t : Seen) (others : List Seen) (es : List Endpo
     cause = over m.endpoint (record { unit = k.unit; rows = k.batch }) xs why m.cause;
   }
 
-  has_cause : (wanted : List Sent) (xs : List Exchange) (why : FlowError) → IsRunCause w t es us wanted xs why → HasFlowCause (w ∷ others) (t ∷ others) es us wanted xs why
+  has_cause : (wanted : List Sent) (xs : List Exchange) (why : FlowError) → IsRunCause w t es us block wanted xs why → HasFlowCause (w ∷ others) (t ∷ others) es us block wanted xs why
   has_cause wanted xs (flow.Member at) k = cause_over wanted xs (flow.Member at) k k.cause
   has_cause wanted xs (flow.BadReply at bad) k = cause_over wanted xs (flow.BadReply at bad) k k.cause
   has_cause wanted xs (flow.RequestTooLong at size) k = cause_over wanted xs (flow.RequestTooLong at size) k k.cause
@@ -101,6 +103,7 @@ module _ (tells alone : Bool) (w t : Seen) (others : List Seen) (es : List Endpo
     wanted = h.wanted;
     left = h.left;
     sent = h.sent;
+    of_batches = h.of_batches;
     of_run = λ graphs told sound. h.of_run graphs (first_told es graphs told) sound;
     done = done r h.done;
     cause = cause r h.cause;
@@ -111,7 +114,7 @@ module _ (tells alone : Bool) (w t : Seen) (others : List Seen) (es : List Endpo
       done (Ok next) k = λ graphs told sound. k graphs (first_told es graphs told) sound
       done (Err why) k = tt
 
-      cause : (o : Result (List Row) FlowError) → IfErr o (IsRunCause w t es us h.wanted h.exchanges) → IfErr o (HasFlowCause (w ∷ others) (t ∷ others) es us h.wanted h.exchanges)
+      cause : (o : Result (List Row) FlowError) → IfErr o (IsRunCause w t es us block h.wanted h.exchanges) → IfErr o (HasFlowCause (w ∷ others) (t ∷ others) es us block h.wanted h.exchanges)
       cause (Ok next) k = tt
       cause (Err why) k = has_cause h.wanted h.exchanges why k
 
@@ -136,6 +139,7 @@ not_flowed tells alone wires es us block rows = record {
   wanted = [];
   left = [];
   sent = IsPermutation-refl [];
+  of_batches = All-nil (IsBatchText es block (Contains us));
   of_run = λ graphs told sound. batch_laws.nothing es (union graphs) block 1 us rows;
   done = tt;
   cause = tt;

@@ -1,7 +1,7 @@
 -- What asking for the units of a run, one after another, leaves of a wire.
 use Rattle.std.proofs.Common.{◌≡◌, ◌∙◌, ap, sym, subst, refl, Bool, ◌+◌, ◌/◌, ◌≤◌, ℕ, List, [], ◌∷◌, ◌++◌, Ok, Err, All, Contains, IsPermutation, length, arith, append-nil, append_assoc}
 use Rattle.std.proofs.lemmas.List.Sorted.{IsPermutation-refl, IsPermutation-trans, length_permutation}
-use Rattle.std.proofs.lemmas.List.Elements.{All-contains}
+use Rattle.std.proofs.lemmas.List.Elements.{All-append, All-contains, All-nil}
 use Rattle.fx_terms.specs.declared.triples.Triple.{Triple}
 use Rattle.fx_terms.proofs.SetLemmas.{among_from, contains_from}
 use Rattle.fx_algebra.proofs.MemberLemmas.{among_flat_map, among_right}
@@ -12,10 +12,11 @@ use Rattle.fx_algebra.specs.declared.units.Row.{Row}
 use Rattle.fx_algebra.specs.declared.units.Unit as unit
 use Rattle.fx_spelling.specs.Units.{IsSound}
 use Rattle.fx_steps.specs.Steps.{stepped}
-use Rattle.fx_traffic.specs.Batches.{AreBatchesOf, IsRunSent, IsStepSent, batches_sent, unit_sent}
+use Rattle.fx_traffic.specs.Batches.{AreBatchesOf, IsBatchText, IsRunSent, IsSized, IsStepSent, batches_sent, unit_sent}
 use Rattle.fx_traffic.specs.Sent.{Sent}
 use Rattle.fx_traffic.proofs.CutLemmas.{batch_laws, step_sent_any_order}
 use Rattle.fx_traffic.proofs.SentLemmas.{sent_laws}
+use Rattle.fx_traffic.proofs.TextLemmas.{texts_of_batches}
 use Rattle.fx_wire.specs.Exchanges.{Seen}
 use Rattle.fx_pool.specs.Flows.{AskedStep, AskedUnits, AskedUnitsSoFar, IsOnTheWay, Passed}
 use Rattle.fx_pool.specs.declared.flows.FlowError.{FlowError}
@@ -29,6 +30,7 @@ none_yet alone s es us block rows = record {
   wanted = [];
   left = [];
   sent = IsPermutation-refl [];
+  of_batches = All-nil (IsBatchText es block (Contains us));
   on_the_way = λ graphs told sound. record { defined = rows; same = IsPermutation-refl rows; most = 1; one = omega arith; goes_on = λ rest h. h; comes_out = refl };
 }
 
@@ -52,6 +54,7 @@ module _ (alone : Bool) (s t : Seen) (es : List EndpointParts) (us behind : List
     wanted = h.wanted;
     left = h.left;
     sent = h.sent;
+    of_batches = h.of_batches;
     of_run = λ graphs told sound.
         let way = h.on_the_way graphs told sound in
         subst (IsRunSent es (union graphs) block 1 us rows) (append-nil h.wanted) (way.goes_on [] (batch_laws.nothing es (union graphs) block way.most behind way.defined));
@@ -72,6 +75,10 @@ module _ (alone : Bool) (s t : Seen) (es : List EndpointParts) (us behind : List
   module _ (v : Seen) (u : unit.Unit) (others : List unit.Unit) (is : behind ≡ u ∷ others) (its : Contains us u) where
     its_sound : (graphs : List (List Triple)) → All (IsSound graphs) us → IsSound graphs u
     its_sound graphs sound = All-contains (IsSound graphs) us u sound its
+
+    -- the texts of a step behind those before
+    and_batches : (batches : List (List Row)) → All (IsSized block) batches → All (IsBatchText es block (Contains us)) (h.wanted ++ batches_sent es u batches)
+    and_batches batches sized = All-append (IsBatchText es block (Contains us)) h.wanted (batches_sent es u batches) h.of_batches (texts_of_batches es block (Contains us) u its batches sized)
 
     -- what a step sends behind what was sent before
     goes : (graphs : List (List Triple)) (way : IsOnTheWay es (union graphs) us behind block rows next h.wanted) (batches : List (List Row)) → AreBatchesOf next block (1 + length next / block) batches
@@ -95,6 +102,7 @@ module _ (alone : Bool) (s t : Seen) (es : List EndpointParts) (us behind : List
       wanted = h.wanted ++ batches_sent es u k.batches;
       left = h.left ++ k.left;
       sent = sent_laws.together h.wanted h.left (batches_sent es u k.batches) k.left h.exchanges k.exchanges h.sent k.sent;
+      of_batches = and_batches k.batches k.cut.sized;
       on_the_way = λ graphs told sound.
           let way = h.on_the_way graphs told sound in
           record {
@@ -119,6 +127,7 @@ module _ (alone : Bool) (s t : Seen) (es : List EndpointParts) (us behind : List
       wanted = h.wanted ++ batches_sent es u k.batches;
       left = h.left ++ k.left;
       sent = sent_laws.together h.wanted h.left (batches_sent es u k.batches) k.left h.exchanges k.exchanges h.sent k.sent;
+      of_batches = and_batches k.batches k.cut.sized;
       of_run = λ graphs told sound.
           let way = h.on_the_way graphs told sound in
           subst (IsRunSent es (union graphs) block 1 us rows) (append-nil (h.wanted ++ batches_sent es u k.batches))
@@ -128,6 +137,7 @@ module _ (alone : Bool) (s t : Seen) (es : List EndpointParts) (us behind : List
         unit = u;
         of_run = its;
         batch = k.cause.batch;
+        sized = All-contains (IsSized block) k.batches k.cause.batch k.cut.sized k.cause.among;
         allowed = λ x m.
             contains_from (h.wanted ++ batches_sent es u k.batches) x
             (among_right x h.wanted (batches_sent es u k.batches)

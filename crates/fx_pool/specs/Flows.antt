@@ -15,7 +15,7 @@ use Rattle.fx_http.specs.declared.replies.ReplyError.TheVariants.{TooLong}
 use Rattle.fx_bound.specs.Answers.{AreReadOf, IsRead, numbers}
 use Rattle.fx_bound.specs.Parts.{Parts, text_of}
 use Rattle.fx_bound.specs.declared.founds.Found.{Found}
-use Rattle.fx_traffic.specs.Batches.{AreBatchesOf, AreCut, IsRunSent, batches_sent, member_sent, unit_sent}
+use Rattle.fx_traffic.specs.Batches.{AreBatchesOf, AreCut, IsBatchText, IsRunSent, IsSized, batches_sent, member_sent, unit_sent}
 use Rattle.fx_steps.specs.Steps.{stepped}
 use Rattle.fx_traffic.specs.Sent.{Sent, Sends}
 use Rattle.fx_wire.specs.Exchanges.{Exchange, Seen, exchanged}
@@ -213,11 +213,12 @@ pub record AskedSoFar (alone : Bool) (before after : Seen) (endpoints : List End
 
 -- ---- the units of a run
 
--- why a run ends: the cause at a batch of one of its units, whose texts are wanted
-pub record IsRunCause (before after : Seen) (endpoints : List EndpointParts) (us : List unit.Unit) (wanted : List Sent) (xs : List Exchange) (e : FlowError) : Type 0 where
+-- why a run ends: the cause at a batch of one of its units, of no more rows than so many, whose texts are wanted
+pub record IsRunCause (before after : Seen) (endpoints : List EndpointParts) (us : List unit.Unit) (block : ℕ) (wanted : List Sent) (xs : List Exchange) (e : FlowError) : Type 0 where
   pub unit : unit.Unit
   pub of_run : Contains us unit
   pub batch : List Row
+  pub sized : IsSized block batch
   pub allowed : (x : Sent) → Contains (unit_sent endpoints unit batch) x → Contains wanted x
   pub cause : HasMemberCause before after endpoints (record { unit = unit; rows = batch }) unit.members xs e
 
@@ -231,9 +232,10 @@ pub record AskedUnits (alone : Bool) (before after : Seen) (endpoints : List End
   pub wanted : List Sent
   pub left : List Sent
   pub sent : Sends wanted left exchanges
+  pub of_batches : All (IsBatchText endpoints block (Contains us)) wanted
   pub of_run : (graphs : List (List Triple)) → AreTold before.graph endpoints graphs → All (IsSound graphs) us → IsRunSent endpoints (union graphs) block 1 us rows wanted
   pub done : IfOk result (λ next. (graphs : List (List Triple)) → AreTold before.graph endpoints graphs → All (IsSound graphs) us → IsPermutation next (stepped (union graphs) us rows))
-  pub cause : IfErr result (IsRunCause before after endpoints us wanted exchanges)
+  pub cause : IfErr result (IsRunCause before after endpoints us block wanted exchanges)
 
 -- the rows that enter a unit, as the definitions have them, and what is left to be sent and to be joined from there
 pub record IsOnTheWay (endpoints : List EndpointParts) (graph : List Triple) (us behind : List unit.Unit) (block : ℕ) (rows next : List Row) (wanted : List Sent) : Type 0 where
@@ -250,4 +252,5 @@ pub record AskedUnitsSoFar (alone : Bool) (before after : Seen) (endpoints : Lis
   pub wanted : List Sent
   pub left : List Sent
   pub sent : Sends wanted left exchanges
+  pub of_batches : All (IsBatchText endpoints block (Contains us)) wanted
   pub on_the_way : (graphs : List (List Triple)) → AreTold before.graph endpoints graphs → All (IsSound graphs) us → IsOnTheWay endpoints (union graphs) us behind block rows next wanted

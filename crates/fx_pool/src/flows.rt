@@ -40,9 +40,9 @@ pub enum FlowError {
 ///
 /// Where the wires tell the graphs of all endpoints, and each unit is sound over these, the rows are those of the steps over their union, in
 /// some order: each merges a solution under its number with what the units' patterns have there. Where wires tell their logs, they gained texts
-/// of batches of the rows that enter each unit, and no batch is sent to a member twice. What ends a run early is the first of these:
-/// `Member`, an exchange with the endpoint failed, which its wire counted as a fault at its address; `BadReply`, with the first fault of what was
-/// replied; `RequestTooLong`, a text has more than 67,108,864 bytes, and wasn't sent; `Memory`.
+/// of batches of the units; where they tell the graphs too, of batches of the rows that enter each unit, and no batch is sent to a member twice.
+/// What ends a run early is one of these: `Member`, an exchange with the endpoint failed, which its wire counted as a fault at its address;
+/// `BadReply`, with the first fault of what was replied; `RequestTooLong`, a text has more than 67,108,864 bytes, and wasn't sent; `Memory`.
 pub fn run_flow<W: Wire + Send>(
     alloc: Global,
     endpoints: &[Endpoint],

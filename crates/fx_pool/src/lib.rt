@@ -15,12 +15,24 @@ use fx_terms::shareable;
 pub use jobs::{BadReply, Job, JobKind, JobReply, RequestText, Work};
 pub use running::run_jobs;
 
-/// Texts of requests and what comes of jobs and runs may be shared between threads and sent to them.
+/// Every type of this crate may be shared between threads and sent to them.
 pub fn all_shareable() {
     shareable::<RequestText>();
+    share_works();
+    share_jobs();
     shareable::<JobKind>();
     shareable::<JobReply>();
     shareable::<BadReply>();
     shareable::<ReplyFault>();
     shareable::<FlowError>();
+}
+
+// The search for this ends only where it is asked for by itself.
+fn share_works() {
+    shareable::<Work>();
+}
+
+// So it is of this.
+fn share_jobs() {
+    shareable::<Job>();
 }

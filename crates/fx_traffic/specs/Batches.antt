@@ -1,6 +1,6 @@
 -- What a run of triple patterns sends: for each step of its plan batches of the rows that enter it, each to the members of its unit.
 -- (FedX: bound joins.)
-use Rattle.std.specs.Prelude.{◌≡◌, Option, None, ℕ, ◌+◌, ◌*◌, ◌/◌, ◌<◌, ◌≤◌, List, [], ◌∷◌, ◌++◌, length, Some, All, IsPermutation, slice_get}
+use Rattle.std.specs.Prelude.{◌≡◌, Option, None, ℕ, ◌+◌, ◌*◌, ◌/◌, ◌<◌, ◌≤◌, List, [], ◌∷◌, ◌++◌, length, Some, All, Contains, IsPermutation, slice_get}
 use Rattle.std.specs.List.{flat_map}
 use Rattle.fx_terms.specs.declared.triples.Triple.{Triple}
 use Rattle.fx_outside.specs.Endpoints.{EndpointParts}
@@ -59,6 +59,14 @@ unit_sent endpoints u batch = flat_map (member_sent endpoints u batch) u.members
 
 abbrev pub batches_sent : List EndpointParts → unit.Unit → List (List Row) → List Sent
 batches_sent endpoints u batches = flat_map (unit_sent endpoints u) batches
+
+-- one of the texts of a batch, of no more rows than so many, of a unit of these
+pub record IsBatchText (endpoints : List EndpointParts) (block : ℕ) (Of : unit.Unit → Type 0) (x : Sent) : Type 0 where
+  pub unit : unit.Unit
+  pub of_these : Of unit
+  pub batch : List Row
+  pub sized : IsSized block batch
+  pub sent : Contains (unit_sent endpoints unit batch) x
 
 -- what a step sends whose unit these rows enter
 pub record IsStepSent (endpoints : List EndpointParts) (u : unit.Unit) (rows : List Row) (block most : ℕ) (wanted : List Sent) : Type 0 where

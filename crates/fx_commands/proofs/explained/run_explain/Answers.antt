@@ -1,61 +1,76 @@
-use Rattle.std.proofs.Common.{sym, subst, Ok, Err, inl}
-use Rattle.fx_commands.specs.declared.statuses.Status.{Status}
-use Rattle.fx_commands.specs.Explain.{IsExplainReported}
+use Rattle.std.proofs.Common.{sym, subst, refl, Ok, Err, inl, map}
+use Rattle.fx_algebra.specs.declared.queries.Query.{Query}
 use Rattle.fx_outside.proofs.CountLemmas.{stayed_both}
+use Rattle.fx_pool.proofs.WireLemmas.{after_itself}
+use Rattle.fx_commands.specs.Asking.{wires_seen}
 use Rattle.fx_commands.specs.Counts.{CountsOnly}
 use Rattle.fx_commands.specs.Files.{file_read}
+use Rattle.fx_commands.specs.LocalSteps.{GivesQuery, query_line}
+use Rattle.fx_commands.specs.MemberSteps.{registry_line}
+use Rattle.fx_commands.specs.Explain.{IsExplainReported, IsExplanation}
 use Rattle.fx_commands.specs.RefusalStatuses.{query_status, registry_status}
+use Rattle.fx_commands.specs.declared.statuses.Status.{Status}
 use Rattle.fx_commands.specs.declared.statuses.Status.TheVariants as status
 use Rattle.fx_commands.proofs.CountLemmas.{only_later, only_read}
-use Rattle.fx_algebra.specs.declared.queries.Query.{Query}
-use Rattle.fx_commands.specs.LocalSteps.{GivesQuery, query_line}
-use Rattle.fx_commands.specs.QuerySteps.{registry_line}
-use Rattle.fx_commands.proofs.ExplainLemmas.{registry_explained, query_explained, plan_explained}
-use Rattle.fx_commands.proofs.QueryLemmas.{query_since}
+use Rattle.fx_commands.proofs.QueryLemmas.{query_refused_before, query_since, query_wrote, registry_refused_before, registry_wrote, wrote_so}
+use Rattle.fx_commands.proofs.ExplainLemmas.{an_explanation, plan_explained}
 use Rattle.fx_commands.proofs.explained.run_explain.Goals as goal
 
 pub returns-in-Err-clause-reported : goal.returns-in-Err-clause-reported
 returns-in-Err-clause-reported g c =
-    let wire = g.W.Wire.seen c.args.wire.now in
+    let w = wires_seen g.W.Wire.tells_log g.W.Wire.counts_alone g.W.Wire.seen c.args.wires.now c.args.wires.now in
     let read = file_read (g.F.Files.seen c.args.files.now) (g.F.Files.seen c.load_registry.new.files) in
     let registry = read c.args.registry.now in
     let query = read c.args.query.now in
     let text = registry_line c.in-Err.refusal c.args.registry.now in (
       text,
-      subst (λ (s : Status). IsExplainReported wire wire registry query s text) (sym c.status.ensures) (registry_explained wire registry query c.in-Err.refusal c.in-Err.ensures.outcome),
+      subst (λ (s : Status). IsExplainReported w registry query s text) (sym c.status.ensures) (inl (refl, inl (registry_refused_before registry query c.in-Err.refusal c.in-Err.ensures.outcome))),
       c.write_registry_refusal.ensures,
     )
 
 pub returns-in-Err-load_query-clause-reported : goal.returns-in-Err-load_query-clause-reported
 returns-in-Err-load_query-clause-reported g c =
-    let wire = g.W.Wire.seen c.args.wire.now in
+    let w = wires_seen g.W.Wire.tells_log g.W.Wire.counts_alone g.W.Wire.seen c.args.wires.now c.args.wires.now in
     let read = file_read (g.F.Files.seen c.args.files.now) (g.F.Files.seen c.load_query.new.files) in
     let registry = read c.args.registry.now in
     let query = read c.args.query.now in
-    let text = query_line c.in-Err-load_query.refusal c.args.query.now in (
+    let text = query_line c.in-Err-load_query.refusal c.args.query.now in
+    let since = query_since c.args.query.now _ _ ((g.F.Files.seen c.args.files.now).faults c.args.query.now) ((g.F.Files.seen c.load_registry.new.files).faults c.args.query.now) ((g.F.Files.seen c.load_query.new.files).faults c.args.query.now) (Err c.in-Err-load_query.refusal) (c.load_registry.ensures.same c.args.query.now) (c.load_registry.ensures.kept c.args.query.now) c.in-Err-load_query.ensures.outcome in (
       text,
-      subst (λ (s : Status). IsExplainReported wire wire registry query s text) (sym c.status-in-Err-load_query.ensures) (
-          query_explained wire registry query _ c.in-Err-load_query.refusal c.in-Ok.ensures.outcome
-          (query_since c.args.query.now _ _ ((g.F.Files.seen c.args.files.now).faults c.args.query.now) ((g.F.Files.seen c.load_registry.new.files).faults c.args.query.now) ((g.F.Files.seen c.load_query.new.files).faults c.args.query.now) (Err c.in-Err-load_query.refusal) (c.load_registry.ensures.same c.args.query.now) (c.load_registry.ensures.kept c.args.query.now) c.in-Err-load_query.ensures.outcome)
-          ),
+      subst (λ (s : Status). IsExplainReported w registry query s text) (sym c.status-in-Err-load_query.ensures) (inl (refl, inl (query_refused_before registry query _ c.in-Err-load_query.refusal c.in-Ok.ensures.outcome since))),
       c.write_query_refusal.ensures,
     )
 
 pub returns-clause-reported : goal.returns-clause-reported
 returns-clause-reported g c =
-    let of = g.W.Wire.seen in
+    let w = wires_seen g.W.Wire.tells_log g.W.Wire.counts_alone g.W.Wire.seen c.args.wires.now c.explain_over.new.wires in
     let read = file_read (g.F.Files.seen c.args.files.now) (g.F.Files.seen c.load_query.new.files) in
     let registry = read c.args.registry.now in
     let query = read c.args.query.now in
-    let told = c.explain_over.ensures.reported in (
+    let told = c.explain_over.ensures.reported in
+    let since = query_since c.args.query.now _ _ ((g.F.Files.seen c.args.files.now).faults c.args.query.now) ((g.F.Files.seen c.load_registry.new.files).faults c.args.query.now) ((g.F.Files.seen c.load_query.new.files).faults c.args.query.now) (Ok c.in-Ok-load_query.asked) (c.load_registry.ensures.same c.args.query.now) (c.load_registry.ensures.kept c.args.query.now) c.in-Ok-load_query.ensures.outcome in (
       told.0,
-      plan_explained (of c.args.wire.now) (of c.explain_over.new.wire) registry query _ c.get.result.now c.explain_over.result told.0
-          c.in-Ok.ensures.outcome
-          (subst (λ (q : Query). GivesQuery query (Ok q)) (sym c.get.ensures) (query_since c.args.query.now _ _ ((g.F.Files.seen c.args.files.now).faults c.args.query.now) ((g.F.Files.seen c.load_registry.new.files).faults c.args.query.now) ((g.F.Files.seen c.load_query.new.files).faults c.args.query.now) (Ok c.in-Ok-load_query.asked) (c.load_registry.ensures.same c.args.query.now) (c.load_registry.ensures.kept c.args.query.now) c.in-Ok-load_query.ensures.outcome))
-          told.1
-          c.explain_over.ensures.begun,
+      plan_explained w registry query _ c.get.result.now c.explain_over.result told.0 c.in-Ok.ensures.outcome (subst (λ (q : Query). GivesQuery query (Ok q)) (sym c.get.ensures) since) told.1,
       told.2,
     )
+
+pub returns-in-Err-clause-written : goal.returns-in-Err-clause-written
+returns-in-Err-clause-written g c = λ told.
+    let read = file_read (g.F.Files.seen c.args.files.now) (g.F.Files.seen c.load_registry.new.files) in
+    registry_wrote (IsExplanation (map g.W.Wire.seen c.args.wires.now) (read c.args.registry.now) (read c.args.query.now)) c.in-Err.refusal _ _ c.status.ensures
+
+pub returns-in-Err-load_query-clause-written : goal.returns-in-Err-load_query-clause-written
+returns-in-Err-load_query-clause-written g c = λ told.
+    let read = file_read (g.F.Files.seen c.args.files.now) (g.F.Files.seen c.load_query.new.files) in
+    query_wrote (IsExplanation (map g.W.Wire.seen c.args.wires.now) (read c.args.registry.now) (read c.args.query.now)) c.in-Err-load_query.refusal _ _ c.status-in-Err-load_query.ensures
+
+pub returns-clause-written : goal.returns-clause-written
+returns-clause-written g c = λ told.
+    let read = file_read (g.F.Files.seen c.args.files.now) (g.F.Files.seen c.load_query.new.files) in
+    let registry = read c.args.registry.now in
+    let query = read c.args.query.now in
+    let since = query_since c.args.query.now _ _ ((g.F.Files.seen c.args.files.now).faults c.args.query.now) ((g.F.Files.seen c.load_registry.new.files).faults c.args.query.now) ((g.F.Files.seen c.load_query.new.files).faults c.args.query.now) (Ok c.in-Ok-load_query.asked) (c.load_registry.ensures.same c.args.query.now) (c.load_registry.ensures.kept c.args.query.now) c.in-Ok-load_query.ensures.outcome in
+    wrote_so _ _ (λ text k. an_explanation (map g.W.Wire.seen c.args.wires.now) registry query _ c.get.result.now text c.in-Ok.ensures.outcome (subst (λ (q : Query). GivesQuery query (Ok q)) (sym c.get.ensures) since) k) c.explain_over.result _ _ (c.explain_over.ensures.written told)
 
 pub returns-in-Err-clause-read_faults : goal.returns-in-Err-clause-read_faults
 returns-in-Err-clause-read_faults g c =
@@ -73,3 +88,9 @@ returns-in-Err-load_query-clause-read_faults g c =
 
 pub returns-clause-read_faults : goal.returns-clause-read_faults
 returns-clause-read_faults g c = inl (stayed_both (g.F.Files.seen c.args.files.now).faults (g.F.Files.seen c.load_registry.new.files).faults (g.F.Files.seen c.load_query.new.files).faults c.in-Ok.ensures.counted c.in-Ok-load_query.ensures.counted)
+
+pub returns-in-Err-clause-wired : goal.returns-in-Err-clause-wired
+returns-in-Err-clause-wired g c = after_itself (map g.W.Wire.seen c.args.wires.now)
+
+pub returns-in-Err-load_query-clause-wired : goal.returns-in-Err-load_query-clause-wired
+returns-in-Err-load_query-clause-wired g c = after_itself (map g.W.Wire.seen c.args.wires.now)

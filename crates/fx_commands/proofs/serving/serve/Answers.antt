@@ -1,4 +1,4 @@
-use Rattle.std.proofs.Common.{◌≡◌, ◌∙◌, ap, sym, subst, refl, ◌+◌, ◌++◌, Err, inl, arith}
+use Rattle.std.proofs.Common.{◌≡◌, ◌∙◌, ap, sym, subst, refl, ◌+◌, [], Err, inl, arith}
 use Rattle.fx_outside.specs.declared.doors.DoorError.TheVariants as door
 use Rattle.fx_outside.proofs.AlikeLemmas.{alike}
 use Rattle.fx_commands.specs.Counts.{CountsDoor}
@@ -6,7 +6,7 @@ use Rattle.fx_commands.specs.Serving.{ending_line, ending_lines, IsServingReport
 use Rattle.fx_commands.specs.ServingSteps.{end_line}
 use Rattle.fx_commands.specs.declared.statuses.Status.{Status}
 use Rattle.fx_commands.proofs.CountLemmas.{end_counts}
-use Rattle.fx_commands.proofs.GainLemmas.{gains_then, pieces_whole}
+use Rattle.fx_commands.proofs.GainLemmas.{gains_behind, gains_none}
 use Rattle.fx_commands.proofs.ServingLemmas.{first, next, unwritten, cut, ended}
 use Rattle.fx_commands.proofs.serving.serve.Goals as goal
 
@@ -22,9 +22,10 @@ pub returns-in-Err-write_ending-clause-reported : goal.returns-in-Err-write_endi
 returns-in-Err-write_ending-clause-reported g c =
     let so = c.loop-number.invariant in
     let last = ending_line (c.loop-number.number + 1) c.in-Ok.ending in (
-      ending_lines 1 so.endings ++ last,
+      ending_lines 1 so.endings,
+      last,
       unwritten c.args.store.now (g.D.Door.seen c.args.door.now) g.E.Ends.tells_held (g.E.Ends.held c.args.err.now) (g.E.Ends.write_faults c.args.err.now) (g.D.Door.seen c.loop-number.door) (g.D.Door.seen c.serve_next.new.door) (g.E.Ends.held c.loop-number.err) (g.E.Ends.write_faults c.loop-number.err) c.loop-number.number so (alike g.met.D.Door.told c.loop-number.door c.args.door.now) c.args.address.now c.args.count c.requires c.loop-number-test.true c.in-Ok.ending c.in-Ok.ensures.ended c.in-Ok.ensures.started,
-      λ told. gains_then _ _ _ _ (g.E.Ends.write_faults c.loop-number.err) _ (ending_lines 1 so.endings) last (so.lines told) (omega (arith, so.faultless)) (record { front = c.in-Err-write_ending.ensures.front told; whole = λ not. absurd (not (c.in-Err-write_ending.ensures.failed refl)) }),
+      λ told. gains_behind _ _ _ _ (g.E.Ends.write_faults c.loop-number.err) _ (ending_lines 1 so.endings) last (so.lines told) so.faultless (record { front = c.in-Err-write_ending.ensures.front told; whole = λ not. absurd (not (c.in-Err-write_ending.ensures.failed refl)) }),
     )
 
 pub returns-in-Err-clause-reported : goal.returns-in-Err-clause-reported
@@ -33,18 +34,19 @@ returns-in-Err-clause-reported g c =
     let after = g.D.Door.seen c.serve_next.new.door in
     let so = c.loop-number.invariant in
     let e = c.in-Err.error in
-    let text = ending_lines 1 so.endings ++ end_line e in (
-      text,
-      subst (λ (s : Status). IsServingReported before after c.args.address.now c.args.count c.args.store.now s text) (sym c.end.ensures.status)
-          (ended before after c.args.address.now c.args.count c.args.store.now e text (λ is. omega (arith, so.unfailed, c.in-Err.ensures.counted (ap Err is)))
+    let lines = ending_lines 1 so.endings in (
+      lines,
+      end_line e,
+      subst (λ (s : Status). IsServingReported before after c.args.address.now c.args.count c.args.store.now s lines (end_line e)) (sym c.end.ensures.status)
+          (ended before after c.args.address.now c.args.count c.args.store.now e lines (end_line e) (λ is. omega (arith, so.unfailed, c.in-Err.ensures.counted (ap Err is)))
           (cut c.args.store.now before g.E.Ends.tells_held (g.E.Ends.held c.args.err.now) (g.E.Ends.write_faults c.args.err.now) (g.D.Door.seen c.loop-number.door) after (g.E.Ends.held c.loop-number.err) (g.E.Ends.write_faults c.loop-number.err) c.loop-number.number so (alike g.met.D.Door.told c.loop-number.door c.args.door.now) c.args.address.now c.args.count c.requires c.loop-number-test.true e c.in-Err.ensures.ended c.in-Err.ensures.started (end_line e))),
-      λ told. gains_then _ _ _ _ _ _ (ending_lines 1 so.endings) (end_line e) (so.lines told) (omega (arith, so.faultless)) (c.end.ensures.line told),
+      λ told. gains_behind _ _ _ _ _ _ lines (end_line e) (so.lines told) so.faultless (c.end.ensures.line told),
     )
 
 pub returns-clause-reported : goal.returns-clause-reported
 returns-clause-reported g c =
     let so = c.loop-number.invariant in
-    (ending_lines 1 so.endings, (so.endings, so.serves, so.count ∙ omega (arith, c.loop-number-test.false, c.loop-number.auto.number-end), λ tells. so.started tells ∙ c.requires tells, refl), λ told. record { front = pieces_whole _ _ _ (so.lines told); whole = λ not. so.lines told })
+    (ending_lines 1 so.endings, [], (so.endings, so.serves, so.count ∙ omega (arith, c.loop-number-test.false, c.loop-number.auto.number-end), λ tells. so.started tells ∙ c.requires tells, refl, refl), λ told. gains_none _ _ _ _ (ending_lines 1 so.endings) (so.lines told))
 
 pub returns-in-Err-write_ending-clause-door_faults : goal.returns-in-Err-write_ending-clause-door_faults
 returns-in-Err-write_ending-clause-door_faults g c = inl (c.in-Ok.ensures.faultless (λ failed. cc) ∙ c.loop-number.invariant.unfailed)

@@ -1,4 +1,4 @@
-use Rattle.std.proofs.Common.{◌≡◌, ap, sym, subst, refl, Err, arith}
+use Rattle.std.proofs.Common.{◌≡◌, ap, sym, subst, refl, [], Err, arith}
 use Rattle.fx_outside.specs.declared.doors.DoorError.TheVariants as door
 use Rattle.std.specs.Prelude.{IsTrue}
 use Rattle.fx_outside.proofs.AlikeLemmas.{alike}
@@ -7,7 +7,8 @@ use Rattle.fx_commands.specs.Serving.{IsServingReported}
 use Rattle.fx_commands.specs.ServingSteps.{end_line}
 use Rattle.fx_commands.specs.declared.statuses.Status.{Status}
 use Rattle.fx_commands.proofs.CountLemmas.{door_later, end_counts}
-use Rattle.fx_commands.proofs.ServingLemmas.{not_opened, ended}
+use Rattle.fx_commands.proofs.GainLemmas.{gains_alone}
+use Rattle.fx_commands.proofs.ServingLemmas.{not_opened, ended, opened_reported}
 use Rattle.fx_commands.proofs.serving.serve_store.Goals as goal
 
 pub serve-requires : goal.serve-requires
@@ -18,10 +19,21 @@ returns-in-Err-clause-reported g c =
     let before = g.D.Door.seen c.args.door.now in
     let after = g.D.Door.seen c.start.new.self in
     let e = c.in-Err.error in (
+      [],
       end_line e,
-      subst (λ (s : Status). IsServingReported before after c.args.address.now c.args.count c.args.store.now s (end_line e)) (sym c.end.ensures.status)
-          (ended before after c.args.address.now c.args.count c.args.store.now e (end_line e) (λ is. let more = c.in-Err.ensures.counted (ap Err is) in omega (arith, more)) (not_opened c.args.store.now before after c.args.address.now c.args.count (end_line e) (λ tells. c.in-Err.ensures.unstarted tells) c.in-Err.ensures.outputs c.in-Err.ensures.inputs)),
-      c.end.ensures.line,
+      subst (λ (s : Status). IsServingReported before after c.args.address.now c.args.count c.args.store.now s [] (end_line e)) (sym c.end.ensures.status)
+          (ended before after c.args.address.now c.args.count c.args.store.now e [] (end_line e) (λ is. let more = c.in-Err.ensures.counted (ap Err is) in omega (arith, more)) (not_opened c.args.store.now before after c.args.address.now c.args.count (end_line e) (λ tells. c.in-Err.ensures.unstarted tells) c.in-Err.ensures.outputs c.in-Err.ensures.inputs)),
+      λ told. gains_alone _ _ _ _ (end_line e) (c.end.ensures.line told),
+    )
+
+pub returns-in-Ok-clause-reported : goal.returns-in-Ok-clause-reported
+returns-in-Ok-clause-reported g c =
+    let see = g.D.Door.seen in
+    let given = c.serve.ensures.reported in (
+      given.0,
+      given.1,
+      opened_reported c.args.store.now (see c.args.door.now) (see c.start.new.self) (see c.serve.new.door) c.args.address.now (λ tells. subst IsTrue (alike g.met.D.Door.told c.args.door.now c.start.new.self) tells) c.in-Ok.ensures.started c.in-Ok.ensures.outputs c.in-Ok.ensures.inputs c.in-Ok.ensures.kept c.args.count c.serve.result given.0 given.1 given.2,
+      given.3,
     )
 
 pub returns-in-Err-clause-door_faults : goal.returns-in-Err-clause-door_faults

@@ -13,7 +13,7 @@ returns-in-Err g c =
     let parts = c.args.plan.now in
     let q = c.args.query.now in
     let later = c.group_rows.new.next in
-    refused_as g.W.Wire.tells_log g.W.Wire.counts_alone c.args.endpoints.now (units_in parts) (map g.W.Wire.seen c.args.wires.now) (map g.W.Wire.seen c.group_rows.new.wires) (GroupGiven c.args.endpoints.now c.args.block parts 0 later q.group) (GroupDue c.args.endpoints.now c.args.block parts 0 q.group) (AnswerGiven c.args.endpoints.now c.args.block parts q) (AnswerDue c.args.endpoints.now c.args.block parts q) c.in-Err.error
+    refused_as g.W.Wire.tells_log g.W.Wire.counts_alone c.args.endpoints.now (units_in parts) c.args.block (map g.W.Wire.seen c.args.wires.now) (map g.W.Wire.seen c.group_rows.new.wires) (GroupGiven c.args.endpoints.now c.args.block parts 0 later q.group) (GroupDue c.args.endpoints.now c.args.block parts 0 q.group) (AnswerGiven c.args.endpoints.now c.args.block parts q) (AnswerDue c.args.endpoints.now c.args.block parts q) c.in-Err.error
     (λ graphs wanted due. answer_due c.args.endpoints.now c.args.block parts q later graphs wanted due) c.in-Err.ensures
 
 pub returns-in-Ok : goal.returns-in-Ok

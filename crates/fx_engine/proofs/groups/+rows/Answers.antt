@@ -19,19 +19,19 @@ use Rattle.fx_engine.proofs.groups.+rows.Goals as goal
 
 pub after_element-returns-then-is_pattern : goal.after_element-returns-then-is_pattern
 after_element-returns-then-is_pattern g t c =
-    given_unasked g.W.Wire.tells_log g.W.Wire.counts_alone c.args.endpoints.now (units_in c.args.plan.now) (ElementGiven c.args.endpoints.now c.args.block c.args.plan.now c.args.next.now c.args.next.now c.args.in_run.now true c.args.element.now c.args.before.items) (ElementDue c.args.endpoints.now c.args.block c.args.plan.now c.args.next.now c.args.in_run.now c.args.element.now c.args.before.items) (map g.W.Wire.seen c.args.wires.now) c.args.before.items
+    given_unasked g.W.Wire.tells_log g.W.Wire.counts_alone c.args.endpoints.now (units_in c.args.plan.now) c.args.block (ElementGiven c.args.endpoints.now c.args.block c.args.plan.now c.args.next.now c.args.next.now c.args.in_run.now true c.args.element.now c.args.before.items) (ElementDue c.args.endpoints.now c.args.block c.args.plan.now c.args.next.now c.args.in_run.now c.args.element.now c.args.before.items) (map g.W.Wire.seen c.args.wires.now) c.args.before.items
     (λ graphs. of_pattern c.args.endpoints.now c.args.block c.args.plan.now c.args.next.now c.args.in_run.now c.args.before.items graphs c.args.element.now (sym c.is_pattern.ensures ∙ c.if-is_pattern.true))
 
 pub after_element-returns-then-keeps_run : goal.after_element-returns-then-keeps_run
 after_element-returns-then-keeps_run g t c =
-    given_unasked g.W.Wire.tells_log g.W.Wire.counts_alone c.args.endpoints.now (units_in c.args.plan.now) (ElementGiven c.args.endpoints.now c.args.block c.args.plan.now c.args.next.now c.args.next.now c.args.in_run.now c.args.in_run.now c.args.element.now c.args.before.items) (ElementDue c.args.endpoints.now c.args.block c.args.plan.now c.args.next.now c.args.in_run.now c.args.element.now c.args.before.items) (map g.W.Wire.seen c.args.wires.now) c.args.before.items
+    given_unasked g.W.Wire.tells_log g.W.Wire.counts_alone c.args.endpoints.now (units_in c.args.plan.now) c.args.block (ElementGiven c.args.endpoints.now c.args.block c.args.plan.now c.args.next.now c.args.next.now c.args.in_run.now c.args.in_run.now c.args.element.now c.args.before.items) (ElementDue c.args.endpoints.now c.args.block c.args.plan.now c.args.next.now c.args.in_run.now c.args.element.now c.args.before.items) (map g.W.Wire.seen c.args.wires.now) c.args.before.items
     (λ graphs. of_condition c.args.endpoints.now c.args.block c.args.plan.now c.args.next.now c.args.in_run.now c.args.before.items graphs c.args.element.now (sym c.is_pattern.ensures ∙ c.if-is_pattern.false) (sym c.keeps_run.ensures ∙ c.if-keeps_run.true))
 
 pub after_element-returns-in-Err : goal.after_element-returns-in-Err
 after_element-returns-in-Err g t c =
     let e = c.args.element.now in
     let o = is_operator (part_of e) (sym c.keeps_run.ensures ∙ c.if-keeps_run.false) in
-    refused_as g.W.Wire.tells_log g.W.Wire.counts_alone c.args.endpoints.now (units_in c.args.plan.now) (map g.W.Wire.seen c.args.wires.now) (map g.W.Wire.seen c.end_run.new.wires) (EndGiven c.args.endpoints.now c.args.block c.args.plan.now c.args.next.now c.end_run.new.next c.args.in_run.now c.args.before.items) (EndDue c.args.endpoints.now c.args.block c.args.plan.now c.args.next.now c.args.in_run.now c.args.before.items)
+    refused_as g.W.Wire.tells_log g.W.Wire.counts_alone c.args.endpoints.now (units_in c.args.plan.now) c.args.block (map g.W.Wire.seen c.args.wires.now) (map g.W.Wire.seen c.end_run.new.wires) (EndGiven c.args.endpoints.now c.args.block c.args.plan.now c.args.next.now c.end_run.new.next c.args.in_run.now c.args.before.items) (EndDue c.args.endpoints.now c.args.block c.args.plan.now c.args.next.now c.args.in_run.now c.args.before.items)
     (ElementGiven c.args.endpoints.now c.args.block c.args.plan.now c.args.next.now c.end_run.new.next c.args.in_run.now c.args.in_run.now e c.args.before.items) (ElementDue c.args.endpoints.now c.args.block c.args.plan.now c.args.next.now c.args.in_run.now e c.args.before.items) c.in-Err.error
     (λ graphs wanted due. due_of_run c.args.endpoints.now c.args.block c.args.plan.now c.args.next.now c.args.in_run.now c.args.before.items graphs e o.0 o.1 c.requires.alone wanted due) c.in-Err.ensures
 
@@ -43,7 +43,7 @@ after_element-returns-in-Ok g t c =
     let rows = c.in-Ok.rows.items in
     let between = c.end_run.new.next in
     let later = c.after_operator.new.next in
-    asked_behind g.W.Wire.tells_log g.W.Wire.counts_alone c.args.endpoints.now (units_in c.args.plan.now) (map see c.args.wires.now) (map see c.end_run.new.wires) (map see c.after_operator.new.wires) (all_tell see g.W.Wire.tells_log (g.met.W.Wire g.world.𝓛 g.world.𝓜 g.world.𝓡 ((λ s x. x), (λ x. x), (λ x. x), λ x. x)).told c.args.wires.now) (all_tell see g.W.Wire.tells_log (g.met.W.Wire g.world.𝓛 g.world.𝓜 g.world.𝓡 ((λ s x. x), (λ x. x), (λ x. x), λ x. x)).told c.end_run.new.wires)
+    asked_behind g.W.Wire.tells_log g.W.Wire.counts_alone c.args.endpoints.now (units_in c.args.plan.now) c.args.block (map see c.args.wires.now) (map see c.end_run.new.wires) (map see c.after_operator.new.wires) (all_tell see g.W.Wire.tells_log (g.met.W.Wire g.world.𝓛 g.world.𝓜 g.world.𝓡 ((λ s x. x), (λ x. x), (λ x. x), λ x. x)).told c.args.wires.now) (all_tell see g.W.Wire.tells_log (g.met.W.Wire g.world.𝓛 g.world.𝓜 g.world.𝓡 ((λ s x. x), (λ x. x), (λ x. x), λ x. x)).told c.end_run.new.wires)
     (EndGiven c.args.endpoints.now c.args.block c.args.plan.now c.args.next.now between c.args.in_run.now c.args.before.items) (EndDue c.args.endpoints.now c.args.block c.args.plan.now c.args.next.now c.args.in_run.now c.args.before.items) (OperatorGiven c.args.endpoints.now c.args.block c.args.plan.now between later e rows) (OperatorDue c.args.endpoints.now c.args.block c.args.plan.now between e rows)
     (ElementGiven c.args.endpoints.now c.args.block c.args.plan.now c.args.next.now later c.args.in_run.now false e c.args.before.items) (ElementDue c.args.endpoints.now c.args.block c.args.plan.now c.args.next.now c.args.in_run.now e c.args.before.items) rows (solutions_in c.after_operator.result)
     (λ graphs own more found ended asked. of_operator c.args.endpoints.now c.args.block c.args.plan.now c.args.next.now c.args.in_run.now c.args.before.items graphs e o.0 o.1 c.requires.alone between later rows found own more ended asked)
@@ -52,12 +52,12 @@ after_element-returns-in-Ok g t c =
 
 pub after_operator-returns-in-Triple : goal.after_operator-returns-in-Triple
 after_operator-returns-in-Triple g t c =
-    given_unasked g.W.Wire.tells_log g.W.Wire.counts_alone c.args.endpoints.now (units_in c.args.plan.now) (OperatorGiven c.args.endpoints.now c.args.block c.args.plan.now c.args.next.now c.args.next.now c.args.element.now c.args.before.items) (OperatorDue c.args.endpoints.now c.args.block c.args.plan.now c.args.next.now c.args.element.now c.args.before.items) (map g.W.Wire.seen c.args.wires.now) c.args.before.items
+    given_unasked g.W.Wire.tells_log g.W.Wire.counts_alone c.args.endpoints.now (units_in c.args.plan.now) c.args.block (OperatorGiven c.args.endpoints.now c.args.block c.args.plan.now c.args.next.now c.args.next.now c.args.element.now c.args.before.items) (OperatorDue c.args.endpoints.now c.args.block c.args.plan.now c.args.next.now c.args.element.now c.args.before.items) (map g.W.Wire.seen c.args.wires.now) c.args.before.items
     (λ graphs. of_kept c.args.endpoints.now c.args.block c.args.plan.now c.args.next.now graphs c.args.before.items c.args.element.now (ap (λ (e : Element). keeps_run (part_of e)) c.in-Triple.is ∙ ap keeps_run (part_triple c.in-Triple.field-0)))
 
 pub after_operator-returns-in-Filter : goal.after_operator-returns-in-Filter
 after_operator-returns-in-Filter g t c =
-    given_unasked g.W.Wire.tells_log g.W.Wire.counts_alone c.args.endpoints.now (units_in c.args.plan.now) (OperatorGiven c.args.endpoints.now c.args.block c.args.plan.now c.args.next.now c.args.next.now c.args.element.now c.args.before.items) (OperatorDue c.args.endpoints.now c.args.block c.args.plan.now c.args.next.now c.args.element.now c.args.before.items) (map g.W.Wire.seen c.args.wires.now) c.args.before.items
+    given_unasked g.W.Wire.tells_log g.W.Wire.counts_alone c.args.endpoints.now (units_in c.args.plan.now) c.args.block (OperatorGiven c.args.endpoints.now c.args.block c.args.plan.now c.args.next.now c.args.next.now c.args.element.now c.args.before.items) (OperatorDue c.args.endpoints.now c.args.block c.args.plan.now c.args.next.now c.args.element.now c.args.before.items) (map g.W.Wire.seen c.args.wires.now) c.args.before.items
     (λ graphs. of_kept c.args.endpoints.now c.args.block c.args.plan.now c.args.next.now graphs c.args.before.items c.args.element.now (ap (λ (e : Element). keeps_run (part_of e)) c.in-Filter.is ∙ ap keeps_run (part_filter c.in-Filter.field-0)))
 
 pub after_operator-returns-in-Err : goal.after_operator-returns-in-Err
@@ -67,10 +67,10 @@ after_operator-returns-in-Err g t c =
     let later = c.alternatives.new.next in
     let s = map g.W.Wire.seen c.args.wires.now in
     let u = map g.W.Wire.seen c.alternatives.new.wires in
-    subst (λ (e : Element). Asked {X = List Bindings} g.W.Wire.tells_log g.W.Wire.counts_alone s u c.args.endpoints.now (units_in c.args.plan.now) (OperatorGiven c.args.endpoints.now c.args.block c.args.plan.now c.args.next.now later e before) (OperatorDue c.args.endpoints.now c.args.block c.args.plan.now c.args.next.now e before) (Err c.in-Err.error)) (sym c.in-Union.is)
-    (refused_as g.W.Wire.tells_log g.W.Wire.counts_alone c.args.endpoints.now (units_in c.args.plan.now) s u (AlternativesGiven c.args.endpoints.now c.args.block c.args.plan.now c.args.next.now later gs) (AlternativesDue c.args.endpoints.now c.args.block c.args.plan.now c.args.next.now gs) (OperatorGiven c.args.endpoints.now c.args.block c.args.plan.now c.args.next.now later (Union gs) before) (OperatorDue c.args.endpoints.now c.args.block c.args.plan.now c.args.next.now (Union gs) before) c.in-Err.error
+    subst (λ (e : Element). Asked {X = List Bindings} g.W.Wire.tells_log g.W.Wire.counts_alone s u c.args.endpoints.now (units_in c.args.plan.now) c.args.block (OperatorGiven c.args.endpoints.now c.args.block c.args.plan.now c.args.next.now later e before) (OperatorDue c.args.endpoints.now c.args.block c.args.plan.now c.args.next.now e before) (Err c.in-Err.error)) (sym c.in-Union.is)
+    (refused_as g.W.Wire.tells_log g.W.Wire.counts_alone c.args.endpoints.now (units_in c.args.plan.now) c.args.block s u (AlternativesGiven c.args.endpoints.now c.args.block c.args.plan.now c.args.next.now later gs) (AlternativesDue c.args.endpoints.now c.args.block c.args.plan.now c.args.next.now gs) (OperatorGiven c.args.endpoints.now c.args.block c.args.plan.now c.args.next.now later (Union gs) before) (OperatorDue c.args.endpoints.now c.args.block c.args.plan.now c.args.next.now (Union gs) before) c.in-Err.error
     (λ graphs wanted due. due_union c.args.endpoints.now c.args.block c.args.plan.now c.args.next.now graphs before wanted gs due)
-    (subst (λ (v : List Group). Asked {X = List Bindings} g.W.Wire.tells_log g.W.Wire.counts_alone s u c.args.endpoints.now (units_in c.args.plan.now) (AlternativesGiven c.args.endpoints.now c.args.block c.args.plan.now c.args.next.now later v) (AlternativesDue c.args.endpoints.now c.args.block c.args.plan.now c.args.next.now v) (Err c.in-Err.error)) c.as_slice.ensures c.in-Err.ensures))
+    (subst (λ (v : List Group). Asked {X = List Bindings} g.W.Wire.tells_log g.W.Wire.counts_alone s u c.args.endpoints.now (units_in c.args.plan.now) c.args.block (AlternativesGiven c.args.endpoints.now c.args.block c.args.plan.now c.args.next.now later v) (AlternativesDue c.args.endpoints.now c.args.block c.args.plan.now c.args.next.now v) (Err c.in-Err.error)) c.as_slice.ensures c.in-Err.ensures))
 
 pub after_operator-returns-in-Union : goal.after_operator-returns-in-Union
 after_operator-returns-in-Union g t c =
@@ -80,12 +80,12 @@ after_operator-returns-in-Union g t c =
     let later = c.alternatives.new.next in
     let s = map g.W.Wire.seen c.args.wires.now in
     let u = map g.W.Wire.seen c.alternatives.new.wires in
-    subst (λ (e : Element). Asked {X = List Bindings} g.W.Wire.tells_log g.W.Wire.counts_alone s u c.args.endpoints.now (units_in c.args.plan.now) (OperatorGiven c.args.endpoints.now c.args.block c.args.plan.now c.args.next.now later e before) (OperatorDue c.args.endpoints.now c.args.block c.args.plan.now c.args.next.now e before) (solutions_in c.joined.result)) (sym c.in-Union.is)
-    (made_of g.W.Wire.tells_log g.W.Wire.counts_alone c.args.endpoints.now (units_in c.args.plan.now) (AlternativesGiven c.args.endpoints.now c.args.block c.args.plan.now c.args.next.now later gs) (AlternativesDue c.args.endpoints.now c.args.block c.args.plan.now c.args.next.now gs) (OperatorGiven c.args.endpoints.now c.args.block c.args.plan.now c.args.next.now later (Union gs) before) (OperatorDue c.args.endpoints.now c.args.block c.args.plan.now c.args.next.now (Union gs) before) (λ rows. IsPermutation (join before found) rows) s u found c.joined.result
+    subst (λ (e : Element). Asked {X = List Bindings} g.W.Wire.tells_log g.W.Wire.counts_alone s u c.args.endpoints.now (units_in c.args.plan.now) c.args.block (OperatorGiven c.args.endpoints.now c.args.block c.args.plan.now c.args.next.now later e before) (OperatorDue c.args.endpoints.now c.args.block c.args.plan.now c.args.next.now e before) (solutions_in c.joined.result)) (sym c.in-Union.is)
+    (made_of g.W.Wire.tells_log g.W.Wire.counts_alone c.args.endpoints.now (units_in c.args.plan.now) c.args.block (AlternativesGiven c.args.endpoints.now c.args.block c.args.plan.now c.args.next.now later gs) (AlternativesDue c.args.endpoints.now c.args.block c.args.plan.now c.args.next.now gs) (OperatorGiven c.args.endpoints.now c.args.block c.args.plan.now c.args.next.now later (Union gs) before) (OperatorDue c.args.endpoints.now c.args.block c.args.plan.now c.args.next.now (Union gs) before) (λ rows. IsPermutation (join before found) rows) s u found c.joined.result
     (subst (λ (v : List Bindings). IfOk c.joined.result (λ rows. IsPermutation (join v found) rows.items)) c.as_slice-in-Ok.ensures.value c.joined.ensures.given) c.joined.ensures.memory
     (λ graphs wanted rows given p. of_union c.args.endpoints.now c.args.block c.args.plan.now c.args.next.now later graphs before rows wanted gs found given p)
     (λ graphs wanted given. due_union c.args.endpoints.now c.args.block c.args.plan.now c.args.next.now graphs before wanted gs (λ rest is. (given rest is).0.sent))
-    (subst (λ (v : List Group). Asked {X = List Bindings} g.W.Wire.tells_log g.W.Wire.counts_alone s u c.args.endpoints.now (units_in c.args.plan.now) (AlternativesGiven c.args.endpoints.now c.args.block c.args.plan.now c.args.next.now later v) (AlternativesDue c.args.endpoints.now c.args.block c.args.plan.now c.args.next.now v) (Ok found)) c.as_slice.ensures c.in-Ok.ensures))
+    (subst (λ (v : List Group). Asked {X = List Bindings} g.W.Wire.tells_log g.W.Wire.counts_alone s u c.args.endpoints.now (units_in c.args.plan.now) c.args.block (AlternativesGiven c.args.endpoints.now c.args.block c.args.plan.now c.args.next.now later v) (AlternativesDue c.args.endpoints.now c.args.block c.args.plan.now c.args.next.now v) (Ok found)) c.as_slice.ensures c.in-Ok.ensures))
 
 pub after_operator-returns-in-Minus : goal.after_operator-returns-in-Minus
 after_operator-returns-in-Minus g t c =
@@ -95,8 +95,8 @@ after_operator-returns-in-Minus g t c =
     let later = c.group_rows.new.next in
     let s = map g.W.Wire.seen c.args.wires.now in
     let u = map g.W.Wire.seen c.group_rows.new.wires in
-    subst (λ (e : Element). Asked {X = List Bindings} g.W.Wire.tells_log g.W.Wire.counts_alone s u c.args.endpoints.now (units_in c.args.plan.now) (OperatorGiven c.args.endpoints.now c.args.block c.args.plan.now c.args.next.now later e before) (OperatorDue c.args.endpoints.now c.args.block c.args.plan.now c.args.next.now e before) (solutions_in c.lessened.result)) (sym c.in-Minus.is)
-    (made_of g.W.Wire.tells_log g.W.Wire.counts_alone c.args.endpoints.now (units_in c.args.plan.now) (GroupGiven c.args.endpoints.now c.args.block c.args.plan.now c.args.next.now later it) (GroupDue c.args.endpoints.now c.args.block c.args.plan.now c.args.next.now it) (OperatorGiven c.args.endpoints.now c.args.block c.args.plan.now c.args.next.now later (Minus it) before) (OperatorDue c.args.endpoints.now c.args.block c.args.plan.now c.args.next.now (Minus it) before) (λ rows. rows ≡ minus before found) s u found c.lessened.result
+    subst (λ (e : Element). Asked {X = List Bindings} g.W.Wire.tells_log g.W.Wire.counts_alone s u c.args.endpoints.now (units_in c.args.plan.now) c.args.block (OperatorGiven c.args.endpoints.now c.args.block c.args.plan.now c.args.next.now later e before) (OperatorDue c.args.endpoints.now c.args.block c.args.plan.now c.args.next.now e before) (solutions_in c.lessened.result)) (sym c.in-Minus.is)
+    (made_of g.W.Wire.tells_log g.W.Wire.counts_alone c.args.endpoints.now (units_in c.args.plan.now) c.args.block (GroupGiven c.args.endpoints.now c.args.block c.args.plan.now c.args.next.now later it) (GroupDue c.args.endpoints.now c.args.block c.args.plan.now c.args.next.now it) (OperatorGiven c.args.endpoints.now c.args.block c.args.plan.now c.args.next.now later (Minus it) before) (OperatorDue c.args.endpoints.now c.args.block c.args.plan.now c.args.next.now (Minus it) before) (λ rows. rows ≡ minus before found) s u found c.lessened.result
     (subst (λ (v : List Bindings). IfOk c.lessened.result (λ rows. rows.items ≡ minus v found)) c.as_slice-in-Ok-group_rows.ensures.value c.lessened.ensures.given) c.lessened.ensures.memory
     (λ graphs wanted rows given e. of_minus c.args.endpoints.now c.args.block c.args.plan.now c.args.next.now later graphs before rows wanted it found given e)
     (λ graphs wanted given. due_minus c.args.endpoints.now c.args.block c.args.plan.now c.args.next.now graphs before wanted it (λ rest is. (given rest is).0.sent)) c.in-Ok-group_rows.ensures)
@@ -107,8 +107,8 @@ after_operator-returns-in-Bind g t c =
     let x = c.in-Bind.expr in
     let name = c.in-Bind.name in
     let s = map g.W.Wire.seen c.args.wires.now in
-    subst (λ (e : Element). Asked {X = List Bindings} g.W.Wire.tells_log g.W.Wire.counts_alone s s c.args.endpoints.now (units_in c.args.plan.now) (OperatorGiven c.args.endpoints.now c.args.block c.args.plan.now c.args.next.now c.args.next.now e before) (OperatorDue c.args.endpoints.now c.args.block c.args.plan.now c.args.next.now e before) (solutions_in c.extended.result)) (sym c.in-Bind.is)
-    (made_unasked g.W.Wire.tells_log g.W.Wire.counts_alone c.args.endpoints.now (units_in c.args.plan.now) (OperatorGiven c.args.endpoints.now c.args.block c.args.plan.now c.args.next.now c.args.next.now (Bind x name) before) (OperatorDue c.args.endpoints.now c.args.block c.args.plan.now c.args.next.now (Bind x name) before) (λ rows. rows ≡ extend before name x) s c.extended.result
+    subst (λ (e : Element). Asked {X = List Bindings} g.W.Wire.tells_log g.W.Wire.counts_alone s s c.args.endpoints.now (units_in c.args.plan.now) c.args.block (OperatorGiven c.args.endpoints.now c.args.block c.args.plan.now c.args.next.now c.args.next.now e before) (OperatorDue c.args.endpoints.now c.args.block c.args.plan.now c.args.next.now e before) (solutions_in c.extended.result)) (sym c.in-Bind.is)
+    (made_unasked g.W.Wire.tells_log g.W.Wire.counts_alone c.args.endpoints.now (units_in c.args.plan.now) c.args.block (OperatorGiven c.args.endpoints.now c.args.block c.args.plan.now c.args.next.now c.args.next.now (Bind x name) before) (OperatorDue c.args.endpoints.now c.args.block c.args.plan.now c.args.next.now (Bind x name) before) (λ rows. rows ≡ extend before name x) s c.extended.result
     (subst (λ (v : List Bindings). IfOk c.extended.result (λ rows. rows.items ≡ extend v name x)) c.as_slice-in-Bind.ensures.value c.extended.ensures.given) c.extended.ensures.memory
     (λ graphs rows e. of_bind c.args.endpoints.now c.args.block c.args.plan.now c.args.next.now c.args.next.now graphs before rows [] x name refl refl e)
     (λ graphs. due_bind c.args.endpoints.now c.args.block c.args.plan.now c.args.next.now graphs before [] x name refl))
@@ -118,8 +118,8 @@ after_operator-returns-in-Values g t c =
     let before = c.args.before.items in
     let inline = c.in-Values.inline in
     let s = map g.W.Wire.seen c.args.wires.now in
-    subst (λ (e : Element). Asked {X = List Bindings} g.W.Wire.tells_log g.W.Wire.counts_alone s s c.args.endpoints.now (units_in c.args.plan.now) (OperatorGiven c.args.endpoints.now c.args.block c.args.plan.now c.args.next.now c.args.next.now e before) (OperatorDue c.args.endpoints.now c.args.block c.args.plan.now c.args.next.now e before) (solutions_in c.with_inline.result)) (sym c.in-Values.is)
-    (made_unasked g.W.Wire.tells_log g.W.Wire.counts_alone c.args.endpoints.now (units_in c.args.plan.now) (OperatorGiven c.args.endpoints.now c.args.block c.args.plan.now c.args.next.now c.args.next.now (Values inline) before) (OperatorDue c.args.endpoints.now c.args.block c.args.plan.now c.args.next.now (Values inline) before) (λ rows. IsPermutation (join before (inline_rows inline)) rows) s c.with_inline.result
+    subst (λ (e : Element). Asked {X = List Bindings} g.W.Wire.tells_log g.W.Wire.counts_alone s s c.args.endpoints.now (units_in c.args.plan.now) c.args.block (OperatorGiven c.args.endpoints.now c.args.block c.args.plan.now c.args.next.now c.args.next.now e before) (OperatorDue c.args.endpoints.now c.args.block c.args.plan.now c.args.next.now e before) (solutions_in c.with_inline.result)) (sym c.in-Values.is)
+    (made_unasked g.W.Wire.tells_log g.W.Wire.counts_alone c.args.endpoints.now (units_in c.args.plan.now) c.args.block (OperatorGiven c.args.endpoints.now c.args.block c.args.plan.now c.args.next.now c.args.next.now (Values inline) before) (OperatorDue c.args.endpoints.now c.args.block c.args.plan.now c.args.next.now (Values inline) before) (λ rows. IsPermutation (join before (inline_rows inline)) rows) s c.with_inline.result
     (subst (λ (v : List Bindings). IfOk c.with_inline.result (λ rows. IsPermutation (join v (inline_rows inline)) rows.items)) c.as_slice-in-Values.ensures.value c.with_inline.ensures.given) c.with_inline.ensures.memory
     (λ graphs rows p. of_values c.args.endpoints.now c.args.block c.args.plan.now c.args.next.now c.args.next.now graphs before rows [] inline (inline_rows inline) refl refl refl p)
     (λ graphs. due_values c.args.endpoints.now c.args.block c.args.plan.now c.args.next.now graphs before [] inline refl))
@@ -175,7 +175,7 @@ group_rows-returns-in-Ok g t c =
     let it = c.args.group.now in
     let found = c.in-Ok.rows.items in
     let later = c.unfiltered.new.next in
-    made_of g.W.Wire.tells_log g.W.Wire.counts_alone c.args.endpoints.now (units_in c.args.plan.now) (UnfilteredGiven c.args.endpoints.now c.args.block c.args.plan.now c.args.next.now later it) (GroupDue c.args.endpoints.now c.args.block c.args.plan.now c.args.next.now it) (GroupGiven c.args.endpoints.now c.args.block c.args.plan.now c.args.next.now later it) (GroupDue c.args.endpoints.now c.args.block c.args.plan.now c.args.next.now it) (λ rows. rows ≡ filtered (group_of it).filters found) (map g.W.Wire.seen c.args.wires.now) (map g.W.Wire.seen c.unfiltered.new.wires) found c.filtered.result
+    made_of g.W.Wire.tells_log g.W.Wire.counts_alone c.args.endpoints.now (units_in c.args.plan.now) c.args.block (UnfilteredGiven c.args.endpoints.now c.args.block c.args.plan.now c.args.next.now later it) (GroupDue c.args.endpoints.now c.args.block c.args.plan.now c.args.next.now it) (GroupGiven c.args.endpoints.now c.args.block c.args.plan.now c.args.next.now later it) (GroupDue c.args.endpoints.now c.args.block c.args.plan.now c.args.next.now it) (λ rows. rows ≡ filtered (group_of it).filters found) (map g.W.Wire.seen c.args.wires.now) (map g.W.Wire.seen c.unfiltered.new.wires) found c.filtered.result
     c.filtered.ensures.given c.filtered.ensures.memory
     (λ graphs wanted rows given e. group_filtered c.args.endpoints.now c.args.block c.args.plan.now c.args.next.now later it graphs wanted found rows given e)
     (λ graphs wanted given rest is. (given rest is).0.sent) c.in-Ok.ensures
@@ -187,7 +187,7 @@ optional-returns g t c =
     let found = c.in-Ok.found.items in
     let later = c.unfiltered.new.next in
     let apart : (group_of it).is_simple ≡ false = sym c.is_simple.ensures ∙ c.if-is_simple.false in
-    made_of g.W.Wire.tells_log g.W.Wire.counts_alone c.args.endpoints.now (units_in c.args.plan.now) (UnfilteredGiven c.args.endpoints.now c.args.block c.args.plan.now c.args.next.now later it) (GroupDue c.args.endpoints.now c.args.block c.args.plan.now c.args.next.now it) (OperatorGiven c.args.endpoints.now c.args.block c.args.plan.now c.args.next.now later (Optional it) before) (OperatorDue c.args.endpoints.now c.args.block c.args.plan.now c.args.next.now (Optional it) before) (λ rows. IsPermutation (left_join before found (group_of it).filters) rows)
+    made_of g.W.Wire.tells_log g.W.Wire.counts_alone c.args.endpoints.now (units_in c.args.plan.now) c.args.block (UnfilteredGiven c.args.endpoints.now c.args.block c.args.plan.now c.args.next.now later it) (GroupDue c.args.endpoints.now c.args.block c.args.plan.now c.args.next.now it) (OperatorGiven c.args.endpoints.now c.args.block c.args.plan.now c.args.next.now later (Optional it) before) (OperatorDue c.args.endpoints.now c.args.block c.args.plan.now c.args.next.now (Optional it) before) (λ rows. IsPermutation (left_join before found (group_of it).filters) rows)
     (map g.W.Wire.seen c.args.wires.now) (map g.W.Wire.seen c.unfiltered.new.wires) found c.left_joined.result
     (subst (λ (v : List Bindings). IfOk c.left_joined.result (λ rows. IsPermutation (left_join v found (group_of it).filters) rows.items)) c.as_slice.ensures.value c.left_joined.ensures.given) c.left_joined.ensures.memory
     (λ graphs wanted rows given p. of_optional c.args.endpoints.now c.args.block c.args.plan.now c.args.next.now later graphs before rows wanted it found apart given p)
@@ -195,7 +195,7 @@ optional-returns g t c =
 
 pub unfiltered-returns-in_default : goal.unfiltered-returns-in_default
 unfiltered-returns-in_default g t c =
-    unasked g.W.Wire.tells_log g.W.Wire.counts_alone c.args.endpoints.now (units_in c.args.plan.now) (UnfilteredGiven c.args.endpoints.now c.args.block c.args.plan.now c.args.next.now c.args.next.now c.args.group.now) (GroupDue c.args.endpoints.now c.args.block c.args.plan.now c.args.next.now c.args.group.now) (map g.W.Wire.seen c.args.wires.now) (none_due c.args.endpoints.now c.args.block c.args.plan.now c.args.next.now c.args.group.now c.args.group.now.elements refl)
+    unasked g.W.Wire.tells_log g.W.Wire.counts_alone c.args.endpoints.now (units_in c.args.plan.now) c.args.block (UnfilteredGiven c.args.endpoints.now c.args.block c.args.plan.now c.args.next.now c.args.next.now c.args.group.now) (GroupDue c.args.endpoints.now c.args.block c.args.plan.now c.args.next.now c.args.group.now) (map g.W.Wire.seen c.args.wires.now) (none_due c.args.endpoints.now c.args.block c.args.plan.now c.args.next.now c.args.group.now c.args.group.now.elements refl)
 
 pub unfiltered-loop-element-init : goal.unfiltered-loop-element-init
 unfiltered-loop-element-init g t c = record {

@@ -16,7 +16,7 @@ pub returns-then-next-plan : goal.returns-then-next-plan
 returns-then-next-plan g c =
     let see = g.W.Wire.seen in
     let wires = map see c.args.wires.now in
-    subst (λ (v : List Row). Asked g.W.Wire.tells_log g.W.Wire.counts_alone wires wires c.args.endpoints.now (units_in c.args.plan.now) (RunGiven c.args.endpoints.now c.args.block c.args.plan.now c.args.next.now c.args.next.now c.args.rows.now) (RunDue c.args.endpoints.now c.args.block c.args.plan.now c.args.next.now c.args.rows.now) (Ok v)) (sym c.new.ensures.items)
+    subst (λ (v : List Row). Asked g.W.Wire.tells_log g.W.Wire.counts_alone wires wires c.args.endpoints.now (units_in c.args.plan.now) c.args.block (RunGiven c.args.endpoints.now c.args.block c.args.plan.now c.args.next.now c.args.next.now c.args.rows.now) (RunDue c.args.endpoints.now c.args.block c.args.plan.now c.args.next.now c.args.rows.now) (Ok v)) (sym c.new.ensures.items)
     (no_part g.W.Wire.tells_log g.W.Wire.counts_alone wires wires c.args.endpoints.now c.args.block c.args.plan.now c.args.next.now c.args.rows.now c.if-next-plan.true)
 
 pub returns-in-Run : goal.returns-in-Run
@@ -35,12 +35,12 @@ pub returns-in-EmptyRun : goal.returns-in-EmptyRun
 returns-in-EmptyRun g c =
     let wires = map g.W.Wire.seen c.args.wires.now in
     let it = c.index-plan-next.result in
-    subst (λ (v : List Row). Asked g.W.Wire.tells_log g.W.Wire.counts_alone wires wires c.args.endpoints.now (units_in c.args.plan.now) (RunGiven c.args.endpoints.now c.args.block c.args.plan.now c.args.next.now (c.args.next.now + 1) c.args.rows.now) (RunDue c.args.endpoints.now c.args.block c.args.plan.now c.args.next.now c.args.rows.now) (Ok v)) (sym c.new-in-EmptyRun.ensures.items)
+    subst (λ (v : List Row). Asked g.W.Wire.tells_log g.W.Wire.counts_alone wires wires c.args.endpoints.now (units_in c.args.plan.now) c.args.block (RunGiven c.args.endpoints.now c.args.block c.args.plan.now c.args.next.now (c.args.next.now + 1) c.args.rows.now) (RunDue c.args.endpoints.now c.args.block c.args.plan.now c.args.next.now c.args.rows.now) (Ok v)) (sym c.new-in-EmptyRun.ensures.items)
     (no_run g.W.Wire.tells_log g.W.Wire.counts_alone wires wires c.args.endpoints.now c.args.block c.args.plan.now c.args.next.now c.args.rows.now it (next_part c.args.plan.now c.args.next.now it c.if-next-plan.false c.index-plan-next.is) c.in-EmptyRun.is)
 
 pub returns-in-Service : goal.returns-in-Service
 returns-in-Service g c =
     let wires = map g.W.Wire.seen c.args.wires.now in
     let it = c.index-plan-next.result in
-    subst (λ (v : List Row). Asked g.W.Wire.tells_log g.W.Wire.counts_alone wires wires c.args.endpoints.now (units_in c.args.plan.now) (RunGiven c.args.endpoints.now c.args.block c.args.plan.now c.args.next.now (c.args.next.now + 1) c.args.rows.now) (RunDue c.args.endpoints.now c.args.block c.args.plan.now c.args.next.now c.args.rows.now) (Ok v)) (sym c.new-in-Service.ensures.items)
+    subst (λ (v : List Row). Asked g.W.Wire.tells_log g.W.Wire.counts_alone wires wires c.args.endpoints.now (units_in c.args.plan.now) c.args.block (RunGiven c.args.endpoints.now c.args.block c.args.plan.now c.args.next.now (c.args.next.now + 1) c.args.rows.now) (RunDue c.args.endpoints.now c.args.block c.args.plan.now c.args.next.now c.args.rows.now) (Ok v)) (sym c.new-in-Service.ensures.items)
     (not_a_run g.W.Wire.tells_log g.W.Wire.counts_alone wires wires c.args.endpoints.now c.args.block c.args.plan.now c.args.next.now c.args.rows.now it (next_part c.args.plan.now c.args.next.now it c.if-next-plan.false c.index-plan-next.is) c.in-Service.iri c.in-Service.is)

@@ -19,11 +19,11 @@ returns-in-Err g c =
     let see = g.W.Wire.seen in
     optional_refused g.W.Wire.tells_log g.W.Wire.counts_alone c.args.endpoints.now c.args.block c.args.plan.now c.args.next.now c.args.before.items c.args.group.now c.requires.simple (map see c.args.wires.now) (map see c.after_run.new.wires) c.after_run.new.next (sym c.if-not-has_pattern.ensures)
     c.in-Err.error
-    (subst (λ (v : List Bindings). Asked {X = List Row} g.W.Wire.tells_log g.W.Wire.counts_alone (map see c.args.wires.now) (map see c.after_run.new.wires) c.args.endpoints.now (units_in c.args.plan.now) (RunGiven c.args.endpoints.now c.args.block c.args.plan.now c.args.next.now c.after_run.new.next v) (RunDue c.args.endpoints.now c.args.block c.args.plan.now c.args.next.now v) (Err c.in-Err.error)) c.as_slice-2.ensures.value c.in-Err.ensures)
+    (subst (λ (v : List Bindings). Asked {X = List Row} g.W.Wire.tells_log g.W.Wire.counts_alone (map see c.args.wires.now) (map see c.after_run.new.wires) c.args.endpoints.now (units_in c.args.plan.now) c.args.block (RunGiven c.args.endpoints.now c.args.block c.args.plan.now c.args.next.now c.after_run.new.next v) (RunDue c.args.endpoints.now c.args.block c.args.plan.now c.args.next.now v) (Err c.in-Err.error)) c.as_slice-2.ensures.value c.in-Err.ensures)
 
 pub returns-in-Ok : goal.returns-in-Ok
 returns-in-Ok g c =
     let see = g.W.Wire.seen in
     optional_asked g.W.Wire.tells_log g.W.Wire.counts_alone c.args.endpoints.now c.args.block c.args.plan.now c.args.next.now c.args.before.items c.args.group.now c.requires.simple (map see c.args.wires.now) (map see c.after_run.new.wires) c.after_run.new.next (sym c.if-not-has_pattern.ensures)
     (subst (All (λ s. IsTrue (rises s))) c.as_slice.ensures.value c.known_to_rise.ensures) c.in-Ok.found.items c.with_optional.result c.with_optional.ensures.given c.with_optional.ensures.memory
-    (subst (λ (v : List Bindings). Asked {X = List Row} g.W.Wire.tells_log g.W.Wire.counts_alone (map see c.args.wires.now) (map see c.after_run.new.wires) c.args.endpoints.now (units_in c.args.plan.now) (RunGiven c.args.endpoints.now c.args.block c.args.plan.now c.args.next.now c.after_run.new.next v) (RunDue c.args.endpoints.now c.args.block c.args.plan.now c.args.next.now v) (Ok c.in-Ok.found.items)) c.as_slice-2.ensures.value c.in-Ok.ensures)
+    (subst (λ (v : List Bindings). Asked {X = List Row} g.W.Wire.tells_log g.W.Wire.counts_alone (map see c.args.wires.now) (map see c.after_run.new.wires) c.args.endpoints.now (units_in c.args.plan.now) c.args.block (RunGiven c.args.endpoints.now c.args.block c.args.plan.now c.args.next.now c.after_run.new.next v) (RunDue c.args.endpoints.now c.args.block c.args.plan.now c.args.next.now v) (Ok c.in-Ok.found.items)) c.as_slice-2.ensures.value c.in-Ok.ensures)

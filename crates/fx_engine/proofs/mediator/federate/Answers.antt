@@ -12,9 +12,9 @@ use Rattle.fx_engine.specs.Mediation.{IsNamed, IsPlaced}
 use Rattle.fx_engine.specs.declared.mediator.FedError.TheVariants as fed
 use Rattle.fx_engine.specs.declared.mediator.Outcome.{Outcome}
 use Rattle.fx_engine.proofs.AskableLemmas.{parts_can_be_asked}
-use Rattle.fx_engine.proofs.BatchCauseLemmas.{batch_cause_behind, flow_placed}
+use Rattle.fx_engine.proofs.BatchCauseLemmas.{batch_cause_behind, flow_placed, texts_of_query}
 use Rattle.fx_engine.proofs.ChoiceLemmas.{probe_placed}
-use Rattle.fx_engine.proofs.MediationLemmas.{federated, federated_refused, its_answer, keeps_behind, learns_behind, stays}
+use Rattle.fx_engine.proofs.MediationLemmas.{federated, federated_refused, its_answer, kept_true, keeps_behind, learned_true, learns_behind, stays, stays_as_known}
 use Rattle.fx_engine.proofs.WiresLemmas.{all_tell}
 use Rattle.fx_engine.proofs.mediator.federate.Goals as goal
 
@@ -43,7 +43,7 @@ pub named-requires-in-Err-answer_by_plan : goal.named-requires-in-Err-answer_by_
 named-requires-in-Err-answer_by_plan g c =
     let see = g.W.Wire.seen in
     subst (λ (es : List EndpointParts). IsPlaced (length es) c.in-Err-answer_by_plan.error) (c.endpoints-in-Ok.ensures.value ∙ sym c.endpoints-in-Err-answer_by_plan.ensures.value)
-    (flow_placed c.endpoints-in-Ok.result.now (units_in c.as_slice.result.now) (map see c.choose_parts.new.wires) (map see c.answer_by_plan.new.wires) c.in-Err-answer_by_plan.ensures.exchanges c.in-Err-answer_by_plan.ensures.wanted c.in-Err-answer_by_plan.error
+    (flow_placed c.endpoints-in-Ok.result.now (units_in c.as_slice.result.now) c.args.options.block (map see c.choose_parts.new.wires) (map see c.answer_by_plan.new.wires) c.in-Err-answer_by_plan.ensures.exchanges c.in-Err-answer_by_plan.ensures.wanted c.in-Err-answer_by_plan.error
     c.in-Err-answer_by_plan.ensures.cause)
 
 pub returns-in-Err-answer_by_plan : goal.returns-in-Err-answer_by_plan
@@ -63,15 +63,16 @@ returns-in-Err-answer_by_plan g c =
     let truths = c.in-Ok.field-0.truths.items in
     let why = c.in-Err-answer_by_plan.error in
     let e = c.named-in-Err-answer_by_plan.result in
-    let k : Asked {X = Answer} tells one t u es (units_in parts) (AnswerGiven es block parts q) (AnswerDue es block parts q) (Err why) =
-    subst (λ (v : List EndpointParts). Asked {X = Answer} tells one t u v (units_in parts) (AnswerGiven v block parts q) (AnswerDue v block parts q) (Err why)) c.endpoints-in-Ok.ensures.value c.in-Err-answer_by_plan.ensures in
+    let k : Asked {X = Answer} tells one t u es (units_in parts) block (AnswerGiven es block parts q) (AnswerDue es block parts q) (Err why) =
+    subst (λ (v : List EndpointParts). Asked {X = Answer} tells one t u v (units_in parts) block (AnswerGiven v block parts q) (AnswerDue v block parts q) (Err why)) c.endpoints-in-Ok.ensures.value c.in-Err-answer_by_plan.ensures in
     let are = c.as_slice.ensures.value ∙ c.in-Ok.ensures.chosen.parts_are in
     let entries = told (missing q n old) truths ++ old in
     let can : All (CanBeAsked n) parts = subst (All (CanBeAsked n)) (sym are) (parts_can_be_asked c.requires.spellable.0 q c.requires.spellable.1 n entries) in
     let name : IsNamed es why e = subst (λ (v : List EndpointParts). IsNamed v why e) c.endpoints-in-Err-answer_by_plan.ensures.value c.named-in-Err-answer_by_plan.ensures in
     federated tells one s t es q old block u (all_tell see tells (g.met.W.Wire g.world.𝓛 g.world.𝓜 g.world.𝓡 ((λ s x. x), (λ x. x), (λ x. x), λ x. x)).told c.args.wires.now) (all_tell see tells (g.met.W.Wire g.world.𝓛 g.world.𝓜 g.world.𝓡 ((λ s x. x), (λ x. x), (λ x. x), λ x. x)).told c.choose_parts.new.wires) (units_in parts) truths c.in-Ok.ensures.asked parts are (Err why) k (Err e) old tt tt tt
-    (λ all among. batch_cause_behind es q old n entries parts are can s t u c.in-Ok.ensures.asked.after_all k.exchanges all among k.wanted why e k.cause name)
+    (λ all among. batch_cause_behind es q old n entries parts are can block s t u c.in-Ok.ensures.asked.after_all k.exchanges all among k.wanted why e k.cause name)
     (λ all among. stays Outcome es q old all e)
+    (texts_of_query es q n entries parts are can block k.wanted k.of_batches) (stays_as_known tells one s t es q old)
 
 pub returns-in-Err-learn : goal.returns-in-Err-learn
 returns-in-Err-learn g c =
@@ -90,9 +91,11 @@ returns-in-Err-learn g c =
     let parts = c.as_slice.result.now in
     let truths = c.in-Ok.field-0.truths.items in
     let answer = c.in-Ok-answer_by_plan.answer in
-    let k : Asked {X = Answer} tells one t u es (units_in parts) (AnswerGiven es block parts q) (AnswerDue es block parts q) (Ok answer) =
-    subst (λ (v : List EndpointParts). Asked {X = Answer} tells one t u v (units_in parts) (AnswerGiven v block parts q) (AnswerDue v block parts q) (Ok answer)) c.endpoints-in-Ok.ensures.value c.in-Ok-answer_by_plan.ensures in
+    let k : Asked {X = Answer} tells one t u es (units_in parts) block (AnswerGiven es block parts q) (AnswerDue es block parts q) (Ok answer) =
+    subst (λ (v : List EndpointParts). Asked {X = Answer} tells one t u v (units_in parts) block (AnswerGiven v block parts q) (AnswerDue v block parts q) (Ok answer)) c.endpoints-in-Ok.ensures.value c.in-Ok-answer_by_plan.ensures in
     let are = c.as_slice.ensures.value ∙ c.in-Ok.ensures.chosen.parts_are in
+    let entries = told (missing q n old) truths ++ old in
+    let can : All (CanBeAsked n) parts = subst (All (CanBeAsked n)) (sym are) (parts_can_be_asked c.requires.spellable.0 q c.requires.spellable.1 n entries) in
     let a = all_tell see tells (g.met.W.Wire g.world.𝓛 g.world.𝓜 g.world.𝓡 ((λ s x. x), (λ x. x), (λ x. x), λ x. x)).told c.args.wires.now in
     let b = all_tell see tells (g.met.W.Wire g.world.𝓛 g.world.𝓜 g.world.𝓡 ((λ s x. x), (λ x. x), (λ x. x), λ x. x)).told c.choose_parts.new.wires in
     let kept : All (λ (x : Entry). Contains old x ⊎ Contains (zip (missing q n old) truths) x) new =
@@ -100,6 +103,7 @@ returns-in-Err-learn g c =
     (subst (λ (v : List Bool). All (λ (x : Entry). Contains old x ⊎ Contains (zip c.in-Ok.field-0.probes.items v) x) new) c.as_slice-in-Ok-answer_by_plan.ensures.value c.in-Err-learn.ensures.kept) in
     federated tells one s t es q old block u a b (units_in parts) truths c.in-Ok.ensures.asked parts are (Ok answer) k (Err fed.Memory) new tt tt tt (λ all among. tt)
     (λ all among. keeps_behind tells one s t es q old block u a b (units_in parts) truths c.in-Ok.ensures.asked parts are (Ok answer) k new kept all among)
+    (texts_of_query es q n entries parts are can block k.wanted k.of_batches) (kept_true tells one s t es q old truths c.in-Ok.ensures.asked new kept)
 
 pub returns : goal.returns
 returns g c =
@@ -118,9 +122,11 @@ returns g c =
     let parts = c.as_slice.result.now in
     let truths = c.in-Ok.field-0.truths.items in
     let answer = c.in-Ok-answer_by_plan.answer in
-    let k : Asked {X = Answer} tells one t u es (units_in parts) (AnswerGiven es block parts q) (AnswerDue es block parts q) (Ok answer) =
-    subst (λ (v : List EndpointParts). Asked {X = Answer} tells one t u v (units_in parts) (AnswerGiven v block parts q) (AnswerDue v block parts q) (Ok answer)) c.endpoints-in-Ok.ensures.value c.in-Ok-answer_by_plan.ensures in
+    let k : Asked {X = Answer} tells one t u es (units_in parts) block (AnswerGiven es block parts q) (AnswerDue es block parts q) (Ok answer) =
+    subst (λ (v : List EndpointParts). Asked {X = Answer} tells one t u v (units_in parts) block (AnswerGiven v block parts q) (AnswerDue v block parts q) (Ok answer)) c.endpoints-in-Ok.ensures.value c.in-Ok-answer_by_plan.ensures in
     let are = c.as_slice.ensures.value ∙ c.in-Ok.ensures.chosen.parts_are in
+    let entries = told (missing q n old) truths ++ old in
+    let can : All (CanBeAsked n) parts = subst (All (CanBeAsked n)) (sym are) (parts_can_be_asked c.requires.spellable.0 q c.requires.spellable.1 n entries) in
     let a = all_tell see tells (g.met.W.Wire g.world.𝓛 g.world.𝓜 g.world.𝓡 ((λ s x. x), (λ x. x), (λ x. x), λ x. x)).told c.args.wires.now in
     let b = all_tell see tells (g.met.W.Wire g.world.𝓛 g.world.𝓜 g.world.𝓡 ((λ s x. x), (λ x. x), (λ x. x), λ x. x)).told c.choose_parts.new.wires in
     let so : new ≡ learned old (missing q n old) truths =
@@ -130,3 +136,4 @@ returns g c =
     federated tells one s t es q old block u a b (units_in parts) truths c.in-Ok.ensures.asked parts are (Ok answer) k (Ok (record { answer = answer; down = c.new.result })) new k.unfailed
     (λ graphs known. its_answer tells one s t es q old block u a b (units_in parts) truths c.in-Ok.ensures.asked parts are (Ok answer) k answer refl graphs known) c.new.ensures (λ all among. tt)
     (λ all among. learns_behind tells one s t es q old block u a b (units_in parts) truths c.in-Ok.ensures.asked parts are (Ok answer) k new so all among)
+    (texts_of_query es q n entries parts are can block k.wanted k.of_batches) (learned_true tells one s t es q old truths c.in-Ok.ensures.asked new so)

@@ -1,0 +1,232 @@
+-- The theorem of `run` from what its commands report and write.
+use Rattle.std.proofs.Common.{◌≡◌, ◌∙◌, ap, sym, subst, ℕ, ◌≤◌, ◌<◌, List, [], ◌++◌, Option, Some, None, Ok, Err, length, inl, inr, arith, take, IsTrue}
+use Rattle.std.specs.Prelude.{Contains, IfSome}
+use Rattle.std.proofs.lemmas.List.{take_all}
+use Rattle.fx_terms.specs.declared.triples.Triple.{Triple}
+use Rattle.fx_outside.specs.Endpoints.{EndpointParts}
+use Rattle.fx_outside.specs.Streams.{AppendsFront}
+use Rattle.fx_algebra.specs.Answers.{answer, answer_alone, no_graphs}
+use Rattle.fx_algebra.specs.Graphs.{union}
+use Rattle.fx_algebra.specs.Occurrences.{services}
+use Rattle.fx_algebra.specs.Units.{sources}
+use Rattle.fx_algebra.specs.declared.queries.Query.{Query}
+use Rattle.fx_grammar.specs.Accepted.{Accepted}
+use Rattle.fx_grammar.proofs.OneQuery.{one_query_holds}
+use Rattle.fx_ntriples.specs.Forms.{IsDocument}
+use Rattle.fx_ntriples.proofs.Complete.{document_reads}
+use Rattle.fx_results.specs.Documents.{document}
+use Rattle.fx_plan.specs.Explained.{explained}
+use Rattle.fx_sources.specs.Registries.{read_registry}
+use Rattle.fx_traffic.specs.Gains.{TellAll, faults_at}
+use Rattle.fx_engine.specs.Sections.{parts_with}
+use Rattle.fx_engine.specs.declared.mediator.FedError.TheVariants as fed
+use Rattle.fx_commands.specs.declared.limits.TheConstants.{GRAPH_LIMIT, QUERY_LIMIT, REGISTRY_LIMIT}
+use Rattle.fx_commands.specs.declared.statuses.Status.{Status}
+use Rattle.fx_commands.specs.declared.statuses.Status.TheVariants as status
+use Rattle.fx_commands.specs.Asking.{WiresSeen}
+use Rattle.fx_commands.specs.Commands.{Asked, over_file, over_members, planned, served}
+use Rattle.fx_commands.specs.Explain.{IsExplainReported, IsExplainWritten}
+use Rattle.fx_commands.specs.Files.{FileRead, IsQueryOf, IsRegistryOf}
+use Rattle.fx_commands.specs.Headline.{Headline, Holds, IsTold, NamesFailed, Writes}
+use Rattle.fx_commands.specs.Lines.{Gains, member_failed}
+use Rattle.fx_commands.specs.Local.{HasLines, IsWritten}
+use Rattle.fx_commands.specs.Files.{IsQueryThat}
+use Rattle.fx_commands.specs.Query.{IsQueryReported, IsQueryWritten}
+use Rattle.fx_commands.specs.Services.{all_numbers, silent_lines}
+use Rattle.fx_commands.specs.Sinks.{SinkWritten}
+use Rattle.fx_commands.proofs.QueryLemmas.{fed_not_done}
+
+-- ---- what is told
+
+pub of_told : (P : List ℕ → Type 0) (o : Option (List ℕ)) (content : List ℕ) → o ≡ Some content → IfSome o P → P content
+of_told P o content is h = subst (λ (v : Option (List ℕ)). IfSome v P) is h
+
+pub same_registry : (all : List ℕ) (es others : List EndpointParts) → read_registry all ≡ Ok es → read_registry all ≡ Ok others → others ≡ es
+same_registry all es others h k = cc
+
+pub registry_told : (r : FileRead) (es others : List EndpointParts) → Holds r REGISTRY_LIMIT (λ content. read_registry content ≡ Ok es) → IsRegistryOf r others → others ≡ es
+registry_told r es others h k = same_registry h.0 es others h.3 (of_told (λ all. (length all ≤ REGISTRY_LIMIT) × (read_registry all ≡ Ok others)) r.content h.0 h.1 k).1
+
+pub query_told : (q : FileRead) (asked other : Query) → Holds q QUERY_LIMIT (λ content. Accepted content asked) → IsQueryOf q other → other ≡ asked
+query_told q asked other h k = one_query_holds h.0 other asked (of_told (λ all. (length all ≤ QUERY_LIMIT) × Accepted all other) q.content h.0 h.1 k).1 h.3
+
+nothing_more : (old new text : List ℕ) → AppendsFront old new text → text ≡ [] → new ≡ old ++ []
+nothing_more old new text front is = front.1 ∙ ap (λ (t : List ℕ). old ++ take front.0 t) is ∙ ap (λ (t : List ℕ). old ++ t) (take_all front.0 [] (omega arith))
+
+-- ---- `query`
+
+query_done : (w : WiresSeen) (r q : FileRead) (block : ℕ) (text : List ℕ) → IsQueryReported w r q block status.Done text → text ≡ []
+query_done w r q block text (inl (none, inl before)) = absurd before
+query_done w r q block text (inl (none, inr refused)) = absurd (other refused.0)
+  where
+    other : status.Done ≡ status.QueryRefused → ⊥
+    other h = cc
+query_done w r q block text (inr (Ok outcome, federated, end)) = end
+query_done w r q block text (inr (Err e, federated, end)) = absurd (fed_not_done e (sym end.0))
+
+-- the endpoint that a refusal names
+query_failed : (w : WiresSeen) (r q : FileRead) (block : ℕ) (text : List ℕ) (es : List EndpointParts) → Holds r REGISTRY_LIMIT (λ content. read_registry content ≡ Ok es) → IsQueryReported w r q block status.EndpointFault text
+    → (e : EndpointParts) × Contains es e × (faults_at w.before e.iri < faults_at w.after e.iri) × (text ≡ member_failed e.name)
+query_failed w r q block text es h (inl (none, inl before)) = absurd before
+query_failed w r q block text es h (inl (none, inr refused)) = absurd (other refused.0)
+  where
+    other : status.EndpointFault ≡ status.QueryRefused → ⊥
+    other h = cc
+query_failed w r q block text es h (inr (Ok outcome, federated, end)) = absurd end
+query_failed w r q block text es h (inr (Err (fed.Member name), federated, end)) =
+    let at = federated.federated.cause.1 in
+    (at.0, subst (λ (l : List EndpointParts). Contains l at.0) (registry_told r es federated.endpoints h federated.registered) at.1, at.3, end.1 ∙ ap member_failed (sym at.2))
+query_failed w r q block text es h (inr (Err (fed.BadReply name bad), federated, end)) = absurd (other end.0)
+  where
+    other : status.EndpointFault ≡ status.BadReply → ⊥
+    other h = cc
+query_failed w r q block text es h (inr (Err (fed.RequestTooLong name size), federated, end)) = absurd (other end.0)
+  where
+    other : status.EndpointFault ≡ status.RequestTooLong → ⊥
+    other h = cc
+query_failed w r q block text es h (inr (Err fed.Memory, federated, end)) = absurd (other end.0)
+  where
+    other : status.EndpointFault ≡ status.NoMemory → ⊥
+    other h = cc
+
+query_wrote : (w : WiresSeen) (r q : FileRead) (es : List EndpointParts) (asked : Query) (graphs : List (List Triple)) (s : Status) (old new : List ℕ) → IsTold w r q es asked graphs → s ≡ status.Done → IsQueryWritten w.before r q s old new
+    → new ≡ old ++ document (answer_alone asked (union graphs))
+query_wrote w r q es asked graphs s old new told done h =
+    let wrote = subst (λ (v : Status). IsQueryWritten w.before r q v old new) done h in
+    let inner = of_told _ r.content told.registry.0 told.registry.1 wrote.1 in
+    let answers = of_told _ q.content told.query.0 told.query.1 inner in
+    let same_members = same_registry told.registry.0 es answers.endpoints told.registry.3 answers.registered in
+    let same_asked = one_query_holds told.query.0 answers.asked asked answers.accepted told.query.3 in
+    wrote.2
+    ∙ ap (λ (t : List ℕ). old ++ t) (
+    answers.document_is graphs (subst (λ (l : List EndpointParts). TellAll w.before l graphs) (sym same_members) told.graphs_are)
+    ∙ ap (λ (v : Query). document (answer_alone v (union graphs))) same_asked)
+
+pub query_headline : (w : WiresSeen) (r q : FileRead) (block : ℕ) (s : Status) (text : List ℕ) (out err : SinkWritten) → IsQueryReported w r q block s text → (IsTrue err.tells → Gains err.old err.new err.before err.after text) → (IsTrue out.tells → IsQueryWritten w.before r q s out.old out.new)
+    → (es : List EndpointParts) (asked : Query) (graphs : List (List Triple)) → IsTold w r q es asked graphs → Writes (document (answer_alone asked (union graphs))) [] s out err × NamesFailed w es s err
+query_headline w r q block s text out err reported gains wrote es asked graphs told = (
+  λ done. (
+    λ tells. query_wrote w r q es asked graphs s out.old out.new told done (wrote tells),
+    λ tells. nothing_more err.old err.new text (gains tells).front (query_done w r q block text (subst (λ (v : Status). IsQueryReported w r q block v text) done reported)),
+  ),
+  λ failed.
+      let at = query_failed w r q block text es told.registry (subst (λ (v : Status). IsQueryReported w r q block v text) failed reported) in
+      (at.0, at.1, at.2, λ tells. subst (Gains err.old err.new err.before err.after) at.3 (gains tells)),
+)
+
+-- ---- `explain`
+
+explain_done : (w : WiresSeen) (r q : FileRead) (text : List ℕ) → IsExplainReported w r q status.Done text → text ≡ []
+explain_done w r q text (inl (none, inl before)) = absurd before
+explain_done w r q text (inl (none, inr unknown)) = absurd (other unknown.0)
+  where
+    other : status.Done ≡ status.UnknownService → ⊥
+    other h = cc
+explain_done w r q text (inr (Ok parts, made, end)) = end
+explain_done w r q text (inr (Err e, made, end)) = absurd (fed_not_done e (sym end.0))
+
+explain_failed : (w : WiresSeen) (r q : FileRead) (text : List ℕ) (es : List EndpointParts) → Holds r REGISTRY_LIMIT (λ content. read_registry content ≡ Ok es) → IsExplainReported w r q status.EndpointFault text
+    → (e : EndpointParts) × Contains es e × (faults_at w.before e.iri < faults_at w.after e.iri) × (text ≡ member_failed e.name)
+explain_failed w r q text es h (inl (none, inl before)) = absurd before
+explain_failed w r q text es h (inl (none, inr unknown)) = absurd (other unknown.0)
+  where
+    other : status.EndpointFault ≡ status.UnknownService → ⊥
+    other h = cc
+explain_failed w r q text es h (inr (Ok parts, made, end)) = absurd end
+explain_failed w r q text es h (inr (Err (fed.Member name), made, end)) =
+    let at = made.planned.cause.1 in
+    (at.0, subst (λ (l : List EndpointParts). Contains l at.0) (registry_told r es made.endpoints h made.registered) at.1, at.3, end.1 ∙ ap member_failed (sym at.2))
+explain_failed w r q text es h (inr (Err (fed.BadReply name bad), made, end)) = absurd (other end.0)
+  where
+    other : status.EndpointFault ≡ status.BadReply → ⊥
+    other h = cc
+explain_failed w r q text es h (inr (Err (fed.RequestTooLong name size), made, end)) = absurd (other end.0)
+  where
+    other : status.EndpointFault ≡ status.RequestTooLong → ⊥
+    other h = cc
+explain_failed w r q text es h (inr (Err fed.Memory, made, end)) = absurd (other end.0)
+  where
+    other : status.EndpointFault ≡ status.NoMemory → ⊥
+    other h = cc
+
+explain_wrote : (w : WiresSeen) (r q : FileRead) (es : List EndpointParts) (asked : Query) (graphs : List (List Triple)) (s : Status) (old new : List ℕ) → IsTold w r q es asked graphs → s ≡ status.Done → IsExplainWritten w.before r q s old new
+    → new ≡ old ++ explained (parts_with (sources graphs) asked) es
+explain_wrote w r q es asked graphs s old new told done h =
+    let wrote = subst (λ (v : Status). IsExplainWritten w.before r q v old new) done h in
+    let inner = of_told _ r.content told.registry.0 told.registry.1 wrote.1 in
+    let answers = of_told _ q.content told.query.0 told.query.1 inner in
+    let same_members = same_registry told.registry.0 es answers.endpoints told.registry.3 answers.registered in
+    let same_asked = one_query_holds told.query.0 answers.asked asked answers.accepted told.query.3 in
+    wrote.2
+    ∙ ap (λ (t : List ℕ). old ++ t) (
+    answers.text_is graphs (subst (λ (l : List EndpointParts). TellAll w.before l graphs) (sym same_members) told.graphs_are)
+    ∙ ap (λ (v : Query). explained (parts_with (sources graphs) v) answers.endpoints) same_asked
+    ∙ ap (λ (l : List EndpointParts). explained (parts_with (sources graphs) asked) l) same_members)
+
+pub explain_headline : (w : WiresSeen) (r q : FileRead) (s : Status) (text : List ℕ) (out err : SinkWritten) → IsExplainReported w r q s text → (IsTrue err.tells → Gains err.old err.new err.before err.after text) → (IsTrue out.tells → IsExplainWritten w.before r q s out.old out.new)
+    → (es : List EndpointParts) (asked : Query) (graphs : List (List Triple)) → IsTold w r q es asked graphs → Writes (explained (parts_with (sources graphs) asked) es) [] s out err × NamesFailed w es s err
+explain_headline w r q s text out err reported gains wrote es asked graphs told = (
+  λ done. (
+    λ tells. explain_wrote w r q es asked graphs s out.old out.new told done (wrote tells),
+    λ tells. nothing_more err.old err.new text (gains tells).front (explain_done w r q text (subst (λ (v : Status). IsExplainReported w r q v text) done reported)),
+  ),
+  λ failed.
+      let at = explain_failed w r q text es told.registry (subst (λ (v : Status). IsExplainReported w r q v text) failed reported) in
+      (at.0, at.1, at.2, λ tells. subst (Gains err.old err.new err.before err.after) at.3 (gains tells)),
+)
+
+-- ---- `local`
+
+local_wrote : (g q : FileRead) (graph : List Triple) (asked : Query) (s : Status) (old new : List ℕ) → Holds g GRAPH_LIMIT (λ content. IsDocument content graph) → Holds q QUERY_LIMIT (λ content. Accepted content asked) → s ≡ status.Done → IsWritten g q s old new
+    → new ≡ old ++ document (answer asked graph no_graphs (all_numbers (services asked)))
+local_wrote g q graph asked s old new h k done written =
+    let wrote = subst (λ (v : Status). IsWritten g q v old new) done written in
+    let inner = of_told _ g.content h.0 h.1 wrote.1 in
+    let answers = of_told _ q.content k.0 k.1 inner in
+    let same_graph = one_graph h.0 graph answers.graph h.3 answers.read in
+    let same_asked = one_query_holds k.0 answers.asked asked answers.accepted k.3 in
+    wrote.2
+    ∙ ap (λ (t : List ℕ). old ++ t) (
+    answers.document_is
+    ∙ ap (λ (v : Query). document (answer v answers.graph no_graphs (all_numbers (services v)))) same_asked
+    ∙ ap (λ (v : List Triple). document (answer asked v no_graphs (all_numbers (services asked)))) same_graph)
+  where
+    one_graph : (all : List ℕ) (graph other : List Triple) → IsDocument all graph → IsDocument all other → other ≡ graph
+    one_graph all graph other a b = let here = document_reads all graph a in let there = document_reads all other b in cc
+
+local_lines : (q : FileRead) (asked : Query) (lines : List ℕ) → Holds q QUERY_LIMIT (λ content. Accepted content asked) → IsQueryThat q (HasLines lines) → lines ≡ silent_lines (services asked)
+local_lines q asked lines k h =
+    let found = of_told _ q.content k.0 k.1 h in
+    found.1.2.1 ∙ ap (λ (v : Query). silent_lines (services v)) (one_query_holds k.0 found.1.0 asked found.1.1 k.3)
+
+pub local_headline : (g q : FileRead) (s : Status) (out err : SinkWritten) → (IsTrue out.tells → IsWritten g q s out.old out.new) → (s ≡ status.Done → IsTrue err.tells → (lines : List ℕ) × IsQueryThat q (HasLines lines) × (err.new ≡ err.old ++ lines))
+    → (graph : List Triple) (asked : Query) → Holds g GRAPH_LIMIT (λ content. IsDocument content graph) → Holds q QUERY_LIMIT (λ content. Accepted content asked)
+    → Writes (document (answer asked graph no_graphs (all_numbers (services asked)))) (silent_lines (services asked)) s out err
+local_headline g q s out err written lines graph asked h k = λ done. (
+  λ tells. local_wrote g q graph asked s out.old out.new h k done (written tells),
+  λ tells. let wrote = lines done tells in wrote.2 ∙ ap (λ (t : List ℕ). err.old ++ t) (local_lines q asked wrote.0 k wrote.1),
+)
+
+-- ---- by the command
+
+pub no_headline : (read : List ℕ → FileRead) (w : WiresSeen) (asked : Option Asked) (out err : SinkWritten) → Headline read w asked status.NoMemory out err
+no_headline read w None out err = tt
+no_headline read w (Some (over_members r q workers block)) out err = λ es asked graphs told. (λ done. absurd (not_done done), λ failed. absurd (not_failed failed))
+  where
+    not_done : status.NoMemory ≡ status.Done → ⊥
+    not_done h = cc
+
+    not_failed : status.NoMemory ≡ status.EndpointFault → ⊥
+    not_failed h = cc
+no_headline read w (Some (planned r q)) out err = λ es asked graphs told. (λ done. absurd (not_done done), λ failed. absurd (not_failed failed))
+  where
+    not_done : status.NoMemory ≡ status.Done → ⊥
+    not_done h = cc
+
+    not_failed : status.NoMemory ≡ status.EndpointFault → ⊥
+    not_failed h = cc
+no_headline read w (Some (over_file g q)) out err = λ graph asked h k done. absurd (not_done done)
+  where
+    not_done : status.NoMemory ≡ status.Done → ⊥
+    not_done h = cc
+no_headline read w (Some (served g address count)) out err = tt
