@@ -2,6 +2,10 @@
 use Rattle.std.specs.Prelude.{◌≡◌, ℕ}
 use Rattle.fx_outside.specs.declared.system_links.StdLink.{StdLink}
 
+-- the stream that it stands over
+abbrev pub stream_of : {S : Type 0} → StdLink S → S
+stream_of link = link.stream
+
 -- how many reads have failed
 abbrev pub read_faults_of : {S : Type 0} → StdLink S → ℕ
 read_faults_of link = link.read_faults

@@ -4,10 +4,10 @@ ghost use Rattle.fx_outside.specs.Faults.{HaveStayed, IsOneMoreAt};
 ghost use Rattle.fx_outside.specs.SystemStorage.{faults_of_folder};
 
 use crate::name_counts::NameCounts;
+use crate::reading::read_front;
 use crate::storage::{FileError, Files};
-use crate::system_streams::TRIES;
 use std::alloc::Global;
-use std::io::{ErrorKind, Read};
+use std::io::ErrorKind;
 use std::{fs, io, rt};
 
 /// The files that a runtime reaches, with a count of the faults of each name. It tells nothing of their content.
@@ -48,7 +48,7 @@ impl<R: rt::Files> Files for Folder<R> {
         ensures kept { (other : List ℕ) → faults_of_folder self.old other ≤ faults_of_folder self.new other }
     {
         let place = self.faults.place(name)?;
-        match read_front(&self.runtime, alloc, name, limit as usize + 1) {
+        match read_file(&self.runtime, alloc, name, limit as usize + 1) {
             Ok(bytes) => Ok(bytes),
             Err(FileError::Memory) => Err(FileError::Memory),
             Err(FileError::Failed) => {
@@ -60,7 +60,7 @@ impl<R: rt::Files> Files for Folder<R> {
 }
 
 // The first `most` bytes of a file, or all of it.
-fn read_front<R: rt::Files>(
+fn read_file<R: rt::Files>(
     runtime: &R,
     alloc: Global,
     name: &str,
@@ -68,57 +68,8 @@ fn read_front<R: rt::Files>(
 ) -> Result<Vec<u8>, FileError>
     ensures { IfOk result (λ bytes. vec_len bytes ≤ most) }
 {
-    match fs::open(runtime, name) {
-        Ok(mut file) => read_file(&mut file, alloc, most),
-        Err(error) => Err(file_error(&error)),
-    }
-}
-
-// The first `most` bytes that are read, or all.
-fn read_file<F: Read>(file: &mut F, alloc: Global, most: usize) -> Result<Vec<u8>, FileError>
-    ensures { IfOk result (λ bytes. vec_len bytes ≤ most) }
-{
-    let mut bytes = Vec::new(alloc);
-    let mut buffer = [0u8; 4096];
-    for _ in 0..u64::MAX {
-        let room = buffer.len().min(most - bytes.len());
-        if room == 0 {
-            return Ok(bytes);
-        }
-        let count = read_piece(file, &mut buffer[..room])?;
-        if count == 0 {
-            return Ok(bytes);
-        }
-        bytes.extend_from_slice(&buffer[..count])?;
-    }
-    Err(FileError::Failed)
-}
-
-// Reads some bytes.
-fn read_piece<F: Read>(file: &mut F, into: &mut [u8]) -> Result<usize, FileError>
-    ensures { IfOk result (λ n. n ≤ length into.old) }
-{
-    match read_some(file, into) {
-        Ok(count) => Ok(count),
-        Err(error) => Err(file_error(&error)),
-    }
-}
-
-// Reads some bytes. A read that was interrupted is tried again, but not for ever.
-pub(crate) fn read_some<F: Read>(file: &mut F, into: &mut [u8]) -> io::Result<usize>
-    ensures { IfOk result (λ n. n ≤ length into.old) }
-{
-    for _ in 1..TRIES {
-        match file.read(into) {
-            Ok(count) => return Ok(count),
-            Err(error) => {
-                if error.kind() != ErrorKind::Interrupted {
-                    return Err(error);
-                }
-            }
-        }
-    }
-    file.read(into)
+    let bytes = fs::open(runtime, name).and_then(|mut file| read_front(&mut file, alloc, most));
+    bytes.map_err(|error| file_error(&error))
 }
 
 // Want of memory is told apart from a fault of the file.
