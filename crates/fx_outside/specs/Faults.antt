@@ -1,9 +1,13 @@
 -- When a call may answer a fault, and what it counts.
-use Rattle.std.specs.Prelude.{◌≡◌, ◌≢◌, ℕ, ◌+◌, ◌<◌, ◌⊎◌, List}
+use Rattle.std.specs.Prelude.{◌≡◌, ◌≢◌, ℕ, ◌+◌, ◌<◌, ◌⊎◌, min, List}
 
 -- the count rose in this call, or stands at the end of its type
 abbrev pub HasRisen : ℕ → ℕ → Type 0
 HasRisen before after = (before < after) ⊎ (after ≡ 18446744073709551615)
+
+-- one more is counted, up to the end of the count's type
+abbrev pub IsOneMore : ℕ → ℕ → Type 0
+IsOneMore before after = after ≡ min (before + 1) 18446744073709551615
 
 -- ---- counts, one for each name
 

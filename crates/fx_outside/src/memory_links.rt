@@ -82,7 +82,7 @@ impl Ends for MemoryLink {
 impl Source for MemoryLink {
     ghost use Rattle.std.specs.Prelude.{length, take, drop, [], IsErr, OnErr};
     ghost use Rattle.std.specs.Result.{result_ok};
-    ghost use Rattle.fx_outside.specs.Faults.{HasRisen};
+    ghost use Rattle.fx_outside.specs.Faults.{HasRisen, IsOneMore};
     ghost use Rattle.fx_outside.specs.MemoryLinks.{left_in, written_in, read_faults_of, write_faults_of, next_count, IsAfterRead};
 
     /// Reads bytes into the front of `into`, and gives their number: as many as `into` takes, one read moves and the input
@@ -97,6 +97,7 @@ impl Source for MemoryLink {
         ensures unread { OnErr result (left_in self.new ≡ left_in self.old) }
         ensures kept { read_faults_of self.old ≤ read_faults_of self.new }
         ensures failed { IsErr result → HasRisen (read_faults_of self.old) (read_faults_of self.new) }
+        ensures counted { IsErr result → IsOneMore (read_faults_of self.old) (read_faults_of self.new) }
         ensures faultless { IfOk result (λ _. read_faults_of self.new ≡ read_faults_of self.old) }
         ensures held { written_in self.new ≡ written_in self.old }
         ensures writes { write_faults_of self.new ≡ write_faults_of self.old }
@@ -123,7 +124,7 @@ impl Source for MemoryLink {
 impl Sink for MemoryLink {
     ghost use Rattle.std.specs.Prelude.{◌++◌, length, take, IsErr, OnErr};
     ghost use Rattle.std.specs.Result.{result_ok};
-    ghost use Rattle.fx_outside.specs.Faults.{HasRisen};
+    ghost use Rattle.fx_outside.specs.Faults.{HasRisen, IsOneMore};
     ghost use Rattle.fx_outside.specs.MemoryStreams.{next_move};
     ghost use Rattle.fx_outside.specs.MemoryLinks.{left_in, written_in, read_faults_of, write_faults_of, IsAfterLinkWrite};
 
@@ -139,6 +140,7 @@ impl Sink for MemoryLink {
         ensures unwritten { OnErr result (written_in self.new ≡ written_in self.old) }
         ensures kept { write_faults_of self.old ≤ write_faults_of self.new }
         ensures failed { IsErr result → HasRisen (write_faults_of self.old) (write_faults_of self.new) }
+        ensures counted { IsErr result → IsOneMore (write_faults_of self.old) (write_faults_of self.new) }
         ensures faultless { IfOk result (λ _. write_faults_of self.new ≡ write_faults_of self.old) }
         ensures left { left_in self.new ≡ left_in self.old }
         ensures reads { read_faults_of self.new ≡ read_faults_of self.old }

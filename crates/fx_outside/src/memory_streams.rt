@@ -83,7 +83,7 @@ impl Ends for MemorySink {
 impl Sink for MemorySink {
     ghost use Rattle.std.specs.Prelude.{◌++◌, length, take, IsErr, OnErr};
     ghost use Rattle.std.specs.Result.{result_ok};
-    ghost use Rattle.fx_outside.specs.Faults.{HasRisen};
+    ghost use Rattle.fx_outside.specs.Faults.{HasRisen, IsOneMore};
     ghost use Rattle.fx_outside.specs.MemoryStreams.{held_in, faults_of, next_move, IsAfterWrite};
 
     /// Writes bytes from the front of a piece, and gives their number: as many as the piece has, one write moves and
@@ -98,6 +98,7 @@ impl Sink for MemorySink {
         ensures unwritten { OnErr result (held_in self.new ≡ held_in self.old) }
         ensures kept { faults_of self.old ≤ faults_of self.new }
         ensures failed { IsErr result → HasRisen (faults_of self.old) (faults_of self.new) }
+        ensures counted { IsErr result → IsOneMore (faults_of self.old) (faults_of self.new) }
         ensures faultless { IfOk result (λ _. faults_of self.new ≡ faults_of self.old) }
         ensures after { IsAfterWrite self.old self.new }
     {

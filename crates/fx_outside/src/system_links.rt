@@ -58,7 +58,7 @@ impl<S: Read + Write> Ends for StdLink<S> {
 impl<S: Read + Write> Source for StdLink<S> {
     ghost use Rattle.std.specs.Prelude.{◌≤◌, IfOk, IsErr, length};
     ghost use Rattle.std.specs.Io.KnownBytes.{ReadConsumes};
-    ghost use Rattle.fx_outside.specs.Faults.{HasRisen};
+    ghost use Rattle.fx_outside.specs.Faults.{HasRisen, IsOneMore};
     ghost use Rattle.fx_outside.specs.SystemLinks.{read_faults_of, stream_of, write_faults_of};
 
     /// Reads bytes of the stream into the front of `into`, and gives their number. Where the stream tells what remains, they are the
@@ -71,6 +71,7 @@ impl<S: Read + Write> Source for StdLink<S> {
         ensures bytes { ReadConsumes (S.remaining (stream_of self.old)) (S.remaining (stream_of self.new)) result into.new }
         ensures kept { read_faults_of self.old ≤ read_faults_of self.new }
         ensures failed { IsErr result → HasRisen (read_faults_of self.old) (read_faults_of self.new) }
+        ensures counted { IsErr result → IsOneMore (read_faults_of self.old) (read_faults_of self.new) }
         ensures faultless { IfOk result (λ _. read_faults_of self.new ≡ read_faults_of self.old) }
         ensures writes { write_faults_of self.new ≡ write_faults_of self.old }
     {
@@ -85,7 +86,7 @@ impl<S: Read + Write> Source for StdLink<S> {
 impl<S: Read + Write> Sink for StdLink<S> {
     ghost use Rattle.std.specs.Prelude.{◌<◌, ◌≤◌, IfOk, IsErr, length};
     ghost use Rattle.std.specs.Io.KnownBytes.{WriteAppends};
-    ghost use Rattle.fx_outside.specs.Faults.{HasRisen};
+    ghost use Rattle.fx_outside.specs.Faults.{HasRisen, IsOneMore};
     ghost use Rattle.fx_outside.specs.SystemLinks.{read_faults_of, stream_of, write_faults_of};
 
     /// Writes bytes from the front of a piece to the stream, and gives their number. A stream that tells what it holds, holds these
@@ -99,6 +100,7 @@ impl<S: Read + Write> Sink for StdLink<S> {
         ensures bytes { WriteAppends (S.contents (stream_of self.old)) (S.contents (stream_of self.new)) result piece.now }
         ensures kept { write_faults_of self.old ≤ write_faults_of self.new }
         ensures failed { IsErr result → HasRisen (write_faults_of self.old) (write_faults_of self.new) }
+        ensures counted { IsErr result → IsOneMore (write_faults_of self.old) (write_faults_of self.new) }
         ensures faultless { IfOk result (λ _. write_faults_of self.new ≡ write_faults_of self.old) }
         ensures reads { read_faults_of self.new ≡ read_faults_of self.old }
     {

@@ -47,7 +47,7 @@ impl<W: Write> Ends for StdSink<W> {
 impl<W: Write> Sink for StdSink<W> {
     ghost use Rattle.std.specs.Prelude.{◌<◌, IfOk, IsErr};
     ghost use Rattle.std.specs.Io.KnownBytes.{WriteAppends};
-    ghost use Rattle.fx_outside.specs.Faults.{HasRisen};
+    ghost use Rattle.fx_outside.specs.Faults.{HasRisen, IsOneMore};
     ghost use Rattle.fx_outside.specs.SystemStreams.{faults_of_sink, writer_of};
 
     /// Writes bytes from the front of a piece to the writer, and gives their number. A writer that tells what it holds, holds these
@@ -61,6 +61,7 @@ impl<W: Write> Sink for StdSink<W> {
         ensures bytes { WriteAppends (W.contents (writer_of self.old)) (W.contents (writer_of self.new)) result piece.now }
         ensures kept { faults_of_sink self.old ≤ faults_of_sink self.new }
         ensures failed { IsErr result → HasRisen (faults_of_sink self.old) (faults_of_sink self.new) }
+        ensures counted { IsErr result → IsOneMore (faults_of_sink self.old) (faults_of_sink self.new) }
         ensures faultless { IfOk result (λ _. faults_of_sink self.new ≡ faults_of_sink self.old) }
     {
         let written = write_some(&mut self.writer, piece);
