@@ -6,6 +6,7 @@ pub mod MemoryLinks
 pub mod MemoryStorage
 pub mod MemoryStreams
 pub mod NameCounts
+pub mod Patience
 pub mod Readers
 pub mod Storage
 pub mod Streams

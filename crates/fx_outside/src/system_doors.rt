@@ -2,25 +2,33 @@
 ghost use Rattle.std.specs.Prelude.{◌≡◌, ◌≤◌, ◌+◌, IfOk, IsErrOf, IsOk};
 
 use crate::doors::{Door, DoorError};
+use crate::patience::Patient;
 use crate::system_links::StdLink;
 use crate::system_streams::TRIES;
 use std::alloc::Global;
 use std::io;
 use std::io::{ErrorKind, Read};
 use std::net::{Net, OpenListener, OpenStream, Shutdown, TcpListener};
-use std::time::Duration;
+use std::time::{Clock, Duration, Instant};
+
+// How many seconds a peer has to send its whole request, and to take anything of what is written.
+const PATIENCE: u64 = 30;
 
 // How many milliseconds a peer that sends nothing is waited for, before its connection is closed.
-const PATIENCE: u64 = 500;
+const LINGERING: u64 = 500;
 
 // How many pieces of what a peer still sends are read, before its connection is closed.
 const MOST_READS: u64 = 1024;
 
 /// The door that a network opens over TCP, with a count of its faults. It tells nothing of what goes in and out.
+///
+/// A peer has 30 seconds to send its whole request, from when its connection is given, however it sends it, and each time 30 seconds to
+/// take anything of what is written. Where that is over the read or the write fails, which is a fault of the connection and not of the door.
 #[derive(Drop)]
 pub struct Listener<N: Net> {
     network: N,
     listener: Option<N::Listener>,
+    patience: Duration,
     faults: u64,
 }
 
@@ -29,9 +37,17 @@ impl<N: Net> Listener<N> {
     pub fn new(network: N) -> Listener<N>
         ensures { result.faults ≡ 0 }
     {
+        Listener::with_patience(network, Duration::from_secs(PATIENCE))
+    }
+
+    /// The same, whose peers have this long in place of 30 seconds. With no time at all each read and write fails.
+    pub fn with_patience(network: N, patience: Duration) -> Listener<N>
+        ensures { result.faults ≡ 0 }
+    {
         Listener {
             network,
             listener: None,
+            patience,
             faults: 0,
         }
     }
@@ -50,11 +66,11 @@ impl<N: Net> Listener<N> {
     }
 }
 
-impl<N: Net> Door for Listener<N> {
+impl<N: Net + Clock + Clone + Drop> Door for Listener<N> {
     ghost use Rattle.std.specs.Prelude.{false, refl, None, []};
     ghost use Rattle.fx_outside.specs.SystemLinks.{read_faults_of, write_faults_of};
 
-    type Conn = StdLink<N::Stream>;
+    type Conn = StdLink<Patient<N::Stream, N>>;
 
     ghost tells = { false };
 
@@ -78,27 +94,43 @@ impl<N: Net> Door for Listener<N> {
     }
 
     /// `Failed` comes where the network fails, and is counted; no other answer is.
-    fn accept(&mut self, _alloc: Global) -> Result<StdLink<N::Stream>, DoorError>
+    fn accept(&mut self, _alloc: Global) -> Result<StdLink<Patient<N::Stream, N>>, DoorError>
         ensures faultless_connection { IfOk result (λ conn. (read_faults_of conn ≡ 0) × (write_faults_of conn ≡ 0)) }
         ensures kept { self.old.faults ≤ self.new.faults }
         ensures counted { IsErrOf result DoorError.Failed → self.new.faults ≡ self.old.faults + 1 }
         ensures faultless { ¬ IsErrOf result DoorError.Failed → self.new.faults ≡ self.old.faults }
     {
-        match accept_some(&self.listener) {
+        match accept_patiently(&self.network, &self.listener, self.patience) {
             Ok(stream) => Ok(StdLink::new(stream)),
             Err(error) => Err(self.fault(&error)),
         }
     }
 
-    /// Ends a connection, once the peer has read to the end or has been waited for. It doesn't fail.
-    fn finish(&mut self, _alloc: Global, conn: StdLink<N::Stream>) -> Result<(), DoorError>
+    /// Ends a connection, once the peer has read to the end or has been waited for, as long as it had for its request at most. It
+    /// doesn't fail.
+    fn finish(
+        &mut self,
+        _alloc: Global,
+        conn: StdLink<Patient<N::Stream, N>>,
+    ) -> Result<(), DoorError>
         ensures finished { IsOk result }
         ensures faultless { self.new.faults ≡ self.old.faults }
     {
-        let mut stream = conn.into_stream();
-        linger(&mut stream);
+        let mut stream = conn.into_stream().into_stream();
+        linger(&mut stream, &self.network, self.patience);
         Ok(())
     }
+}
+
+// The next stream, whose peer's time begins now.
+fn accept_patiently<N: Net + Clock + Clone + Drop>(
+    network: &N,
+    listener: &Option<N::Listener>,
+    patience: Duration,
+) -> io::Result<Patient<N::Stream, N>> {
+    let clock = network.clone()?;
+    let stream = accept_some(listener)?;
+    Patient::new(stream, clock, patience)
 }
 
 // The next stream. An accept that was interrupted is tried again, but not for ever.
@@ -120,18 +152,24 @@ fn accept_some<L: OpenListener>(listener: &Option<L>) -> io::Result<L::Stream> {
     Ok(stream)
 }
 
-// Says that nothing more is written, and reads what the peer still sends, within limits. A stream that is closed while bytes are
-// unread is reset, and its peer may lose what was written to it.
-fn linger<S: Read + OpenStream>(stream: &mut S) {
+// Says that nothing more is written, and reads what the peer still sends, within limits, of which one is this time. A stream that is
+// closed while bytes are unread is reset, and its peer may lose what was written to it.
+fn linger<S: Read + OpenStream, C: Clock>(stream: &mut S, clock: &C, patience: Duration) {
+    let Ok(begun) = Instant::now(clock) else {
+        return;
+    };
     if stream.shutdown(Shutdown::Write).is_err()
         || stream
-            .set_read_timeout(Some(Duration::from_millis(PATIENCE)))
+            .set_read_timeout(Some(Duration::from_millis(LINGERING)))
             .is_err()
     {
         return;
     }
     let mut buffer = [0u8; 4096];
     for _ in 0..MOST_READS {
+        if !begun.elapsed(clock).is_ok_and(|spent| spent < patience) {
+            return;
+        }
         match stream.read(&mut buffer) {
             Ok(0) => return,
             Ok(_) => {}

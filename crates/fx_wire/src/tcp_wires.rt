@@ -3,17 +3,35 @@ ghost use Rattle.std.specs.Prelude.{◌≡◌, ◌≢◌, ◌+◌, ◌≤◌, Li
 ghost use Rattle.fx_wire.specs.TcpWires.{faults_of_wire};
 
 use crate::wires::{Wire, WireError};
-use fx_outside::{Endpoint, NameCounts};
+use fx_outside::{Endpoint, NameCounts, read_front};
 use std::alloc::Global;
 use std::io;
-use std::io::{ErrorKind, Read, Write};
-use std::net::{Net, TcpStream};
+use std::io::{ErrorKind, Write};
+use std::net::{Net, OpenStream, TcpStream, ToSocketAddrs};
+use std::time::Duration;
+
+// How many seconds an address has to take a connection.
+const CONNECTING: u64 = 10;
+
+// How many seconds an endpoint may be silent, or take nothing of a request.
+const SILENT: u64 = 300;
+
+// How long an endpoint is waited for.
+#[derive(Clone, Copy, Debug)]
+struct Patience {
+    connecting: Duration,
+    silent: Duration,
+}
 
 /// The wire over TCP: it connects, writes the whole request, and reads to the close. It counts the faults of each address,
 /// and tells nothing of content.
+///
+/// An endpoint has 10 seconds to take a connection, for each address that its host has. Then it may be silent for 300 seconds at a time,
+/// or take nothing of the request for as long. Where one of these is over the exchange fails.
 #[derive(Debug, Drop)]
 pub struct TcpWire<R> {
     network: R,
+    patience: Patience,
     faults: NameCounts,
 }
 
@@ -22,8 +40,23 @@ impl<R> TcpWire<R> {
     pub fn new(alloc: Global, network: R) -> TcpWire<R>
         ensures { (address : List ℕ) → faults_of_wire result address ≡ 0 }
     {
+        let connecting = Duration::from_secs(CONNECTING);
+        TcpWire::with_patience(alloc, network, connecting, Duration::from_secs(SILENT))
+    }
+
+    /// The same, for which an endpoint has this long to take a connection in place of 10 seconds, and may be silent for this long in place
+    /// of 300. With no time at all each exchange fails.
+    pub fn with_patience(
+        alloc: Global,
+        network: R,
+        connecting: Duration,
+        silent: Duration,
+    ) -> TcpWire<R>
+        ensures { (address : List ℕ) → faults_of_wire result address ≡ 0 }
+    {
         TcpWire {
             network,
+            patience: Patience { connecting, silent },
             faults: NameCounts::new(alloc),
         }
     }
@@ -59,7 +92,8 @@ impl<R: Net> Wire for TcpWire<R> {
         ensures others { (address : List ℕ) → address ≢ at.now.iri → faults_of_wire self.new address ≡ faults_of_wire self.old address }
     {
         let place = self.faults.place(at.iri().text())?;
-        match fetch(&self.network, alloc, at, request, limit as usize + 1) {
+        let most = limit as usize + 1;
+        match fetch(&self.network, alloc, at, request, most, self.patience) {
             Ok(reply) => Ok(reply),
             Err(WireError::Memory) => Err(WireError::Memory),
             Err(WireError::Failed) => {
@@ -77,40 +111,31 @@ fn fetch<R: Net>(
     at: &Endpoint,
     request: &[u8],
     most: usize,
+    patience: Patience,
 ) -> Result<Vec<u8>, WireError>
     ensures { IfOk result (λ reply. vec_len reply ≤ most) }
 {
-    let mut stream = TcpStream::connect(network, (without_brackets(at.host()), at.port())).map_err(
-        |error| wire_error(&error),
-    )?;
-    stream
-        .write_all(request)
-        .map_err(|error| wire_error(&error))?;
-    read_front(alloc, &mut stream, most)
+    let reply = connect(network, at, patience).and_then(|mut stream| {
+        stream.write_all(request)?;
+        read_front(&mut stream, alloc, most)
+    });
+    reply.map_err(|error| wire_error(&error))
 }
 
-// The first `most` bytes of a stream, or all of it.
-fn read_front<S: Read>(alloc: Global, stream: &mut S, most: usize) -> Result<Vec<u8>, WireError>
-    ensures { IfOk result (λ reply. vec_len reply ≤ most) }
-{
-    let mut reply = Vec::new(alloc);
-    let mut buffer = [0u8; 4096];
-    for _ in 0..u64::MAX {
-        let room = buffer.len().min(most - reply.len());
-        if room == 0 {
-            return Ok(reply);
-        }
-        match stream.read(&mut buffer[..room]) {
-            Ok(0) => return Ok(reply),
-            Ok(count) => reply.extend_from_slice(&buffer[..count])?,
-            Err(error) => {
-                if error.kind() != ErrorKind::Interrupted {
-                    return Err(wire_error(&error));
-                }
+// A stream to an endpoint, by the first of its addresses that takes it.
+fn connect<R: Net>(network: &R, at: &Endpoint, patience: Patience) -> io::Result<R::Stream> {
+    let mut last = io::Error::from(ErrorKind::InvalidInput);
+    for address in (without_brackets(at.host()), at.port()).to_socket_addrs(network)? {
+        match TcpStream::connect_timeout(network, &address, patience.connecting) {
+            Ok(stream) => {
+                stream.set_read_timeout(Some(patience.silent))?;
+                stream.set_write_timeout(Some(patience.silent))?;
+                return Ok(stream);
             }
+            Err(error) => last = error,
         }
     }
-    Err(WireError::Failed)
+    Err(last)
 }
 
 // An IPv6 address stands in brackets in a URL, and without them where it is connected to.
