@@ -53,6 +53,7 @@ pub fn all_shareable<T: Send + Sync>() {
     shareable::<MemoryFiles>();
     shareable::<NameCounts>();
     shareable::<Folder<T>>();
+    shareable::<Patient<T, T>>();
     shareable::<StdLink<T>>();
     shareable::<StdSink<T>>();
 }
