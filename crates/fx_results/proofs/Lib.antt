@@ -1,8 +1,8 @@
 pub mod BackLemmas
 pub mod ColumnLemmas
 pub mod DataLemmas
-pub mod Floats
 pub mod KnownLemmas
 pub mod ReadingLemmas
 pub mod Rows
 pub mod TextLemmas
+pub mod TokenLemmas

@@ -1,5 +1,5 @@
 -- Answers whose names and terms are what their readers accept, as those of every `Answer` are.
-use Rattle.std.specs.Prelude.{List, All, IsTrue}
+use Rattle.std.specs.Prelude.{All, IsTrue}
 use Rattle.fx_terms.specs.Names.{IsName}
 use Rattle.fx_terms.specs.Terms.{IsTerm}
 use Rattle.fx_algebra.specs.Solutions.{Bindings, rises}

@@ -4,3 +4,4 @@ pub mod Documents
 pub mod KnownAnswers
 pub mod Meanings
 pub mod Reading
+pub mod Tokens

@@ -1,19 +1,17 @@
 //! The document of an answer.
-ghost use Rattle.std.specs.Prelude.{◌≡◌, All, IfOk, IsTrue, IsUtf8, Ok, map, true};
+ghost use Rattle.std.specs.Prelude.{◌≡◌, ◌++◌, All, IfOk, IsTrue, IsUtf8, Ok, OnOk, map, true};
 ghost use Rattle.serde_json.specs.Data.{string};
-ghost use Rattle.serde_json.specs.View.{view, members_view};
-ghost use Rattle.fx_algebra.specs.Solutions.{rises};
 ghost use Rattle.fx_terms.specs.Names.{IsName};
-ghost use Rattle.fx_terms.specs.Terms.{IsTerm};
 ghost use Rattle.fx_results.specs.Documents as spec;
 ghost use Rattle.fx_results.specs.KnownAnswers.{IsKnown, IsKnownRow};
 ghost use Rattle.fx_results.specs.Meanings.{Denotes, binds_columns};
 ghost use Rattle.fx_results.specs.Reading.{read_results};
+ghost use Rattle.fx_results.specs.Tokens.{data_tokens};
 
-use crate::terms::term_value;
+use crate::terms::write_term;
 use fx_algebra::{Answer, Solution};
-use fx_terms::{Memory, Name, Term};
-use serde_json::{Map, Value, json, put};
+use fx_terms::{Memory, Name};
+use json::Writer;
 use std::alloc::{AllocError, Global};
 
 /// The document of an answer (SPARQL 1.1 Query Results JSON Format, sections 3.1, 3.2 and 3.2.2).
@@ -30,67 +28,106 @@ pub fn write(alloc: Global, answer: &Answer) -> Result<Vec<u8>, Memory>
     ensures back { binds_columns answer.now ≡ true → IfOk result (λ bytes. read_results bytes.items ≡ Ok answer.now) }
     ensures means { binds_columns answer.now ≡ true → IfOk result (λ bytes. Denotes bytes.items answer.now) }
 {
-    let value = answer_value(alloc, answer)?;
-    Ok(value.to_vec(alloc)?)
+    let mut text = Writer::new(Vec::new(alloc));
+    write_answer(&mut text, answer)?;
+    Ok(text.into_inner())
 }
 
-fn answer_value(alloc: Global, answer: &Answer) -> Result<Value, AllocError>
-    ensures value { IfOk result (λ value. view value ≡ spec.answer_data answer.now) }
-    ensures known { IfOk result (λ value. IsKnown answer.now) }
+fn write_answer(text: &mut Writer, answer: &Answer) -> Result<(), AllocError>
+    ensures tokens { OnOk result (text.new.tokens ≡ text.old.tokens ++ data_tokens (spec.answer_data answer.now)) }
+    ensures before { OnOk result (text.new.before ≡ text.old.before) }
+    ensures known { OnOk result (IsKnown answer.now) }
 {
     match answer {
-        Answer::Table { columns, rows } => table_value(alloc, columns.as_slice(), rows.as_slice()),
-        Answer::Truth(truth) => truth_value(alloc, *truth),
+        Answer::Table { columns, rows } => write_table(text, columns.as_slice(), rows.as_slice()),
+        Answer::Truth(truth) => write_truth(text, *truth),
     }
 }
 
-fn truth_value(alloc: Global, truth: bool) -> Result<Value, AllocError>
-    ensures { IfOk result (λ value. view value ≡ spec.truth_data truth) }
+fn write_truth(text: &mut Writer, truth: bool) -> Result<(), AllocError>
+    ensures tokens { OnOk result (text.new.tokens ≡ text.old.tokens ++ data_tokens (spec.truth_data truth)) }
+    ensures before { OnOk result (text.new.before ≡ text.old.before) }
 {
-    json!(in alloc; {"boolean": truth, "head": {}})
+    text.begin_object()?;
+    text.key("boolean")?;
+    text.boolean(truth)?;
+    text.key("head")?;
+    text.begin_object()?;
+    text.end_object()?;
+    text.end_object()
 }
 
-fn table_value(alloc: Global, columns: &[Name], rows: &[Solution]) -> Result<Value, AllocError>
-    ensures value { IfOk result (λ value. view value ≡ spec.table_data columns.now rows.now) }
-    ensures names { IfOk result (λ value. All IsName columns.now) }
-    ensures rows { IfOk result (λ value. All IsKnownRow rows.now) }
+fn write_table(text: &mut Writer, columns: &[Name], rows: &[Solution]) -> Result<(), AllocError>
+    ensures tokens { OnOk result (text.new.tokens ≡ text.old.tokens ++ data_tokens (spec.table_data columns.now rows.now)) }
+    ensures before { OnOk result (text.new.before ≡ text.old.before) }
+    ensures names { OnOk result (All IsName columns.now) }
+    ensures rows { OnOk result (All IsKnownRow rows.now) }
 {
-    let names = names_value(alloc, columns)?;
-    let bindings = rows_value(alloc, rows)?;
-    json!(in alloc; {"head": {"vars": names}, "results": {"bindings": bindings}})
+    text.begin_object()?;
+    text.key("head")?;
+    write_head(text, columns)?;
+    text.key("results")?;
+    write_results(text, rows)?;
+    text.end_object()
 }
 
-fn names_value(alloc: Global, names: &[Name]) -> Result<Value, AllocError>
-    ensures value { IfOk result (λ value. view value ≡ spec.array_of (map string names.now)) }
-    ensures known { IfOk result (λ value. All IsName names.now) }
+fn write_head(text: &mut Writer, columns: &[Name]) -> Result<(), AllocError>
+    ensures tokens { OnOk result (text.new.tokens ≡ text.old.tokens ++ data_tokens (spec.head_data columns.now)) }
+    ensures before { OnOk result (text.new.before ≡ text.old.before) }
+    ensures known { OnOk result (All IsName columns.now) }
 {
-    let mut items = Vec::with_capacity(alloc, names.len())?;
+    text.begin_object()?;
+    text.key("vars")?;
+    write_names(text, columns)?;
+    text.end_object()
+}
+
+fn write_results(text: &mut Writer, rows: &[Solution]) -> Result<(), AllocError>
+    ensures tokens { OnOk result (text.new.tokens ≡ text.old.tokens ++ data_tokens (spec.results_data rows.now)) }
+    ensures before { OnOk result (text.new.before ≡ text.old.before) }
+    ensures known { OnOk result (All IsKnownRow rows.now) }
+{
+    text.begin_object()?;
+    text.key("bindings")?;
+    write_rows(text, rows)?;
+    text.end_object()
+}
+
+fn write_names(text: &mut Writer, names: &[Name]) -> Result<(), AllocError>
+    ensures tokens { OnOk result (text.new.tokens ≡ text.old.tokens ++ data_tokens (spec.array_of (map string names.now))) }
+    ensures before { OnOk result (text.new.before ≡ text.old.before) }
+    ensures known { OnOk result (All IsName names.now) }
+{
+    text.begin_array()?;
     for name in names {
-        items.push(Value::try_from_str(alloc, name.text())?)?;
+        text.string(name.text())?;
     }
-    Ok(Value::Array(items))
+    text.end_array()
 }
 
-fn rows_value(alloc: Global, rows: &[Solution]) -> Result<Value, AllocError>
-    ensures value { IfOk result (λ value. view value ≡ spec.array_of (map spec.row_data rows.now)) }
-    ensures known { IfOk result (λ value. All IsKnownRow rows.now) }
+// One row after another, so that there is never more than the rows and the text.
+fn write_rows(text: &mut Writer, rows: &[Solution]) -> Result<(), AllocError>
+    ensures tokens { OnOk result (text.new.tokens ≡ text.old.tokens ++ data_tokens (spec.array_of (map spec.row_data rows.now))) }
+    ensures before { OnOk result (text.new.before ≡ text.old.before) }
+    ensures known { OnOk result (All IsKnownRow rows.now) }
 {
-    let mut items = Vec::with_capacity(alloc, rows.len())?;
+    text.begin_array()?;
     for row in rows {
-        items.push(Value::Object(row_members(alloc, row.pairs())?))?;
+        write_row(text, row)?;
     }
-    Ok(Value::Array(items))
+    text.end_array()
 }
 
-fn row_members(alloc: Global, row: &[(Name, Term)]) -> Result<Map<String, Value>, AllocError>
-    requires { IsTrue (rises row.now) }
-    ensures value { IfOk result (λ members. members_view members.entries ≡ spec.row_members row.now) }
-    ensures known { IfOk result (λ members. All (λ e. IsTerm e.1) row.now) }
+fn write_row(text: &mut Writer, row: &Solution) -> Result<(), AllocError>
+    ensures tokens { OnOk result (text.new.tokens ≡ text.old.tokens ++ data_tokens (spec.row_data row.now)) }
+    ensures before { OnOk result (text.new.before ≡ text.old.before) }
+    ensures known { OnOk result (IsKnownRow row.now) }
 {
-    let mut members = Map::new(alloc);
-    for pair in row {
-        let value = term_value(alloc, &pair.1)?;
-        put(&mut members, alloc, pair.0.text(), value)?;
+    let pairs = row.pairs();
+    text.begin_object()?;
+    for pair in pairs {
+        text.key(pair.0.text())?;
+        write_term(text, &pair.1)?;
     }
-    Ok(members)
+    text.end_object()
 }

@@ -1,68 +1,98 @@
 //! The data of a term.
-ghost use Rattle.std.specs.Prelude.{◌≡◌, IfOk};
-ghost use Rattle.serde_json.specs.View.{view};
+ghost use Rattle.std.specs.Prelude.{◌≡◌, ◌∷◌, [], ◌++◌, OnOk};
+ghost use Rattle.json.specs.Token.{key, string};
 ghost use Rattle.fx_terms.specs.Literals.{IsLiteral};
 ghost use Rattle.fx_terms.specs.Terms.{IsTerm};
 ghost use Rattle.fx_results.specs.Documents as spec;
+ghost use Rattle.fx_results.specs.Tokens.{data_tokens};
 
 use fx_terms::{Literal, Term};
-use serde_json::{Value, json};
-use std::alloc::{AllocError, Global};
+use json::Writer;
+use std::alloc::AllocError;
 
 // The datatype of plain literals.
 const STRING: &str = "http://www.w3.org/2001/XMLSchema#string";
 
-pub(crate) fn term_value(alloc: Global, term: &Term) -> Result<Value, AllocError>
-    ensures value { IfOk result (λ value. view value ≡ spec.term_data term.now) }
-    ensures known { IfOk result (λ value. IsTerm term.now) }
+pub(crate) fn write_term(text: &mut Writer, term: &Term) -> Result<(), AllocError>
+    ensures tokens { OnOk result (text.new.tokens ≡ text.old.tokens ++ data_tokens (spec.term_data term.now)) }
+    ensures before { OnOk result (text.new.before ≡ text.old.before) }
+    ensures known { OnOk result (IsTerm term.now) }
 {
     match term {
-        Term::Iri(iri) => iri_value(alloc, iri.text()),
-        Term::Literal(literal) => literal_value(alloc, literal),
+        Term::Iri(iri) => write_iri(text, iri.text()),
+        Term::Literal(literal) => write_literal(text, literal),
     }
 }
 
-fn literal_value(alloc: Global, literal: &Literal) -> Result<Value, AllocError>
-    ensures value { IfOk result (λ value. view value ≡ spec.literal_data literal.now) }
-    ensures known { IfOk result (λ value. IsLiteral literal.now) }
+fn write_literal(text: &mut Writer, literal: &Literal) -> Result<(), AllocError>
+    ensures tokens { OnOk result (text.new.tokens ≡ text.old.tokens ++ data_tokens (spec.literal_data literal.now)) }
+    ensures before { OnOk result (text.new.before ≡ text.old.before) }
+    ensures known { OnOk result (IsLiteral literal.now) }
 {
     if literal.tag().is_empty() {
-        untagged_value(alloc, literal.form(), literal.datatype().text())
+        write_untagged(text, literal.form(), literal.datatype().text())
     } else {
-        tagged_value(alloc, literal.form(), literal.tag())
+        write_tagged(text, literal.form(), literal.tag())
     }
 }
 
-fn untagged_value(alloc: Global, form: &str, datatype: &str) -> Result<Value, AllocError>
-    ensures { IfOk result (λ value. view value ≡ spec.untagged_data form.now datatype.now) }
+fn write_untagged(text: &mut Writer, form: &str, datatype: &str) -> Result<(), AllocError>
+    ensures tokens { OnOk result (text.new.tokens ≡ text.old.tokens ++ data_tokens (spec.untagged_data form.now datatype.now)) }
+    ensures before { OnOk result (text.new.before ≡ text.old.before) }
 {
     if datatype == STRING {
-        plain_value(alloc, form)
+        write_plain(text, form)
     } else {
-        typed_value(alloc, form, datatype)
+        write_typed(text, form, datatype)
     }
 }
 
-fn iri_value(alloc: Global, text: &str) -> Result<Value, AllocError>
-    ensures { IfOk result (λ value. view value ≡ spec.iri_data text.now) }
+fn write_iri(text: &mut Writer, iri: &str) -> Result<(), AllocError>
+    ensures tokens { OnOk result (text.new.tokens ≡ text.old.tokens ++ data_tokens (spec.iri_data iri.now)) }
+    ensures before { OnOk result (text.new.before ≡ text.old.before) }
 {
-    json!(in alloc; {"type": "uri", "value": text})
+    text.begin_object()?;
+    write_member(text, "type", "uri")?;
+    write_member(text, "value", iri)?;
+    text.end_object()
 }
 
-fn plain_value(alloc: Global, form: &str) -> Result<Value, AllocError>
-    ensures { IfOk result (λ value. view value ≡ spec.plain_data form.now) }
+fn write_plain(text: &mut Writer, form: &str) -> Result<(), AllocError>
+    ensures tokens { OnOk result (text.new.tokens ≡ text.old.tokens ++ data_tokens (spec.plain_data form.now)) }
+    ensures before { OnOk result (text.new.before ≡ text.old.before) }
 {
-    json!(in alloc; {"type": "literal", "value": form})
+    text.begin_object()?;
+    write_member(text, "type", "literal")?;
+    write_member(text, "value", form)?;
+    text.end_object()
 }
 
-fn tagged_value(alloc: Global, form: &str, tag: &str) -> Result<Value, AllocError>
-    ensures { IfOk result (λ value. view value ≡ spec.tagged_data form.now tag.now) }
+fn write_tagged(text: &mut Writer, form: &str, tag: &str) -> Result<(), AllocError>
+    ensures tokens { OnOk result (text.new.tokens ≡ text.old.tokens ++ data_tokens (spec.tagged_data form.now tag.now)) }
+    ensures before { OnOk result (text.new.before ≡ text.old.before) }
 {
-    json!(in alloc; {"type": "literal", "value": form, "xml:lang": tag})
+    text.begin_object()?;
+    write_member(text, "type", "literal")?;
+    write_member(text, "value", form)?;
+    write_member(text, "xml:lang", tag)?;
+    text.end_object()
 }
 
-fn typed_value(alloc: Global, form: &str, datatype: &str) -> Result<Value, AllocError>
-    ensures { IfOk result (λ value. view value ≡ spec.typed_data form.now datatype.now) }
+fn write_typed(text: &mut Writer, form: &str, datatype: &str) -> Result<(), AllocError>
+    ensures tokens { OnOk result (text.new.tokens ≡ text.old.tokens ++ data_tokens (spec.typed_data form.now datatype.now)) }
+    ensures before { OnOk result (text.new.before ≡ text.old.before) }
 {
-    json!(in alloc; {"datatype": datatype, "type": "literal", "value": form})
+    text.begin_object()?;
+    write_member(text, "datatype", datatype)?;
+    write_member(text, "type", "literal")?;
+    write_member(text, "value", form)?;
+    text.end_object()
+}
+
+fn write_member(text: &mut Writer, name: &str, value: &str) -> Result<(), AllocError>
+    ensures tokens { OnOk result (text.new.tokens ≡ text.old.tokens ++ key name.now ∷ string value.now ∷ []) }
+    ensures before { OnOk result (text.new.before ≡ text.old.before) }
+{
+    text.key(name)?;
+    text.string(value)
 }
