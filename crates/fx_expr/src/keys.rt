@@ -3,12 +3,57 @@ ghost use Rattle.std.specs.Prelude.{◌≡◌};
 ghost use Rattle.std.specs.Option.{option_copied};
 ghost use Rattle.fx_terms.specs.Terms.{datatype_of as datatype_of_term, tag_of as tag_of_term};
 ghost use Rattle.fx_algebra.specs.Keys as spec;
+ghost use Rattle.fx_algebra.specs.Worths as worths;
+ghost use Rattle.fx_expr.specs.Keys.{key_worth as worth_of_key};
 
 use crate::values::form_of;
 use crate::worths::worth_of;
 use fx_algebra::Worth;
 use fx_terms::Term;
 use std::cmp::Ordering;
+use std::marker::Model;
+
+/// A key of a row beside what it is worth, so that its text isn't read again for each comparison. Contracts see the value, or
+/// `None` for an error or an unbound variable.
+#[derive(Drop)]
+pub struct Key {
+    term: Option<Term>,
+    worth: Worth,
+}
+
+impl Model for Key {
+    ghost use Rattle.std.specs.Prelude.{◌≡◌, Option as Maybe};
+    ghost use Rattle.fx_terms.specs.declared.terms.Term.{Term as TermParts};
+    ghost use Rattle.fx_expr.specs.Keys.{key_worth};
+
+    ghost Value = { Maybe TermParts };
+
+    ghost view = { λ k. k.term };
+
+    ghost invariant = { λ k. k.worth ≡ key_worth k.term };
+}
+
+impl Key {
+    /// The key of a value. It takes no memory.
+    pub fn of(term: Option<Term>) -> Key
+        ensures { result ≡ term }
+    {
+        let worth = key_worth(term.as_ref());
+        Key { term, worth }
+    }
+
+    /// The order of two keys, as `compare_keys` has it. It takes no memory.
+    pub fn compare(&self, other: &Key) -> Ordering
+        ensures { result ≡ spec.key_order self.now other.now }
+    {
+        compare_by(
+            self.worth,
+            self.term.as_ref(),
+            other.worth,
+            other.term.as_ref(),
+        )
+    }
+}
 
 /// The order of two values as keys (SPARQL 1.1 section 15.1), where `None` is the error or an unbound variable. It takes no
 /// memory.
@@ -19,6 +64,24 @@ use std::cmp::Ordering;
 pub fn compare_keys(left: Option<&Term>, right: Option<&Term>) -> Ordering
     ensures { result ≡ spec.key_order (option_copied left.entry) (option_copied right.entry) }
 {
+    compare_by(key_worth(left), left, key_worth(right), right)
+}
+
+fn key_worth(key: Option<&Term>) -> Worth
+    ensures { result ≡ worth_of_key (option_copied key.entry) }
+{
+    match key {
+        Some(term) => worth_of(term),
+        None => Worth::Opaque,
+    }
+}
+
+// The order of keys that are worth so much.
+fn compare_by(v: Worth, left: Option<&Term>, w: Worth, right: Option<&Term>) -> Ordering
+    requires left { v ≡ worth_of_key (option_copied left) }
+    requires right { w ≡ worth_of_key (option_copied right) }
+    ensures { result ≡ spec.key_order (option_copied left.entry) (option_copied right.entry) }
+{
     match left {
         None => match right {
             None => Ordering::Equal,
@@ -26,20 +89,27 @@ pub fn compare_keys(left: Option<&Term>, right: Option<&Term>) -> Ordering
         },
         Some(x) => match right {
             None => Ordering::Greater,
-            Some(y) => compare_terms(x, y),
+            Some(y) => compare_terms(v, x, w, y),
         },
     }
 }
 
-fn compare_terms(left: &Term, right: &Term) -> Ordering
+// The order of terms that are worth so much.
+fn compare_terms(v: Worth, left: &Term, w: Worth, right: &Term) -> Ordering
+    requires left { v ≡ worths.worth_of left.now }
+    requires right { w ≡ worths.worth_of right.now }
     ensures { result ≡ spec.term_order left.now right.now }
 {
-    let v = worth_of(left);
-    let w = worth_of(right);
-    place_by(v, left)
-        .cmp(&place_by(w, right))
-        .then(number_by(v).cmp(&number_by(w)))
-        .then(text_by(v, datatype_of(left)).cmp(text_by(w, datatype_of(right))))
+    let places = place_by(v, left).cmp(&place_by(w, right));
+    if places != Ordering::Equal {
+        return places;
+    }
+    let numbers = number_by(v).cmp(&number_by(w));
+    if numbers != Ordering::Equal {
+        return numbers;
+    }
+    text_by(v, datatype_of(left))
+        .cmp(text_by(w, datatype_of(right)))
         .then(text_by(v, tag_of(left)).cmp(text_by(w, tag_of(right))))
         .then(text_by(v, form_of(left)).cmp(text_by(w, form_of(right))))
 }

@@ -9,6 +9,6 @@ mod words;
 mod worths;
 
 pub use conditions::holds;
-pub use keys::compare_keys;
+pub use keys::{Key, compare_keys};
 pub use values::value;
 pub use worths::truth;
