@@ -1,14 +1,13 @@
 -- The same rows give one answer.
-use Rattle.std.proofs.Common.{◌≡◌, ap, sym, refl, Bool, true, false, List, [], ◌∷◌, ◌∙◌, length, IsPermutation, All, IsTrue}
+use Rattle.std.proofs.Common.{◌≡◌, ap, refl, List, [], ◌∷◌, length}
 use Rattle.std.specs.Prelude.{drop}
 use Rattle.std.proofs.lemmas.List.Sorted.{length_permutation}
 use Rattle.fx_algebra.specs.Answers.{form_answer, has_rows}
 use Rattle.fx_algebra.specs.Sequences.{distinct_rows, limited}
-use Rattle.fx_algebra.specs.Solutions.{Bindings, rises, SameRows}
+use Rattle.fx_algebra.specs.Solutions.{Bindings}
 use Rattle.fx_algebra.specs.declared.answers.Answer.TheVariants.{Table, Truth}
 use Rattle.fx_algebra.specs.declared.queries.Form.{Form}
 use Rattle.fx_algebra.specs.declared.queries.Form.TheVariants.{Select, Ask}
-use Rattle.fx_algebra.specs.declared.queries.Query.{Query}
 use Rattle.fx_solutions.specs.Tables.{OneAnswer}
 use Rattle.fx_solutions.proofs.KeyLemmas.{same_in_order}
 

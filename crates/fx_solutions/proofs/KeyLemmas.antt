@@ -99,7 +99,7 @@ keys_total (o ∷ os) = then_total (on_total first_key (directed_total o.descend
 pub keyed_total : (orders : List Order) (columns : List (List ℕ)) → IsTotalOrder (keyed_cmp orders columns)
 keyed_total orders columns = then_total (on_total (λ (k : Keyed). k.keys) (keys_total orders)) (on_total (λ (k : Keyed). k.row) (rows_total columns))
 
-second : (o p : Ordering) → ordering_then o p ≡ Equal → p ≡ Equal
+pub second : (o p : Ordering) → ordering_then o p ≡ Equal → p ≡ Equal
 second Equal p h = h
 second Less p h = cc
 second Greater p h = cc

@@ -1,3 +1,4 @@
 pub mod Joins
+pub mod Ranks
 pub mod Selected
 pub mod Tables

@@ -4,8 +4,10 @@ ghost use Rattle.std.specs.Cmp.Lexicographic.{slice_cmp};
 ghost use Rattle.std.specs.Option.{option_copied};
 ghost use Rattle.fx_algebra.specs.Sequences.{cells, cell_cmp, with_row};
 ghost use Rattle.fx_algebra.specs.Solutions.{term_of};
+ghost use Rattle.fx_solutions.specs.Ranks.{whole_rows};
 ghost use Rattle.fx_solutions.specs.Selected as spec;
 
+use crate::ranked_rows::Ranked;
 use crate::sequences::compare_cells;
 use fx_algebra::Solution;
 use fx_terms::{Items, Memory, Name, Term};
@@ -116,18 +118,18 @@ fn cell_of(row: &Solution, column: &Name) -> Result<Option<Term>, Memory>
 }
 
 /// The rows, each once under the columns, at its first place.
-pub(crate) fn distinct(
+pub(crate) fn distinct<'a>(
     alloc: Global,
     columns: &[Name],
-    rows: Vec<Solution>,
-) -> Result<Vec<Solution>, Memory>
-    ensures { IfOk result (λ v. v.items ≡ fold (with_row columns.now) [] rows.items) }
+    rows: Vec<Ranked<'a>>,
+) -> Result<Vec<Ranked<'a>>, Memory>
+    ensures { IfOk result (λ v. whole_rows v.items ≡ fold (with_row columns.now) [] (whole_rows rows.entry.items)) }
 {
     let mut seen = BTreeSet::new(alloc);
     let mut kept = Vec::new(alloc);
-    for row in rows {
-        if seen.insert(cells_of(alloc, columns, &row)?)? {
-            kept.push(row)?;
+    for one in rows {
+        if seen.insert(cells_of(alloc, columns, one.row())?)? {
+            kept.push(one)?;
         }
     }
     Ok(kept)

@@ -6,6 +6,7 @@ pub mod joins;
 pub mod laws;
 pub mod left_joins;
 pub mod ordered_rows;
+mod ranked_rows;
 pub mod rows;
 pub mod selections;
 pub mod sequences;

@@ -1,10 +1,11 @@
 //! The rows of an answer.
 ghost use Rattle.std.specs.Prelude.{◌≡◌, drop, IfOk};
-ghost use Rattle.fx_algebra.specs.Sequences.{distinct_rows as distinct_of, limited as limited_to};
+ghost use Rattle.fx_algebra.specs.Sequences.{distinct_rows as distinct_of};
 ghost use Rattle.fx_algebra.specs.Answers.{selected};
+ghost use Rattle.fx_solutions.specs.Ranks as spec;
 
 use crate::distinct_rows::distinct;
-use crate::ordered_rows::in_order;
+use crate::ranked_rows::{Ranked, project_ranked, ranked_in_order};
 use fx_algebra::{Query, Solution};
 use fx_terms::{Memory, Name};
 use std::alloc::Global;
@@ -21,46 +22,40 @@ pub fn sequence(
 ) -> Result<Vec<Solution>, Memory>
     ensures { IfOk result (λ v. v.items ≡ selected query.now is_distinct columns.now rows.now) }
 {
-    let rows = in_order(alloc, query.order.as_slice(), columns, rows)?;
-    let rows = once(alloc, is_distinct, columns, rows)?;
-    let rows = behind(alloc, query.offset, rows)?;
-    Ok(limited(query.limit, rows))
+    let ranked = ranked_in_order(alloc, query.order.as_slice(), columns, rows)?;
+    let ranked = once(alloc, is_distinct, columns, ranked)?;
+    let kept = limited(query.limit, behind(query.offset, ranked.as_slice()));
+    project_ranked(alloc, columns, kept)
 }
 
-fn once(
+fn once<'a>(
     alloc: Global,
     is_distinct: bool,
     columns: &[Name],
-    rows: Vec<Solution>,
-) -> Result<Vec<Solution>, Memory>
-    ensures { IfOk result (λ v. v.items ≡ distinct_of is_distinct columns.now rows.items) }
+    ranked: Vec<Ranked<'a>>,
+) -> Result<Vec<Ranked<'a>>, Memory>
+    ensures { IfOk result (λ v. spec.whole_rows v.items ≡ distinct_of is_distinct columns.now (spec.whole_rows ranked.entry.items)) }
 {
     if is_distinct {
-        distinct(alloc, columns, rows)
+        distinct(alloc, columns, ranked)
     } else {
-        Ok(rows)
+        Ok(ranked)
     }
 }
 
 // The rows behind some in front.
-fn behind(alloc: Global, offset: u64, rows: Vec<Solution>) -> Result<Vec<Solution>, Memory>
-    ensures { IfOk result (λ v. v.items ≡ drop offset rows.items) }
+fn behind<'s, 'a>(offset: u64, ranked: &'s [Ranked<'a>]) -> &'s [Ranked<'a>]
+    ensures { result.now ≡ drop offset ranked.now }
 {
-    let mut rows = rows;
-    let offset = offset as usize;
-    if offset < rows.len() {
-        Ok(rows.split_off(offset)?)
-    } else {
-        Ok(Vec::new(alloc))
-    }
+    let offset = ranked.len().min(offset as usize);
+    &ranked[offset..]
 }
 
-fn limited(limit: Option<u64>, rows: Vec<Solution>) -> Vec<Solution>
-    ensures { result.items ≡ limited_to limit rows.items }
+fn limited<'s, 'a>(limit: Option<u64>, ranked: &'s [Ranked<'a>]) -> &'s [Ranked<'a>]
+    ensures { result.now ≡ spec.front limit ranked.now }
 {
-    let mut rows = rows;
-    if let Some(limit) = limit {
-        rows.truncate(limit as usize);
+    match limit {
+        Some(limit) => &ranked[..ranked.len().min(limit as usize)],
+        None => ranked,
     }
-    rows
 }
