@@ -1,3 +1,4 @@
 pub mod Lookups
 pub mod Objects
+pub mod Orders
 pub mod Stores

@@ -3,12 +3,15 @@
 
 mod evaluation;
 mod objects;
+pub mod orders;
 pub mod stores;
 
 use fx_terms::shareable;
+pub use orders::{Orders, Steps};
 pub use stores::Store;
 
 /// Every type of this crate may be shared between threads and sent to them.
 pub fn all_shareable() {
     shareable::<Store>();
+    shareable::<Orders>();
 }

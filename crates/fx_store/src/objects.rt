@@ -49,7 +49,8 @@ fn is_up_to(triple: &Triple, object: &Term) -> bool
     triple.object <= *object
 }
 
-fn compare(left: &Triple, right: &Triple) -> Ordering
+/// By object, and then as in a graph.
+pub fn compare(left: &Triple, right: &Triple) -> Ordering
     ensures { result ≡ spec.object_cmp left.now right.now }
 {
     left.object.cmp(&right.object).then(left.cmp(right))

@@ -1,4 +1,4 @@
-use Rattle.std.proofs.Common.{◌≡◌, ◌∙◌, ◌++◌, ap}
+use Rattle.std.proofs.Common.{◌∙◌, ◌++◌, ap}
 use Rattle.std.specs.List.{filter_map}
 use Rattle.fx_algebra.specs.BasicGraphPatterns.{forced, parts_of}
 use Rattle.fx_store.proofs.FitLemmas.{fitting}
