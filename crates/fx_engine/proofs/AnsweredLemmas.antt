@@ -3,7 +3,7 @@ use Rattle.std.proofs.Common.{◌≡◌, ◌∙◌, ap, sym, subst, refl, ℕ, B
 use Rattle.std.proofs.lemmas.List.Sorted.{IsPermutation-sym, IsPermutation-trans}
 use Rattle.fx_terms.specs.declared.triples.Triple.{Triple}
 use Rattle.fx_outside.specs.Endpoints.{EndpointParts}
-use Rattle.fx_algebra.specs.Answers.{form_answer, with_inline}
+use Rattle.fx_algebra.specs.Answers.{form_answer, no_graphs, with_inline}
 use Rattle.fx_algebra.specs.Cuts.{stations}
 use Rattle.fx_algebra.specs.Graphs.{union}
 use Rattle.fx_algebra.specs.Groups.{group_rows}
@@ -24,7 +24,7 @@ use Rattle.fx_pool.specs.declared.flows.FlowError.{FlowError}
 use Rattle.fx_pool.specs.declared.flows.FlowError.TheVariants as flow
 use Rattle.fx_engine.specs.AnswersAsked.{AnswerDue, AnswerGiven, IsFromRows}
 use Rattle.fx_engine.specs.Asked.{Asked}
-use Rattle.fx_engine.specs.GroupsAsked.{GroupDue, GroupGiven, IsNext, all_planned, planned}
+use Rattle.fx_engine.specs.GroupsAsked.{GroupDue, GroupGiven, IsNext, Served, all_planned, planned}
 use Rattle.fx_engine.specs.SectionSteps.{group_of}
 use Rattle.fx_engine.specs.Sections.{part_with, parts_with, section_of}
 use Rattle.fx_engine.proofs.AskedLemmas.{given_as, lost_behind}
@@ -42,6 +42,10 @@ from_rows q rows all answer same up is = λ defined moved.
 pub alone : (q : Query) → services q ≡ [] → (group_of q.group).services ≡ 0
 alone q none = services_are_counted q.group ∙ ap (λ (os : List Occurrence). length os) none
 
+-- no SERVICE is served
+abbrev pub alone_served : Served
+alone_served = record { graphs = no_graphs; down = [] }
+
 -- the plan begins with the parts of its stations, and nothing is behind them
 each_planned : (graphs : List (List Triple)) (ss : List Station) → map (part_with (sources graphs)) (map section_of ss) ≡ all_planned graphs ss
 each_planned graphs [] = refl
@@ -52,14 +56,14 @@ from_the_start q graphs parts is = is ∙ each_planned graphs (stations q) ∙ s
 
 module _ (endpoints : List EndpointParts) (block : ℕ) (parts : List Part) (q : Query) (later : ℕ) (graphs : List (List Triple)) (wanted : List Sent) where
   pub answer_due : GroupDue endpoints block parts 0 q.group graphs wanted → AnswerDue endpoints block parts q graphs wanted
-  answer_due h = λ is. h [] (from_the_start q graphs parts is)
+  answer_due h = λ is. h alone_served 0 [] (from_the_start q graphs parts is)
 
   pub group_was_due : (rows : List Bindings) → GroupGiven endpoints block parts 0 later q.group graphs wanted rows → AnswerDue endpoints block parts q graphs wanted
-  group_was_due rows h = λ is. (h [] (from_the_start q graphs parts is)).0.sent
+  group_was_due rows h = λ is. (h alone_served 0 [] (from_the_start q graphs parts is)).0.sent
 
   pub answer_given : (rows : List Bindings) (answer : Answer) → GroupGiven endpoints block parts 0 later q.group graphs wanted rows → IsFromRows q rows answer → AnswerGiven endpoints block parts q graphs wanted answer
   answer_given rows answer h from = λ is.
-      let both = h [] (from_the_start q graphs parts is) in
+      let both = h alone_served 0 [] (from_the_start q graphs parts is) in
       (both.0.sent, from (group_rows (group_of q.group) (union graphs) 0) both.1)
 
 -- ---- with what was asked

@@ -1,23 +1,27 @@
 -- The filters of a group at its end.
-use Rattle.std.proofs.Common.{◌≡◌, sym, subst, ℕ, List, IsPermutation}
+use Rattle.std.proofs.Common.{◌≡◌, ◌∙◌, ap, sym, subst, ℕ, List, IsPermutation}
 use Rattle.fx_terms.specs.declared.triples.Triple.{Triple}
 use Rattle.fx_outside.specs.Endpoints.{EndpointParts}
 use Rattle.fx_algebra.specs.Graphs.{union}
 use Rattle.fx_algebra.specs.Groups.{group_rows}
 use Rattle.fx_algebra.specs.Operators.{filtered}
 use Rattle.fx_algebra.specs.Solutions.{Bindings}
+use Rattle.fx_algebra.specs.declared.expressions.Expr.{Expr}
 use Rattle.fx_algebra.specs.declared.queries.Group.{Group}
 use Rattle.fx_plan.specs.declared.parts.Part.{Part}
 use Rattle.fx_steps.proofs.FewerLemmas.{fewer_laws}
 use Rattle.fx_traffic.specs.Sent.{Sent}
-use Rattle.fx_engine.specs.GroupsAsked.{GroupGiven, UnfilteredGiven}
+use Rattle.fx_engine.specs.GroupsAsked.{GroupGiven, UnfilteredGiven, group_in}
 use Rattle.fx_engine.specs.SectionSteps.{group_of}
+use Rattle.fx_engine.proofs.ServedLemmas.{same_filters}
 
 -- where they are applied, the rows are the group's
 pub group_filtered : (endpoints : List EndpointParts) (block : ℕ) (parts : List Part) (next later : ℕ) (g : Group) (graphs : List (List Triple)) (wanted : List Sent) (found rows : List Bindings)
     → UnfilteredGiven endpoints block parts next later g graphs wanted found → rows ≡ filtered (group_of g).filters found → GroupGiven endpoints block parts next later g graphs wanted rows
-group_filtered endpoints block parts next later g graphs wanted found rows h e = λ rest is.
-    let k = h rest is in (
+group_filtered endpoints block parts next later g graphs wanted found rows h e = λ served number rest is.
+    let m = group_in served g in
+    let k = h served number rest is in (
       k.0,
-      subst (λ (v : List Bindings). IsPermutation v (group_rows (group_of g) (union graphs) 0)) (sym e) (fewer_laws.at_the_end (group_of g).filters found ((group_of g).rows (union graphs) 0) k.1),
+      subst (λ (v : List Bindings). IsPermutation v (group_rows m (union graphs) number)) (sym (e ∙ ap (λ (v : List Expr). filtered v found) (sym (same_filters served g))))
+          (fewer_laws.at_the_end m.filters found (m.rows (union graphs) number) k.1),
     )

@@ -5,6 +5,7 @@ pub mod PartLemmas
 pub mod PlanLemmas
 pub mod UnitLemmas
 pub mod AskedLemmas
+pub mod ServedLemmas
 pub mod RunLemmas
 pub mod EvenLemmas
 pub mod StationLemmas

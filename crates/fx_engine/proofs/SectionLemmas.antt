@@ -245,7 +245,7 @@ ended es known run (operator o) parts h = refl
 
 -- ---- groups as their elements
 
-meaning_is : (g : Group) → group_of g ≡ group_meaning (record { elements = map part_of g.elements })
+pub meaning_is : (g : Group) → group_of g ≡ group_meaning (record { elements = map part_of g.elements })
 meaning_is g = fold_out-Group Part Meaning (element_meaning no_graphs []) group_meaning g
 
 -- what was made of the first elements of a group, and what the others add

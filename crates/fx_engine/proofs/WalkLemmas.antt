@@ -19,8 +19,8 @@ use Rattle.fx_traffic.specs.Traffic.{AreStationsSent}
 use Rattle.fx_wire.specs.Exchanges.{Seen}
 use Rattle.fx_pool.specs.declared.flows.FlowError.{FlowError}
 use Rattle.fx_engine.specs.Asked.{Asked}
-use Rattle.fx_engine.specs.GroupsAsked.{AreSentFrom, ElementDue, ElementGiven, EndDue, EndGiven, GroupDue, IsNext, IsPlace, IsReached, UnfilteredGiven, all_planned, run_joined, run_seeds, run_stations, seeds_in, stations_in, units_in, with_run}
-use Rattle.fx_engine.specs.SectionSteps.{group_of, part_of}
+use Rattle.fx_engine.specs.GroupsAsked.{AreSentFrom, ElementDue, ElementGiven, EndDue, EndGiven, GroupDue, IsNext, IsPlace, IsReached, Served, UnfilteredGiven, all_planned, element_in, group_in, number_behind, run_joined, run_seeds, run_stations, seeds_in, stations_in, units_in, with_run}
+use Rattle.fx_engine.specs.SectionSteps.{part_of}
 use Rattle.fx_engine.proofs.AskedLemmas.{AllTell, asked_behind, given_unasked, refused_as}
 use Rattle.fx_engine.proofs.ElementLemmas.{group_is}
 use Rattle.fx_engine.proofs.EvenLemmas.{elements_are_even, group_is_even}
@@ -38,120 +38,147 @@ no_service_in parts none part rest is =
     (omega arith, omega arith)
 
 module _ (endpoints : List EndpointParts) (block : ℕ) (parts : List Part) (next : ℕ) (g : Group) (all : List Element) (are : all ≡ g.elements) where
-  abbrev filters : List Expr
-  filters = conditions_of (map part_of all)
+  module _ (served : Served) where
+    abbrev its_parts : List GroupPart
+    its_parts = map (element_in served) all
 
-  abbrev whole : List Step
-  whole = steps_of (map part_of all)
+    abbrev filters : List Expr
+    filters = conditions_of its_parts
+
+    abbrev whole : List Step
+    whole = steps_of its_parts
+
+    -- the steps of the elements from one on
+    abbrev from : List Element → List Step
+    from left = steps_of (map (element_in served) left)
 
   -- what comes of the elements before one of these places
   abbrev pub SoFar : ℕ → Bool → List Element → List (List Triple) → List Sent → List Bindings → Type 0
   SoFar later in_run left graphs wanted rows =
-      (rest : List Part) → IsNext parts next graphs (stations_in g) rest → IsReached endpoints graphs block parts later in_run filters [] [] one_empty whole rest (steps_of (map part_of left)) wanted rows
+      (served : Served) (number : ℕ) (rest : List Part) → IsNext parts next graphs (stations_in served number g) rest
+      → (last : ℕ) × IsReached endpoints graphs block parts later in_run (filters served) number [] [] one_empty (whole served) rest last (from served left) wanted rows
 
-  its_meaning : (group_of g).cut.stations 0 [] ≡ stations_of filters 0 [] whole
-  its_meaning = ap (λ (m : Meaning). m.cut.stations 0 []) (group_is g) ∙ ap (λ (es : List Element). stations_of (conditions_of (map part_of es)) 0 [] (steps_of (map part_of es))) (sym are)
+  module _ (served : Served) (number : ℕ) where
+    its_meaning : (group_in served g).cut.stations number [] ≡ stations_of (filters served) number [] (whole served)
+    its_meaning =
+        ap (λ (m : Meaning). m.cut.stations number []) (group_is served g)
+        ∙ ap (λ (es : List Element). stations_of (conditions_of (map (element_in served) es)) number [] (steps_of (map (element_in served) es))) (sym are)
 
-  its_seeds : (graph : List Triple) → (group_of g).cut.seeds graph 0 one_empty ≡ seeds_of graph 0 one_empty whole
-  its_seeds graph = ap (λ (m : Meaning). m.cut.seeds graph 0 one_empty) (group_is g) ∙ ap (λ (es : List Element). seeds_of graph 0 one_empty (steps_of (map part_of es))) (sym are)
+    its_seeds : (graph : List Triple) → (group_in served g).cut.seeds graph number one_empty ≡ seeds_of graph number one_empty (whole served)
+    its_seeds graph = ap (λ (m : Meaning). m.cut.seeds graph number one_empty) (group_is served g) ∙ ap (λ (es : List Element). seeds_of graph number one_empty (steps_of (map (element_in served) es))) (sym are)
 
-  its_rows : (graph : List Triple) → (group_of g).rows graph 0 ≡ after graph 0 one_empty whole
-  its_rows graph = ap (λ (m : Meaning). m.rows graph 0) (group_is g) ∙ ap (λ (es : List Element). after graph 0 one_empty (steps_of (map part_of es))) (sym are)
+    its_rows : (graph : List Triple) → (group_in served g).rows graph number ≡ after graph number one_empty (whole served)
+    its_rows graph = ap (λ (m : Meaning). m.rows graph number) (group_is served g) ∙ ap (λ (es : List Element). after graph number one_empty (steps_of (map (element_in served) es))) (sym are)
 
-  its_filters : (group_of g).filters ≡ filters
-  its_filters = ap (λ (m : Meaning). m.filters) (group_is g) ∙ ap (λ (es : List Element). conditions_of (map part_of es)) (sym are)
+    its_filters : (group_in served g).filters ≡ filters served
+    its_filters = ap (λ (m : Meaning). m.filters) (group_is served g) ∙ ap (λ (es : List Element). conditions_of (map (element_in served) es)) (sym are)
 
-  sent_whole : (graphs : List (List Triple)) (wanted : List Sent) → AreSentFrom endpoints graphs block filters [] [] one_empty whole wanted → AreStationsSent endpoints graphs block (stations_in g) (seeds_in graphs g) wanted
-  sent_whole graphs wanted h =
-      subst (λ (v : List Station). AreStationsSent endpoints graphs block v (seeds_in graphs g) wanted) (sym its_meaning)
-      (subst (λ (v : List (List Bindings)). AreStationsSent endpoints graphs block (stations_of filters 0 [] whole) v wanted) (sym (its_seeds (union graphs))) h)
-
-  none_sent : (graphs : List (List Triple)) → AreStationsSent endpoints graphs block (stations_in g) (seeds_in graphs g) []
-  none_sent graphs = nothing_sent_of endpoints graphs block (stations_in g) (seeds_in graphs g) (group_is_even g (union graphs) 0 0 one_empty [])
+    sent_whole : (graphs : List (List Triple)) (wanted : List Sent) → AreSentFrom endpoints graphs block (filters served) number [] [] one_empty (whole served) wanted
+        → AreStationsSent endpoints graphs block (stations_in served number g) (seeds_in served number graphs g) wanted
+    sent_whole graphs wanted h =
+        subst (λ (v : List Station). AreStationsSent endpoints graphs block v (seeds_in served number graphs g) wanted) (sym its_meaning)
+        (subst (λ (v : List (List Bindings)). AreStationsSent endpoints graphs block (stations_of (filters served) number [] (whole served)) v wanted) (sym (its_seeds (union graphs))) h)
 
   -- nothing of a group may be sent
   pub none_due : (graphs : List (List Triple)) → GroupDue endpoints block parts next g graphs []
-  none_due graphs = λ rest is. none_sent graphs
+  none_due graphs = λ served number rest is.
+      nothing_sent_of endpoints graphs block (stations_in served number g) (seeds_in served number graphs g) (group_is_even served g (union graphs) number number one_empty [])
 
   -- before its first element
   at_begin : (graphs : List (List Triple)) (rows : List Bindings) → rows ≡ one_empty → SoFar next false all graphs [] rows
-  at_begin graphs rows one = λ rest is.
-      record {
-        names = [];
-        patterns = [];
-        solutions = one_empty;
-        place = record {
-          runs = refl;
-          fewer = fewer_laws.none filters rows one_empty (subst (λ (v : List Bindings). IsPermutation v one_empty) (sym one) (IsPermutation-refl one_empty));
-          next_is = is ∙ ap (λ (v : List Station). all_planned graphs v ++ rest) its_meaning;
-        };
-        goes_on = λ more k. k;
-        comes_out = refl;
-      }
+  at_begin graphs rows one = λ served number rest is. (
+    number,
+    record {
+      names = [];
+      patterns = [];
+      solutions = one_empty;
+      place = record {
+        runs = refl;
+        fewer = fewer_laws.none (filters served) rows one_empty (subst (λ (v : List Bindings). IsPermutation v one_empty) (sym one) (IsPermutation-refl one_empty));
+        next_is = is ∙ ap (λ (v : List Station). all_planned graphs v ++ rest) (its_meaning served number);
+      };
+      goes_on = λ more k. k;
+      comes_out = refl;
+    },
+  )
 
   -- behind one more
   module _ (graphs : List (List Triple)) (e : Element) (others left : List Element) (is_left : left ≡ e ∷ others) (between later : ℕ) (was_run in_run : Bool) (before : List Bindings) (own more : List Sent) where
-    its_place : (rest : List Part) (a : IsReached endpoints graphs block parts between was_run filters [] [] one_empty whole rest (steps_of (map part_of left)) own before)
-        → IsPlace graphs parts between was_run filters a.names a.patterns before a.solutions (with_part (part_of e) (steps_of (map part_of others))) rest
-    its_place rest a = subst (λ (es : List Element). IsPlace graphs parts between was_run filters a.names a.patterns before a.solutions (steps_of (map part_of es)) rest) is_left a.place
+    its_place : (served : Served) (number last : ℕ) (rest : List Part) (a : IsReached endpoints graphs block parts between was_run (filters served) number [] [] one_empty (whole served) rest last (from served left) own before)
+        → IsPlace graphs parts between was_run (filters served) last a.names a.patterns before a.solutions (with_part (element_in served e) (from served others)) rest
+    its_place served number last rest a =
+        subst (λ (es : List Element). IsPlace graphs parts between was_run (filters served) last a.names a.patterns before a.solutions (steps_of (map (element_in served) es)) rest) is_left a.place
 
     at_next : (rows : List Bindings) → SoFar between was_run left graphs own before → ElementGiven endpoints block parts between later was_run in_run e before graphs more rows → SoFar later in_run others graphs (own ++ more) rows
-    at_next rows so given = λ rest is.
-        let a = so rest is in
-        let b = given filters a.names a.patterns a.solutions (steps_of (map part_of others)) rest (its_place rest a) in
-        record {
-          names = b.names;
-          patterns = b.patterns;
-          solutions = b.solutions;
-          place = b.place;
-          goes_on = λ most k.
-              subst (AreSentFrom endpoints graphs block filters [] [] one_empty whole) (sym (append_assoc own more most))
-              (a.goes_on (more ++ most) (subst (λ (es : List Element). AreSentFrom endpoints graphs block filters a.names a.patterns a.solutions (steps_of (map part_of es)) (more ++ most)) (sym is_left) (b.goes_on most k)));
-          comes_out = b.comes_out ∙ ap (λ (es : List Element). after (union graphs) 0 a.solutions (with_run a.patterns (steps_of (map part_of es)))) (sym is_left) ∙ a.comes_out;
-        }
+    at_next rows so given = λ served number rest is.
+        let here = so served number rest is in
+        let m = here.0 in
+        let a = here.1 in
+        let b = given served m (filters served) a.names a.patterns a.solutions (from served others) rest (its_place served number m rest a) in (
+          number_behind m (element_in served e),
+          record {
+            names = b.names;
+            patterns = b.patterns;
+            solutions = b.solutions;
+            place = b.place;
+            goes_on = λ most k.
+                subst (AreSentFrom endpoints graphs block (filters served) number [] [] one_empty (whole served)) (sym (append_assoc own more most))
+                (a.goes_on (more ++ most) (subst (λ (es : List Element). AreSentFrom endpoints graphs block (filters served) m a.names a.patterns a.solutions (steps_of (map (element_in served) es)) (more ++ most)) (sym is_left) (b.goes_on most k)));
+            comes_out = b.comes_out ∙ ap (λ (es : List Element). after (union graphs) m a.solutions (with_run a.patterns (steps_of (map (element_in served) es)))) (sym is_left) ∙ a.comes_out;
+          },
+        )
 
     due_next : SoFar between was_run left graphs own before → ElementDue endpoints block parts between was_run e before graphs more → GroupDue endpoints block parts next g graphs (own ++ more)
-    due_next so due = λ rest is.
-        let a = so rest is in
-        sent_whole graphs (own ++ more)
+    due_next so due = λ served number rest is.
+        let here = so served number rest is in
+        let m = here.0 in
+        let a = here.1 in
+        sent_whole served number graphs (own ++ more)
         (a.goes_on more
-        (subst (λ (es : List Element). AreSentFrom endpoints graphs block filters a.names a.patterns a.solutions (steps_of (map part_of es)) more) (sym is_left)
-        (due filters a.names a.patterns a.solutions (steps_of (map part_of others)) rest (elements_are_even others []) (its_place rest a))))
+        (subst (λ (es : List Element). AreSentFrom endpoints graphs block (filters served) m a.names a.patterns a.solutions (steps_of (map (element_in served) es)) more) (sym is_left)
+        (due served m (filters served) a.names a.patterns a.solutions (from served others) rest (elements_are_even served others []) (its_place served number m rest a))))
 
   -- behind the last
   module _ (graphs : List (List Triple)) (left : List Element) (none_left : left ≡ []) (between later : ℕ) (in_run : Bool) (before : List Bindings) (own more : List Sent) where
-    module _ (rest : List Part) (a : IsReached endpoints graphs block parts between in_run filters [] [] one_empty whole rest (steps_of (map part_of left)) own before) where
-      last_next : IsNext parts between graphs (run_stations filters a.names a.patterns) rest
+    module _ (served : Served) (number last : ℕ) (rest : List Part) (a : IsReached endpoints graphs block parts between in_run (filters served) number [] [] one_empty (whole served) rest last (from served left) own before) where
+      last_next : IsNext parts between graphs (run_stations (filters served) a.names a.patterns) rest
       last_next =
           a.place.next_is
-          ∙ ap (λ (es : List Element). all_planned graphs (stations_of filters 0 a.names (with_run a.patterns (steps_of (map part_of es)))) ++ rest) none_left
-          ∙ ap (λ (v : List Station). all_planned graphs v ++ rest) (stations_alone filters a.names a.patterns)
+          ∙ ap (λ (es : List Element). all_planned graphs (stations_of (filters served) last a.names (with_run a.patterns (steps_of (map (element_in served) es)))) ++ rest) none_left
+          ∙ ap (λ (v : List Station). all_planned graphs v ++ rest) (stations_alone last (filters served) a.names a.patterns)
 
-      last_sent : AreStationsSent endpoints graphs block (run_stations filters a.names a.patterns) (run_seeds a.solutions a.patterns) more → AreStationsSent endpoints graphs block (stations_in g) (seeds_in graphs g) (own ++ more)
+      last_sent : AreStationsSent endpoints graphs block (run_stations (filters served) a.names a.patterns) (run_seeds a.solutions a.patterns) more
+          → AreStationsSent endpoints graphs block (stations_in served number g) (seeds_in served number graphs g) (own ++ more)
       last_sent k =
-          sent_whole graphs (own ++ more)
+          sent_whole served number graphs (own ++ more)
           (a.goes_on more
-          (subst (λ (es : List Element). AreSentFrom endpoints graphs block filters a.names a.patterns a.solutions (steps_of (map part_of es)) more) (sym none_left)
-          (subst (λ (v : List Station). AreStationsSent endpoints graphs block v (seeds_of (union graphs) 0 a.solutions (with_run a.patterns [])) more) (sym (stations_alone filters a.names a.patterns))
-          (subst (λ (v : List (List Bindings)). AreStationsSent endpoints graphs block (run_stations filters a.names a.patterns) v more) (sym (seeds_alone (union graphs) a.solutions a.patterns)) k))))
+          (subst (λ (es : List Element). AreSentFrom endpoints graphs block (filters served) last a.names a.patterns a.solutions (steps_of (map (element_in served) es)) more) (sym none_left)
+          (subst (λ (v : List Station). AreStationsSent endpoints graphs block v (seeds_of (union graphs) last a.solutions (with_run a.patterns [])) more) (sym (stations_alone last (filters served) a.names a.patterns))
+          (subst (λ (v : List (List Bindings)). AreStationsSent endpoints graphs block (run_stations (filters served) a.names a.patterns) v more) (sym (seeds_alone last (union graphs) a.solutions a.patterns)) k))))
 
-      last_rows : run_joined (union graphs) a.solutions a.patterns ≡ (group_of g).rows (union graphs) 0
+      last_rows : run_joined (union graphs) a.solutions a.patterns ≡ (group_in served g).rows (union graphs) number
       last_rows =
-          sym (after_alone (union graphs) a.solutions a.patterns)
-          ∙ ap (λ (es : List Element). after (union graphs) 0 a.solutions (with_run a.patterns (steps_of (map part_of es)))) (sym none_left)
+          sym (after_alone last (union graphs) a.solutions a.patterns)
+          ∙ ap (λ (es : List Element). after (union graphs) last a.solutions (with_run a.patterns (steps_of (map (element_in served) es)))) (sym none_left)
           ∙ a.comes_out
-          ∙ sym (its_rows (union graphs))
+          ∙ sym (its_rows served number (union graphs))
 
     at_end : (rows : List Bindings) → SoFar between in_run left graphs own before → EndGiven endpoints block parts between later in_run before graphs more rows → UnfilteredGiven endpoints block parts next later g graphs (own ++ more) rows
-    at_end rows so given = λ rest is.
-        let a = so rest is in
-        let b = given a.patterns filters a.names a.solutions rest a.place.runs a.place.fewer (last_next rest a) in (
-          record { behind = b.0.behind; sent = last_sent rest a b.0.sent },
-          subst (λ (v : List Expr). AreFewer v rows ((group_of g).rows (union graphs) 0)) (sym its_filters) (subst (AreFewer filters rows) (last_rows rest a) b.1),
+    at_end rows so given = λ served number rest is.
+        let here = so served number rest is in
+        let m = here.0 in
+        let a = here.1 in
+        let b = given a.patterns (filters served) a.names a.solutions rest a.place.runs a.place.fewer (last_next served number m rest a) in (
+          record { behind = b.0.behind; sent = last_sent served number m rest a b.0.sent },
+          subst (λ (v : List Expr). AreFewer v rows ((group_in served g).rows (union graphs) number)) (sym (its_filters served number)) (subst (AreFewer (filters served) rows) (last_rows served number m rest a) b.1),
         )
 
     due_end : SoFar between in_run left graphs own before → EndDue endpoints block parts between in_run before graphs more → GroupDue endpoints block parts next g graphs (own ++ more)
-    due_end so due = λ rest is. let a = so rest is in last_sent rest a (due a.patterns filters a.names a.solutions rest a.place.runs a.place.fewer (last_next rest a))
+    due_end so due = λ served number rest is.
+        let here = so served number rest is in
+        let m = here.0 in
+        let a = here.1 in
+        last_sent served number m rest a (due a.patterns (filters served) a.names a.solutions rest a.place.runs a.place.fewer (last_next served number m rest a))
 
   -- ---- what was asked for
 

@@ -1,5 +1,5 @@
 -- The rows of groups, asked for over wires by the plan of their query.
-use Rattle.std.specs.Prelude.{◌≡◌, ◌<◌, ℕ, Bool, true, false, List, [], ◌∷◌, ◌++◌, map, drop, length, All, IsPermutation, Result, Ok, Err}
+use Rattle.std.specs.Prelude.{◌≡◌, ◌<◌, ◌+◌, ℕ, Bool, true, false, List, [], ◌∷◌, ◌++◌, map, drop, length, All, IsPermutation, Result, Ok, Err}
 use Rattle.std.specs.List.{flat_map, list_any}
 use Rattle.std.specs.declared.vec.Vec.{Vec}
 use Rattle.std.specs.declared.alloc.Global.{Global}
@@ -9,7 +9,7 @@ use Rattle.fx_outside.specs.Endpoints.{EndpointParts}
 use Rattle.fx_algebra.specs.Answers.{is_empty_list}
 use Rattle.fx_algebra.specs.BasicGraphPatterns.{bgp}
 use Rattle.fx_algebra.specs.Graphs.{union}
-use Rattle.fx_algebra.specs.Groups.{Part as GroupPart, pattern, condition, operator, Step, with_pattern, with_part, stations_of, seeds_of, after, group_rows, alternatives, alternative_seeds, alternative_stations, one_empty}
+use Rattle.fx_algebra.specs.Groups.{Meaning, Part as GroupPart, pattern, condition, operator, Step, with_pattern, with_part, stations_of, seeds_of, after, group_rows, alternatives, alternative_seeds, alternative_stations, one_empty, element_meaning, group_meaning, meaning}
 use Rattle.fx_algebra.specs.Operators.{join}
 use Rattle.fx_algebra.specs.Scopes.{once}
 use Rattle.fx_algebra.specs.Solutions.{Bindings}
@@ -17,7 +17,7 @@ use Rattle.fx_algebra.specs.Stations.{Station}
 use Rattle.fx_algebra.specs.Stations as station
 use Rattle.fx_algebra.specs.Units.{sources}
 use Rattle.fx_algebra.specs.declared.expressions.Expr.{Expr}
-use Rattle.fx_algebra.specs.declared.queries.Element.{Element}
+use Rattle.fx_algebra.specs.declared.queries.Element.{Element, fold-Element}
 use Rattle.fx_algebra.specs.declared.queries.Group.{Group}
 use Rattle.fx_algebra.specs.declared.units.Row.{Row}
 use Rattle.fx_algebra.specs.declared.units.Unit as unit
@@ -30,7 +30,7 @@ use Rattle.fx_steps.specs.Fewer.{AreFewer}
 use Rattle.fx_steps.specs.Steps.{numbered, stepped}
 use Rattle.fx_traffic.specs.Sent.{Sent}
 use Rattle.fx_traffic.specs.Traffic.{AreStationsSent}
-use Rattle.fx_engine.specs.SectionSteps.{group_of, part_of, part_patterns}
+use Rattle.fx_engine.specs.SectionSteps.{part_of, part_patterns}
 use Rattle.fx_engine.specs.Sections.{part_with, section_of}
 
 -- ---- the plan
@@ -150,73 +150,99 @@ EndDue endpoints block parts next in_run before graphs wanted =
 
 -- ---- groups
 
--- the stations of a group that stands by itself, and over graphs the rows that enter them
-abbrev pub stations_in : Group → List Station
-stations_in g = (group_of g).cut.stations 0 []
+-- the graph that each IRI has for SERVICE, and the numbers of the occurrences that are down
+pub record Served : Type 0 where
+  pub graphs : List ℕ → List Triple
+  pub down : List ℕ
 
-abbrev pub seeds_in : List (List Triple) → Group → List (List Bindings)
-seeds_in graphs g = (group_of g).cut.seeds (union graphs) 0 one_empty
+-- what a group and an element are to the group around them, where SERVICE is served so
+abbrev pub group_in : Served → Group → Meaning
+group_in served = meaning served.graphs served.down
+
+abbrev pub element_in : Served → Element → GroupPart
+element_in served = fold-Element GroupPart Meaning (element_meaning served.graphs served.down) group_meaning
+
+-- the stations of a group that stands by itself, and over graphs the rows that enter them; its first SERVICE has the number
+abbrev pub stations_in : Served → ℕ → Group → List Station
+stations_in served number g = (group_in served g).cut.stations number []
+
+abbrev pub seeds_in : Served → ℕ → List (List Triple) → Group → List (List Bindings)
+seeds_in served number graphs g = (group_in served g).cut.seeds (union graphs) number one_empty
 
 abbrev pub GroupDue : List EndpointParts → ℕ → List Part → ℕ → Group → List (List Triple) → List Sent → Type 0
 GroupDue endpoints block parts next g graphs wanted =
-    (rest : List Part) → IsNext parts next graphs (stations_in g) rest → AreStationsSent endpoints graphs block (stations_in g) (seeds_in graphs g) wanted
+    (served : Served) (number : ℕ) (rest : List Part)
+    → IsNext parts next graphs (stations_in served number g) rest
+    → AreStationsSent endpoints graphs block (stations_in served number g) (seeds_in served number graphs g) wanted
 
--- a group was asked for: its rows, in some order
+-- a group was asked for: its rows, in some order, however SERVICE is served, and whatever number the first one has
 abbrev pub GroupGiven : List EndpointParts → ℕ → List Part → ℕ → ℕ → Group → List (List Triple) → List Sent → List Bindings → Type 0
 GroupGiven endpoints block parts next later g graphs wanted rows =
-    (rest : List Part) → IsNext parts next graphs (stations_in g) rest
-    → AreAskedFor endpoints graphs block parts later rest (stations_in g) (seeds_in graphs g) wanted × IsPermutation rows (group_rows (group_of g) (union graphs) 0)
+    (served : Served) (number : ℕ) (rest : List Part)
+    → IsNext parts next graphs (stations_in served number g) rest
+    → AreAskedFor endpoints graphs block parts later rest (stations_in served number g) (seeds_in served number graphs g) wanted
+    × IsPermutation rows (group_rows (group_in served g) (union graphs) number)
 
 -- its rows before its filters, less some that these refuse
 abbrev pub UnfilteredGiven : List EndpointParts → ℕ → List Part → ℕ → ℕ → Group → List (List Triple) → List Sent → List Bindings → Type 0
 UnfilteredGiven endpoints block parts next later g graphs wanted rows =
-    (rest : List Part) → IsNext parts next graphs (stations_in g) rest
-    → AreAskedFor endpoints graphs block parts later rest (stations_in g) (seeds_in graphs g) wanted × AreFewer (group_of g).filters rows ((group_of g).rows (union graphs) 0)
+    (served : Served) (number : ℕ) (rest : List Part)
+    → IsNext parts next graphs (stations_in served number g) rest
+    → AreAskedFor endpoints graphs block parts later rest (stations_in served number g) (seeds_in served number graphs g) wanted
+    × AreFewer (group_in served g).filters rows ((group_in served g).rows (union graphs) number)
 
 -- groups were asked for, one after the other
 abbrev pub AlternativesDue : List EndpointParts → ℕ → List Part → ℕ → List Group → List (List Triple) → List Sent → Type 0
 AlternativesDue endpoints block parts next gs graphs wanted =
-    (rest : List Part) → IsNext parts next graphs (alternative_stations (map group_of gs) 0) rest
-    → AreStationsSent endpoints graphs block (alternative_stations (map group_of gs) 0) (alternative_seeds (map group_of gs) (union graphs) 0) wanted
+    (served : Served) (number : ℕ) (rest : List Part)
+    → IsNext parts next graphs (alternative_stations (map (group_in served) gs) number) rest
+    → AreStationsSent endpoints graphs block (alternative_stations (map (group_in served) gs) number) (alternative_seeds (map (group_in served) gs) (union graphs) number) wanted
 
 abbrev pub AlternativesGiven : List EndpointParts → ℕ → List Part → ℕ → ℕ → List Group → List (List Triple) → List Sent → List Bindings → Type 0
 AlternativesGiven endpoints block parts next later gs graphs wanted rows =
-    (rest : List Part) → IsNext parts next graphs (alternative_stations (map group_of gs) 0) rest
-    → AreAskedFor endpoints graphs block parts later rest (alternative_stations (map group_of gs) 0) (alternative_seeds (map group_of gs) (union graphs) 0) wanted
-    × IsPermutation rows (alternatives (map group_of gs) (union graphs) 0)
+    (served : Served) (number : ℕ) (rest : List Part)
+    → IsNext parts next graphs (alternative_stations (map (group_in served) gs) number) rest
+    → AreAskedFor endpoints graphs block parts later rest (alternative_stations (map (group_in served) gs) number) (alternative_seeds (map (group_in served) gs) (union graphs) number) wanted
+    × IsPermutation rows (alternatives (map (group_in served) gs) (union graphs) number)
 
 -- ---- an operator
 
 -- what an operator of a group has for requests, and the rows behind it; a pattern and a filter are none
-abbrev pub operator_stations : GroupPart → List (List ℕ) → List Station
-operator_stations (pattern p) known = []
-operator_stations (condition e) known = []
-operator_stations (operator o) known = o.cut.stations 0 known
+abbrev pub operator_stations : ℕ → GroupPart → List (List ℕ) → List Station
+operator_stations number (pattern p) known = []
+operator_stations number (condition e) known = []
+operator_stations number (operator o) known = o.cut.stations number known
 
-abbrev pub operator_seeds : GroupPart → List Triple → List Bindings → List (List Bindings)
-operator_seeds (pattern p) graph rows = []
-operator_seeds (condition e) graph rows = []
-operator_seeds (operator o) graph rows = o.cut.seeds graph 0 rows
+abbrev pub operator_seeds : ℕ → GroupPart → List Triple → List Bindings → List (List Bindings)
+operator_seeds number (pattern p) graph rows = []
+operator_seeds number (condition e) graph rows = []
+operator_seeds number (operator o) graph rows = o.cut.seeds graph number rows
 
-abbrev pub operator_rows : GroupPart → List Triple → List Bindings → List Bindings
-operator_rows (pattern p) graph rows = rows
-operator_rows (condition e) graph rows = rows
-operator_rows (operator o) graph rows = o.rows graph 0 rows
+abbrev pub operator_rows : ℕ → GroupPart → List Triple → List Bindings → List Bindings
+operator_rows number (pattern p) graph rows = rows
+operator_rows number (condition e) graph rows = rows
+operator_rows number (operator o) graph rows = o.rows graph number rows
+
+-- the number of the next SERVICE behind it
+abbrev pub number_behind : ℕ → GroupPart → ℕ
+number_behind number (pattern p) = number
+number_behind number (condition e) = number
+number_behind number (operator o) = number + o.services
 
 abbrev pub OperatorDue : List EndpointParts → ℕ → List Part → ℕ → Element → List Bindings → List (List Triple) → List Sent → Type 0
 OperatorDue endpoints block parts next e before graphs wanted =
-    (filters : List Expr) (known : List (List ℕ)) (defined : List Bindings) (rest : List Part)
+    (served : Served) (number : ℕ) (filters : List Expr) (known : List (List ℕ)) (defined : List Bindings) (rest : List Part)
     → AreFewer filters before defined
-    → IsNext parts next graphs (operator_stations (part_of e) known) rest
-    → AreStationsSent endpoints graphs block (operator_stations (part_of e) known) (operator_seeds (part_of e) (union graphs) defined) wanted
+    → IsNext parts next graphs (operator_stations number (element_in served e) known) rest
+    → AreStationsSent endpoints graphs block (operator_stations number (element_in served e) known) (operator_seeds number (element_in served e) (union graphs) defined) wanted
 
 abbrev pub OperatorGiven : List EndpointParts → ℕ → List Part → ℕ → ℕ → Element → List Bindings → List (List Triple) → List Sent → List Bindings → Type 0
 OperatorGiven endpoints block parts next later e before graphs wanted rows =
-    (filters : List Expr) (known : List (List ℕ)) (defined : List Bindings) (rest : List Part)
+    (served : Served) (number : ℕ) (filters : List Expr) (known : List (List ℕ)) (defined : List Bindings) (rest : List Part)
     → AreFewer filters before defined
-    → IsNext parts next graphs (operator_stations (part_of e) known) rest
-    → AreAskedFor endpoints graphs block parts later rest (operator_stations (part_of e) known) (operator_seeds (part_of e) (union graphs) defined) wanted
-    × AreFewer filters rows (operator_rows (part_of e) (union graphs) defined)
+    → IsNext parts next graphs (operator_stations number (element_in served e) known) rest
+    → AreAskedFor endpoints graphs block parts later rest (operator_stations number (element_in served e) known) (operator_seeds number (element_in served e) (union graphs) defined) wanted
+    × AreFewer filters rows (operator_rows number (element_in served e) (union graphs) defined)
 
 -- ---- the elements of a group, one after the other
 
@@ -229,37 +255,37 @@ with_run (p ∷ ps) steps = with_pattern p (with_run ps steps)
 abbrev pub AreEven : List Step → Type 0
 AreEven steps = (filters : List Expr) (graph : List Triple) (number other : ℕ) (rows : List Bindings) (known : List (List ℕ)) → length (seeds_of graph number rows steps) ≡ length (stations_of filters other known steps)
 
--- A place in a group: the patterns of the run that hasn't ended there, the names before that and the rows by definition, of which those at hand
--- are some. Behind it the plan goes on with the stations of the steps.
-pub record IsPlace (graphs : List (List Triple)) (parts : List Part) (next : ℕ) (in_run : Bool) (filters : List Expr) (known : List (List ℕ)) (run : List Pattern) (before defined : List Bindings) (steps : List Step) (rest : List Part) : Type 0 where
+-- A place in a group: the number of the next SERVICE, the patterns of the run that hasn't ended there, the names before that and the rows by
+-- definition, of which those at hand are some. Behind it the plan goes on with the stations of the steps.
+pub record IsPlace (graphs : List (List Triple)) (parts : List Part) (next : ℕ) (in_run : Bool) (filters : List Expr) (number : ℕ) (known : List (List ℕ)) (run : List Pattern) (before defined : List Bindings) (steps : List Step) (rest : List Part) : Type 0 where
   pub runs : in_run ≡ is_run run
   pub fewer : AreFewer filters before defined
-  pub next_is : IsNext parts next graphs (stations_of filters 0 known (with_run run steps)) rest
+  pub next_is : IsNext parts next graphs (stations_of filters number known (with_run run steps)) rest
 
 -- what is sent from a place on
-abbrev pub AreSentFrom : List EndpointParts → List (List Triple) → ℕ → List Expr → List (List ℕ) → List Pattern → List Bindings → List Step → List Sent → Type 0
-AreSentFrom endpoints graphs block filters known run defined steps wanted =
-    AreStationsSent endpoints graphs block (stations_of filters 0 known (with_run run steps)) (seeds_of (union graphs) 0 defined (with_run run steps)) wanted
+abbrev pub AreSentFrom : List EndpointParts → List (List Triple) → ℕ → List Expr → ℕ → List (List ℕ) → List Pattern → List Bindings → List Step → List Sent → Type 0
+AreSentFrom endpoints graphs block filters number known run defined steps wanted =
+    AreStationsSent endpoints graphs block (stations_of filters number known (with_run run steps)) (seeds_of (union graphs) number defined (with_run run steps)) wanted
 
--- a place was reached from an earlier one
-pub record IsReached (endpoints : List EndpointParts) (graphs : List (List Triple)) (block : ℕ) (parts : List Part) (later : ℕ) (in_run : Bool) (filters : List Expr) (known : List (List ℕ)) (run : List Pattern) (defined : List Bindings) (steps : List Step) (rest : List Part) (behind : List Step) (wanted : List Sent) (rows : List Bindings) : Type 0 where
+-- a place, where the next SERVICE has the last number, was reached from an earlier one
+pub record IsReached (endpoints : List EndpointParts) (graphs : List (List Triple)) (block : ℕ) (parts : List Part) (later : ℕ) (in_run : Bool) (filters : List Expr) (number : ℕ) (known : List (List ℕ)) (run : List Pattern) (defined : List Bindings) (steps : List Step) (rest : List Part) (last : ℕ) (behind : List Step) (wanted : List Sent) (rows : List Bindings) : Type 0 where
   pub names : List (List ℕ)
   pub patterns : List Pattern
   pub solutions : List Bindings
-  pub place : IsPlace graphs parts later in_run filters names patterns rows solutions behind rest
-  pub goes_on : (more : List Sent) → AreSentFrom endpoints graphs block filters names patterns solutions behind more → AreSentFrom endpoints graphs block filters known run defined steps (wanted ++ more)
-  pub comes_out : after (union graphs) 0 solutions (with_run patterns behind) ≡ after (union graphs) 0 defined (with_run run steps)
+  pub place : IsPlace graphs parts later in_run filters last names patterns rows solutions behind rest
+  pub goes_on : (more : List Sent) → AreSentFrom endpoints graphs block filters last names patterns solutions behind more → AreSentFrom endpoints graphs block filters number known run defined steps (wanted ++ more)
+  pub comes_out : after (union graphs) last solutions (with_run patterns behind) ≡ after (union graphs) number defined (with_run run steps)
 
 -- an element was gone through
 abbrev pub ElementGiven : List EndpointParts → ℕ → List Part → ℕ → ℕ → Bool → Bool → Element → List Bindings → List (List Triple) → List Sent → List Bindings → Type 0
 ElementGiven endpoints block parts next later was_run in_run e before graphs wanted rows =
-    (filters : List Expr) (known : List (List ℕ)) (run : List Pattern) (defined : List Bindings) (steps : List Step) (rest : List Part)
-    → IsPlace graphs parts next was_run filters known run before defined (with_part (part_of e) steps) rest
-    → IsReached endpoints graphs block parts later in_run filters known run defined (with_part (part_of e) steps) rest steps wanted rows
+    (served : Served) (number : ℕ) (filters : List Expr) (known : List (List ℕ)) (run : List Pattern) (defined : List Bindings) (steps : List Step) (rest : List Part)
+    → IsPlace graphs parts next was_run filters number known run before defined (with_part (element_in served e) steps) rest
+    → IsReached endpoints graphs block parts later in_run filters number known run defined (with_part (element_in served e) steps) rest (number_behind number (element_in served e)) steps wanted rows
 
 abbrev pub ElementDue : List EndpointParts → ℕ → List Part → ℕ → Bool → Element → List Bindings → List (List Triple) → List Sent → Type 0
 ElementDue endpoints block parts next was_run e before graphs wanted =
-    (filters : List Expr) (known : List (List ℕ)) (run : List Pattern) (defined : List Bindings) (steps : List Step) (rest : List Part)
+    (served : Served) (number : ℕ) (filters : List Expr) (known : List (List ℕ)) (run : List Pattern) (defined : List Bindings) (steps : List Step) (rest : List Part)
     → AreEven steps
-    → IsPlace graphs parts next was_run filters known run before defined (with_part (part_of e) steps) rest
-    → AreSentFrom endpoints graphs block filters known run defined (with_part (part_of e) steps) wanted
+    → IsPlace graphs parts next was_run filters number known run before defined (with_part (element_in served e) steps) rest
+    → AreSentFrom endpoints graphs block filters number known run defined (with_part (element_in served e) steps) wanted

@@ -11,9 +11,11 @@ use Rattle.fx_engine.specs.GroupsAsked.{AlternativesDue, AlternativesGiven, Elem
 use Rattle.fx_engine.specs.SectionSteps.{group_of, part_of}
 use Rattle.fx_engine.proofs.AlternativesLemmas.{groups_begun, groups_ended, groups_lost, groups_more, groups_refused, none_at, none_in}
 use Rattle.fx_engine.proofs.AskedLemmas.{all_tell, asked_behind, given_unasked, made_of, made_unasked, refused_as, unasked}
-use Rattle.fx_engine.proofs.ElementLemmas.{due_bind, due_minus, due_optional, due_union, due_values, group_is, is_operator, of_bind, of_kept, of_minus, of_optional, of_union, of_values, part_triple, part_filter}
+use Rattle.fx_engine.proofs.ElementLemmas.{due_bind, due_minus, due_optional, due_union, due_values, of_bind, of_kept, of_minus, of_optional, of_union, of_values, part_triple, part_filter}
+use Rattle.fx_engine.proofs.AnsweredLemmas.{alone_served}
 use Rattle.fx_engine.proofs.FilterLemmas.{group_filtered}
 use Rattle.fx_engine.proofs.PlaceLemmas.{due_of_operator, due_of_run, of_condition, of_operator, of_pattern}
+use Rattle.fx_engine.proofs.SectionLemmas.{meaning_is}
 use Rattle.fx_engine.proofs.WalkLemmas.{from_element, none_due, so_far_begun, so_far_ended, so_far_more, so_far_refused}
 use Rattle.fx_engine.proofs.groups.+rows.Goals as goal
 
@@ -30,35 +32,35 @@ after_element-returns-then-keeps_run g t c =
 pub after_element-returns-in-Err : goal.after_element-returns-in-Err
 after_element-returns-in-Err g t c =
     let e = c.args.element.now in
-    let o = is_operator (part_of e) (sym c.keeps_run.ensures ∙ c.if-keeps_run.false) in
+    let ends : keeps_run (part_of e) ≡ false = sym c.keeps_run.ensures ∙ c.if-keeps_run.false in
     refused_as g.W.Wire.tells_log g.W.Wire.counts_alone c.args.endpoints.now (units_in c.args.plan.now) c.args.block (map g.W.Wire.seen c.args.wires.now) (map g.W.Wire.seen c.end_run.new.wires) (EndGiven c.args.endpoints.now c.args.block c.args.plan.now c.args.next.now c.end_run.new.next c.args.in_run.now c.args.before.items) (EndDue c.args.endpoints.now c.args.block c.args.plan.now c.args.next.now c.args.in_run.now c.args.before.items)
     (ElementGiven c.args.endpoints.now c.args.block c.args.plan.now c.args.next.now c.end_run.new.next c.args.in_run.now c.args.in_run.now e c.args.before.items) (ElementDue c.args.endpoints.now c.args.block c.args.plan.now c.args.next.now c.args.in_run.now e c.args.before.items) c.in-Err.error
-    (λ graphs wanted due. due_of_run c.args.endpoints.now c.args.block c.args.plan.now c.args.next.now c.args.in_run.now c.args.before.items graphs e o.0 o.1 c.requires.alone wanted due) c.in-Err.ensures
+    (λ graphs wanted due. due_of_run c.args.endpoints.now c.args.block c.args.plan.now c.args.next.now c.args.in_run.now c.args.before.items graphs e ends wanted due) c.in-Err.ensures
 
 pub after_element-returns-in-Ok : goal.after_element-returns-in-Ok
 after_element-returns-in-Ok g t c =
     let e = c.args.element.now in
     let see = g.W.Wire.seen in
-    let o = is_operator (part_of e) (sym c.keeps_run.ensures ∙ c.if-keeps_run.false) in
+    let ends : keeps_run (part_of e) ≡ false = sym c.keeps_run.ensures ∙ c.if-keeps_run.false in
     let rows = c.in-Ok.rows.items in
     let between = c.end_run.new.next in
     let later = c.after_operator.new.next in
     asked_behind g.W.Wire.tells_log g.W.Wire.counts_alone c.args.endpoints.now (units_in c.args.plan.now) c.args.block (map see c.args.wires.now) (map see c.end_run.new.wires) (map see c.after_operator.new.wires) (all_tell see g.W.Wire.tells_log (g.met.W.Wire g.world.𝓛 g.world.𝓜 g.world.𝓡 ((λ s x. x), (λ x. x), (λ x. x), λ x. x)).told c.args.wires.now) (all_tell see g.W.Wire.tells_log (g.met.W.Wire g.world.𝓛 g.world.𝓜 g.world.𝓡 ((λ s x. x), (λ x. x), (λ x. x), λ x. x)).told c.end_run.new.wires)
     (EndGiven c.args.endpoints.now c.args.block c.args.plan.now c.args.next.now between c.args.in_run.now c.args.before.items) (EndDue c.args.endpoints.now c.args.block c.args.plan.now c.args.next.now c.args.in_run.now c.args.before.items) (OperatorGiven c.args.endpoints.now c.args.block c.args.plan.now between later e rows) (OperatorDue c.args.endpoints.now c.args.block c.args.plan.now between e rows)
     (ElementGiven c.args.endpoints.now c.args.block c.args.plan.now c.args.next.now later c.args.in_run.now false e c.args.before.items) (ElementDue c.args.endpoints.now c.args.block c.args.plan.now c.args.next.now c.args.in_run.now e c.args.before.items) rows (solutions_in c.after_operator.result)
-    (λ graphs own more found ended asked. of_operator c.args.endpoints.now c.args.block c.args.plan.now c.args.next.now c.args.in_run.now c.args.before.items graphs e o.0 o.1 c.requires.alone between later rows found own more ended asked)
-    (λ graphs own more ended due. due_of_operator c.args.endpoints.now c.args.block c.args.plan.now c.args.next.now c.args.in_run.now c.args.before.items graphs e o.0 o.1 c.requires.alone between rows own more ended due)
+    (λ graphs own more found ended asked. of_operator c.args.endpoints.now c.args.block c.args.plan.now c.args.next.now c.args.in_run.now c.args.before.items graphs e ends between later rows found own more ended asked)
+    (λ graphs own more ended due. due_of_operator c.args.endpoints.now c.args.block c.args.plan.now c.args.next.now c.args.in_run.now c.args.before.items graphs e ends between rows own more ended due)
     c.in-Ok.ensures c.after_operator.ensures
 
 pub after_operator-returns-in-Triple : goal.after_operator-returns-in-Triple
 after_operator-returns-in-Triple g t c =
     given_unasked g.W.Wire.tells_log g.W.Wire.counts_alone c.args.endpoints.now (units_in c.args.plan.now) c.args.block (OperatorGiven c.args.endpoints.now c.args.block c.args.plan.now c.args.next.now c.args.next.now c.args.element.now c.args.before.items) (OperatorDue c.args.endpoints.now c.args.block c.args.plan.now c.args.next.now c.args.element.now c.args.before.items) (map g.W.Wire.seen c.args.wires.now) c.args.before.items
-    (λ graphs. of_kept c.args.endpoints.now c.args.block c.args.plan.now c.args.next.now graphs c.args.before.items c.args.element.now (ap (λ (e : Element). keeps_run (part_of e)) c.in-Triple.is ∙ ap keeps_run (part_triple c.in-Triple.field-0)))
+    (λ graphs. of_kept c.args.endpoints.now c.args.block c.args.plan.now c.args.next.now graphs c.args.before.items c.args.element.now (ap (λ (e : Element). keeps_run (part_of e)) c.in-Triple.is ∙ ap keeps_run (part_triple alone_served c.in-Triple.field-0)))
 
 pub after_operator-returns-in-Filter : goal.after_operator-returns-in-Filter
 after_operator-returns-in-Filter g t c =
     given_unasked g.W.Wire.tells_log g.W.Wire.counts_alone c.args.endpoints.now (units_in c.args.plan.now) c.args.block (OperatorGiven c.args.endpoints.now c.args.block c.args.plan.now c.args.next.now c.args.next.now c.args.element.now c.args.before.items) (OperatorDue c.args.endpoints.now c.args.block c.args.plan.now c.args.next.now c.args.element.now c.args.before.items) (map g.W.Wire.seen c.args.wires.now) c.args.before.items
-    (λ graphs. of_kept c.args.endpoints.now c.args.block c.args.plan.now c.args.next.now graphs c.args.before.items c.args.element.now (ap (λ (e : Element). keeps_run (part_of e)) c.in-Filter.is ∙ ap keeps_run (part_filter c.in-Filter.field-0)))
+    (λ graphs. of_kept c.args.endpoints.now c.args.block c.args.plan.now c.args.next.now graphs c.args.before.items c.args.element.now (ap (λ (e : Element). keeps_run (part_of e)) c.in-Filter.is ∙ ap keeps_run (part_filter alone_served c.in-Filter.field-0)))
 
 pub after_operator-returns-in-Err : goal.after_operator-returns-in-Err
 after_operator-returns-in-Err g t c =
@@ -84,8 +86,20 @@ after_operator-returns-in-Union g t c =
     (made_of g.W.Wire.tells_log g.W.Wire.counts_alone c.args.endpoints.now (units_in c.args.plan.now) c.args.block (AlternativesGiven c.args.endpoints.now c.args.block c.args.plan.now c.args.next.now later gs) (AlternativesDue c.args.endpoints.now c.args.block c.args.plan.now c.args.next.now gs) (OperatorGiven c.args.endpoints.now c.args.block c.args.plan.now c.args.next.now later (Union gs) before) (OperatorDue c.args.endpoints.now c.args.block c.args.plan.now c.args.next.now (Union gs) before) (λ rows. IsPermutation (join before found) rows) s u found c.joined.result
     (subst (λ (v : List Bindings). IfOk c.joined.result (λ rows. IsPermutation (join v found) rows.items)) c.as_slice-in-Ok.ensures.value c.joined.ensures.given) c.joined.ensures.memory
     (λ graphs wanted rows given p. of_union c.args.endpoints.now c.args.block c.args.plan.now c.args.next.now later graphs before rows wanted gs found given p)
-    (λ graphs wanted given. due_union c.args.endpoints.now c.args.block c.args.plan.now c.args.next.now graphs before wanted gs (λ rest is. (given rest is).0.sent))
+    (λ graphs wanted given. due_union c.args.endpoints.now c.args.block c.args.plan.now c.args.next.now graphs before wanted gs (λ served number rest is. (given served number rest is).0.sent))
     (subst (λ (v : List Group). Asked {X = List Bindings} g.W.Wire.tells_log g.W.Wire.counts_alone s u c.args.endpoints.now (units_in c.args.plan.now) c.args.block (AlternativesGiven c.args.endpoints.now c.args.block c.args.plan.now c.args.next.now later v) (AlternativesDue c.args.endpoints.now c.args.block c.args.plan.now c.args.next.now v) (Ok found)) c.as_slice.ensures c.in-Ok.ensures))
+
+pub after_operator-returns-in-Err-group_rows : goal.after_operator-returns-in-Err-group_rows
+after_operator-returns-in-Err-group_rows g t c =
+    let before = c.args.before.items in
+    let it = c.in-Minus.group in
+    let later = c.group_rows.new.next in
+    let s = map g.W.Wire.seen c.args.wires.now in
+    let u = map g.W.Wire.seen c.group_rows.new.wires in
+    let why = c.in-Err-group_rows.error in
+    subst (λ (e : Element). Asked {X = List Bindings} g.W.Wire.tells_log g.W.Wire.counts_alone s u c.args.endpoints.now (units_in c.args.plan.now) c.args.block (OperatorGiven c.args.endpoints.now c.args.block c.args.plan.now c.args.next.now later e before) (OperatorDue c.args.endpoints.now c.args.block c.args.plan.now c.args.next.now e before) (Err why)) (sym c.in-Minus.is)
+    (refused_as g.W.Wire.tells_log g.W.Wire.counts_alone c.args.endpoints.now (units_in c.args.plan.now) c.args.block s u (GroupGiven c.args.endpoints.now c.args.block c.args.plan.now c.args.next.now later it) (GroupDue c.args.endpoints.now c.args.block c.args.plan.now c.args.next.now it) (OperatorGiven c.args.endpoints.now c.args.block c.args.plan.now c.args.next.now later (Minus it) before) (OperatorDue c.args.endpoints.now c.args.block c.args.plan.now c.args.next.now (Minus it) before) why
+    (λ graphs wanted due. due_minus c.args.endpoints.now c.args.block c.args.plan.now c.args.next.now graphs before wanted it due) c.in-Err-group_rows.ensures)
 
 pub after_operator-returns-in-Minus : goal.after_operator-returns-in-Minus
 after_operator-returns-in-Minus g t c =
@@ -99,7 +113,7 @@ after_operator-returns-in-Minus g t c =
     (made_of g.W.Wire.tells_log g.W.Wire.counts_alone c.args.endpoints.now (units_in c.args.plan.now) c.args.block (GroupGiven c.args.endpoints.now c.args.block c.args.plan.now c.args.next.now later it) (GroupDue c.args.endpoints.now c.args.block c.args.plan.now c.args.next.now it) (OperatorGiven c.args.endpoints.now c.args.block c.args.plan.now c.args.next.now later (Minus it) before) (OperatorDue c.args.endpoints.now c.args.block c.args.plan.now c.args.next.now (Minus it) before) (λ rows. rows ≡ minus before found) s u found c.lessened.result
     (subst (λ (v : List Bindings). IfOk c.lessened.result (λ rows. rows.items ≡ minus v found)) c.as_slice-in-Ok-group_rows.ensures.value c.lessened.ensures.given) c.lessened.ensures.memory
     (λ graphs wanted rows given e. of_minus c.args.endpoints.now c.args.block c.args.plan.now c.args.next.now later graphs before rows wanted it found given e)
-    (λ graphs wanted given. due_minus c.args.endpoints.now c.args.block c.args.plan.now c.args.next.now graphs before wanted it (λ rest is. (given rest is).0.sent)) c.in-Ok-group_rows.ensures)
+    (λ graphs wanted given. due_minus c.args.endpoints.now c.args.block c.args.plan.now c.args.next.now graphs before wanted it (λ served number rest is. (given served number rest is).0.sent)) c.in-Ok-group_rows.ensures)
 
 pub after_operator-returns-in-Bind : goal.after_operator-returns-in-Bind
 after_operator-returns-in-Bind g t c =
@@ -141,7 +155,7 @@ alternatives-returns-in-Err g t c =
     let it = c.group-item.result in
     groups_refused c.args.endpoints.now c.args.block c.args.plan.now c.args.next.now gs g.W.Wire.tells_log g.W.Wire.counts_alone (map see c.args.wires.now) (map see c.loop-group.wires) c.loop-group.next c.loop-group.rows.items (drop i gs) c.loop-group.invariant (map see c.group_rows.new.wires)
     (all_tell see g.W.Wire.tells_log (g.met.W.Wire g.world.𝓛 g.world.𝓜 g.world.𝓡 ((λ s x. x), (λ x. x), (λ x. x), λ x. x)).told c.args.wires.now) (all_tell see g.W.Wire.tells_log (g.met.W.Wire g.world.𝓛 g.world.𝓜 g.world.𝓡 ((λ s x. x), (λ x. x), (λ x. x), λ x. x)).told c.loop-group.wires) c.group_rows.new.next it (drop (i + 1) gs) (from_group gs i it c.loop-group-test.true c.group-item.is)
-    (none_in gs i it c.loop-group-test.true c.group-item.is c.requires.alone) c.in-Err.error c.in-Err.ensures
+    c.in-Err.error c.in-Err.ensures
 
 pub alternatives-returns-then-is_err : goal.alternatives-returns-then-is_err
 alternatives-returns-then-is_err g t c =
@@ -151,7 +165,7 @@ alternatives-returns-then-is_err g t c =
     let it = c.group-item.result in
     groups_lost c.args.endpoints.now c.args.block c.args.plan.now c.args.next.now gs g.W.Wire.tells_log g.W.Wire.counts_alone (map see c.args.wires.now) (map see c.loop-group.wires) c.loop-group.next c.loop-group.rows.items (drop i gs) c.loop-group.invariant (map see c.group_rows.new.wires)
     (all_tell see g.W.Wire.tells_log (g.met.W.Wire g.world.𝓛 g.world.𝓜 g.world.𝓡 ((λ s x. x), (λ x. x), (λ x. x), λ x. x)).told c.args.wires.now) (all_tell see g.W.Wire.tells_log (g.met.W.Wire g.world.𝓛 g.world.𝓜 g.world.𝓡 ((λ s x. x), (λ x. x), (λ x. x), λ x. x)).told c.loop-group.wires) c.group_rows.new.next it (drop (i + 1) gs) (from_group gs i it c.loop-group-test.true c.group-item.is)
-    (none_in gs i it c.loop-group-test.true c.group-item.is c.requires.alone) c.in-Ok.found.items c.in-Ok.ensures
+    c.in-Ok.found.items c.in-Ok.ensures
 
 pub alternatives-loop-group-preserved : goal.alternatives-loop-group-preserved
 alternatives-loop-group-preserved g t c =
@@ -162,7 +176,7 @@ alternatives-loop-group-preserved g t c =
     let joined : c.append.new.self.items ≡ c.loop-group.rows.items ++ c.in-Ok.found.items = search rules in
     groups_more c.args.endpoints.now c.args.block c.args.plan.now c.args.next.now gs g.W.Wire.tells_log g.W.Wire.counts_alone (map see c.args.wires.now) (map see c.loop-group.wires) c.loop-group.next c.loop-group.rows.items (drop i gs) c.loop-group.invariant (map see c.group_rows.new.wires)
     (all_tell see g.W.Wire.tells_log (g.met.W.Wire g.world.𝓛 g.world.𝓜 g.world.𝓡 ((λ s x. x), (λ x. x), (λ x. x), λ x. x)).told c.args.wires.now) (all_tell see g.W.Wire.tells_log (g.met.W.Wire g.world.𝓛 g.world.𝓜 g.world.𝓡 ((λ s x. x), (λ x. x), (λ x. x), λ x. x)).told c.loop-group.wires) c.group_rows.new.next it (drop (i + 1) gs) (from_group gs i it c.loop-group-test.true c.group-item.is)
-    (none_in gs i it c.loop-group-test.true c.group-item.is c.requires.alone) c.in-Ok.found.items c.append.new.self.items joined c.in-Ok.ensures
+    c.in-Ok.found.items c.append.new.self.items joined c.in-Ok.ensures
 
 pub alternatives-returns : goal.alternatives-returns
 alternatives-returns g t c =
@@ -178,7 +192,17 @@ group_rows-returns-in-Ok g t c =
     made_of g.W.Wire.tells_log g.W.Wire.counts_alone c.args.endpoints.now (units_in c.args.plan.now) c.args.block (UnfilteredGiven c.args.endpoints.now c.args.block c.args.plan.now c.args.next.now later it) (GroupDue c.args.endpoints.now c.args.block c.args.plan.now c.args.next.now it) (GroupGiven c.args.endpoints.now c.args.block c.args.plan.now c.args.next.now later it) (GroupDue c.args.endpoints.now c.args.block c.args.plan.now c.args.next.now it) (λ rows. rows ≡ filtered (group_of it).filters found) (map g.W.Wire.seen c.args.wires.now) (map g.W.Wire.seen c.unfiltered.new.wires) found c.filtered.result
     c.filtered.ensures.given c.filtered.ensures.memory
     (λ graphs wanted rows given e. group_filtered c.args.endpoints.now c.args.block c.args.plan.now c.args.next.now later it graphs wanted found rows given e)
-    (λ graphs wanted given rest is. (given rest is).0.sent) c.in-Ok.ensures
+    (λ graphs wanted given served number rest is. (given served number rest is).0.sent) c.in-Ok.ensures
+
+pub optional-returns-in-Err : goal.optional-returns-in-Err
+optional-returns-in-Err g t c =
+    let it = c.args.group.now in
+    let before = c.args.before.items in
+    let later = c.unfiltered.new.next in
+    let apart : (group_of it).is_simple ≡ false = sym c.is_simple.ensures ∙ c.if-is_simple.false in
+    refused_as g.W.Wire.tells_log g.W.Wire.counts_alone c.args.endpoints.now (units_in c.args.plan.now) c.args.block (map g.W.Wire.seen c.args.wires.now) (map g.W.Wire.seen c.unfiltered.new.wires) (UnfilteredGiven c.args.endpoints.now c.args.block c.args.plan.now c.args.next.now later it) (GroupDue c.args.endpoints.now c.args.block c.args.plan.now c.args.next.now it)
+    (OperatorGiven c.args.endpoints.now c.args.block c.args.plan.now c.args.next.now later (Optional it) before) (OperatorDue c.args.endpoints.now c.args.block c.args.plan.now c.args.next.now (Optional it) before) c.in-Err.error
+    (λ graphs wanted due. due_optional c.args.endpoints.now c.args.block c.args.plan.now c.args.next.now graphs before wanted it apart due) c.in-Err.ensures
 
 pub optional-returns : goal.optional-returns
 optional-returns g t c =
@@ -191,7 +215,7 @@ optional-returns g t c =
     (map g.W.Wire.seen c.args.wires.now) (map g.W.Wire.seen c.unfiltered.new.wires) found c.left_joined.result
     (subst (λ (v : List Bindings). IfOk c.left_joined.result (λ rows. IsPermutation (left_join v found (group_of it).filters) rows.items)) c.as_slice.ensures.value c.left_joined.ensures.given) c.left_joined.ensures.memory
     (λ graphs wanted rows given p. of_optional c.args.endpoints.now c.args.block c.args.plan.now c.args.next.now later graphs before rows wanted it found apart given p)
-    (λ graphs wanted given. due_optional c.args.endpoints.now c.args.block c.args.plan.now c.args.next.now graphs before wanted it apart (λ rest is. (given rest is).0.sent)) c.in-Ok.ensures
+    (λ graphs wanted given. due_optional c.args.endpoints.now c.args.block c.args.plan.now c.args.next.now graphs before wanted it apart (λ served number rest is. (given served number rest is).0.sent)) c.in-Ok.ensures
 
 pub unfiltered-returns-in_default : goal.unfiltered-returns-in_default
 unfiltered-returns-in_default g t c =
@@ -206,7 +230,7 @@ unfiltered-loop-element-init g t c = record {
 pub unfiltered-after_element-requires-clause-alone : goal.unfiltered-after_element-requires-clause-alone
 unfiltered-after_element-requires-clause-alone g t c κs within =
     let all = c.as_slice-element-items.result.now in
-    let none : parts_services (map part_of all) ≡ 0 = ap (λ (es : List Element). parts_services (map part_of es)) c.loop-element.invariant.are ∙ sym (ap (λ (m : Meaning). m.services) (group_is c.args.group.now)) ∙ c.requires.alone in
+    let none : parts_services (map part_of all) ≡ 0 = ap (λ (es : List Element). parts_services (map part_of es)) c.loop-element.invariant.are ∙ sym (ap (λ (m : Meaning). m.services) (meaning_is c.args.group.now)) ∙ c.requires.alone in
     none_at all c.loop-element.element-index c.element-item.result c.loop-element-test.true c.element-item.is none
 
 pub unfiltered-returns-in-Err : goal.unfiltered-returns-in-Err
