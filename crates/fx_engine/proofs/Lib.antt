@@ -6,6 +6,11 @@ pub mod PlanLemmas
 pub mod UnitLemmas
 pub mod AskedLemmas
 pub mod ServedLemmas
+pub mod WithinLemmas
+pub mod FreeLemmas
+pub mod ServiceRowLemmas
+pub mod ServiceLemmas
+pub mod ServableLemmas
 pub mod RunLemmas
 pub mod EvenLemmas
 pub mod StationLemmas

@@ -43,7 +43,7 @@ tell_at wires (d ∷ es) [] at e h s = absurd h
 tell_at wires (d ∷ es) (g ∷ graphs) zero e h s = let same : d ≡ e = cc in subst (λ (x : EndpointParts). Tell wires x.iri g) same h.0
 tell_at wires (d ∷ es) (g ∷ graphs) (suc at) e h s = tell_at wires es graphs at e h.1 s
 
-long_or_short : (n : ℕ) (b : Bool) → ltb 67108864 n ≡ b → (67108864 < n) ⊎ (n ≤ 67108864)
+pub long_or_short : (n : ℕ) (b : Bool) → ltb 67108864 n ≡ b → (67108864 < n) ⊎ (n ≤ 67108864)
 long_or_short n true h = inl (ltb-true 67108864 n h)
 long_or_short n false h = inr (ltb-false 67108864 n h)
 

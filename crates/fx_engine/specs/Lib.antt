@@ -10,3 +10,4 @@ pub mod LeftRows
 pub mod Mediation
 pub mod SectionSteps
 pub mod Sections
+pub mod ServicesAsked

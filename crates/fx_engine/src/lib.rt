@@ -12,6 +12,7 @@ mod optionals;
 mod parts;
 mod planning;
 mod sections;
+mod services;
 
 pub use fault_texts::{fault_code, fault_words};
 pub use fx_pool::{BadReply, ReplyFault};
