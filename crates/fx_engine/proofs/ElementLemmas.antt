@@ -31,7 +31,7 @@ use Rattle.fx_engine.proofs.RunLemmas.{after_alone, seeds_alone, stations_alone}
 -- ---- what elements and groups are
 
 module _ (served : Served) where
-  rolled : (x : Element-F Element Group) → element_in served (roll-Element x) ≡ element_meaning served.graphs served.down (map-Element Element Group GroupPart Meaning (element_in served) (group_in served) x)
+  pub rolled : (x : Element-F Element Group) → element_in served (roll-Element x) ≡ element_meaning served.graphs served.down (map-Element Element Group GroupPart Meaning (element_in served) (group_in served) x)
   rolled x = fold-roll-Element GroupPart Meaning (element_meaning served.graphs served.down) group_meaning x
 
   pub part_triple : (p : Pattern) → element_in served (Triple-E p) ≡ pattern p
@@ -66,13 +66,13 @@ module _ (served : Served) where
 
 module _ (endpoints : List EndpointParts) (block : ℕ) (parts : List Part) (next later : ℕ) (graphs : List (List Triple)) (before rows : List Bindings) (wanted : List Sent) where
   -- what a part has for requests was asked for, and these are the rows behind it
-  abbrev Given : ℕ → List Expr → List (List ℕ) → List Bindings → List Part → GroupPart → Type 0
+  abbrev pub Given : ℕ → List Expr → List (List ℕ) → List Bindings → List Part → GroupPart → Type 0
   Given number filters known defined rest v =
       IsNext parts next graphs (operator_stations number v known) rest
       → AreAskedFor endpoints graphs block parts later rest (operator_stations number v known) (operator_seeds number v (union graphs) defined) wanted × AreFewer filters rows (operator_rows number v (union graphs) defined)
 
   -- by what the element is to its group
-  by_part : (served : Served) (number : ℕ) (e : Element) (o : Operator) → element_in served e ≡ operator o
+  pub by_part : (served : Served) (number : ℕ) (e : Element) (o : Operator) → element_in served e ≡ operator o
       → ((filters : List Expr) (known : List (List ℕ)) (defined : List Bindings) (rest : List Part) → AreFewer filters before defined → drop next parts ≡ all_planned graphs (o.cut.stations number known) ++ rest
       → AreAskedFor endpoints graphs block parts later rest (o.cut.stations number known) (o.cut.seeds (union graphs) number defined) wanted × IsPermutation rows (o.rows (union graphs) number before))
       → (filters : List Expr) (known : List (List ℕ)) (defined : List Bindings) (rest : List Part) → AreFewer filters before defined → Given number filters known defined rest (element_in served e)
@@ -143,10 +143,10 @@ module _ (endpoints : List EndpointParts) (block : ℕ) (parts : List Part) (nex
 -- ---- what of that is sent, where nothing is given
 
 module _ (endpoints : List EndpointParts) (block : ℕ) (parts : List Part) (next : ℕ) (graphs : List (List Triple)) (before : List Bindings) (wanted : List Sent) where
-  abbrev Due : ℕ → List (List ℕ) → List Bindings → List Part → GroupPart → Type 0
+  abbrev pub Due : ℕ → List (List ℕ) → List Bindings → List Part → GroupPart → Type 0
   Due number known defined rest v = IsNext parts next graphs (operator_stations number v known) rest → AreStationsSent endpoints graphs block (operator_stations number v known) (operator_seeds number v (union graphs) defined) wanted
 
-  due_by : (served : Served) (number : ℕ) (e : Element) (o : Operator) → element_in served e ≡ operator o
+  pub due_by : (served : Served) (number : ℕ) (e : Element) (o : Operator) → element_in served e ≡ operator o
       → ((filters : List Expr) (known : List (List ℕ)) (defined : List Bindings) (rest : List Part) → AreFewer filters before defined → drop next parts ≡ all_planned graphs (o.cut.stations number known) ++ rest
       → AreStationsSent endpoints graphs block (o.cut.stations number known) (o.cut.seeds (union graphs) number defined) wanted)
       → (filters : List Expr) (known : List (List ℕ)) (defined : List Bindings) (rest : List Part) → AreFewer filters before defined → Due number known defined rest (element_in served e)

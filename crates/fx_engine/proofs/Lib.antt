@@ -11,6 +11,7 @@ pub mod FreeLemmas
 pub mod ServiceRowLemmas
 pub mod ServiceLemmas
 pub mod ServableLemmas
+pub mod ServiceElementLemmas
 pub mod RunLemmas
 pub mod EvenLemmas
 pub mod StationLemmas

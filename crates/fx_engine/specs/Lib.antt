@@ -8,6 +8,7 @@ pub mod GroupsAsked
 pub mod Laws
 pub mod LeftRows
 pub mod Mediation
+pub mod Noted
 pub mod SectionSteps
 pub mod Sections
 pub mod ServicesAsked

@@ -8,6 +8,7 @@ mod fault_texts;
 mod groups;
 pub mod laws;
 pub mod mediator;
+mod noted;
 mod optionals;
 mod parts;
 mod planning;
