@@ -1,10 +1,9 @@
 -- What is looked at of a group doesn't hang on how SERVICE is served.
-use Rattle.std.proofs.Common.{◌≡◌, ◌∙◌, ap, sym, subst, refl, Bool, List, [], ◌∷◌, ◌++◌, map}
+use Rattle.std.proofs.Common.{◌≡◌, ◌∙◌, ap, sym, subst, refl, List, [], ◌∷◌, ◌++◌, map}
 use Rattle.std.specs.List.{flat_map}
 use Rattle.fx_terms.specs.declared.patterns.Pattern.{Pattern}
 use Rattle.fx_algebra.specs.Answers.{no_graphs}
 use Rattle.fx_algebra.specs.Groups.{Meaning, Part, element_meaning, group_meaning, keeps_run}
-use Rattle.fx_algebra.specs.declared.expressions.Expr.{Expr}
 use Rattle.fx_algebra.specs.declared.queries.Element.{Element, Element-F, fold_out-Element, map-Element, out-Element}
 use Rattle.fx_algebra.specs.declared.queries.Group.{Group}
 use Rattle.fx_algebra.proofs.CutLemmas.{meanings_alike}

@@ -1,9 +1,8 @@
 -- An occurrence of SERVICE in a group: what it has for requests, and the rows behind it, from what it came to.
-use Rattle.std.proofs.Common.{◌≡◌, ◌∙◌, ap, sym, subst, refl, inl, inr, ◌⊎◌, ℕ, zero, suc, Bool, true, false, cond, List, [], ◌∷◌, ◌++◌, append-nil, drop, IsPermutation}
+use Rattle.std.proofs.Common.{◌≡◌, ◌∙◌, ap, sym, subst, refl, ◌⊎◌, ℕ, zero, suc, Bool, true, false, cond, List, [], ◌∷◌, append-nil, drop, IsPermutation}
 use Rattle.std.proofs.lemmas.List.Sorted.{IsPermutation-refl, IsPermutation-sym, IsPermutation-trans}
 use Rattle.fx_terms.specs.declared.triples.Triple.{Triple}
 use Rattle.fx_outside.specs.Endpoints.{EndpointParts}
-use Rattle.fx_algebra.specs.Graphs.{union}
 use Rattle.fx_algebra.specs.Groups.{group_rows, is_down, one_empty, service_rows}
 use Rattle.fx_algebra.specs.Operators.{join}
 use Rattle.fx_algebra.specs.Solutions.{Bindings}

@@ -1,5 +1,5 @@
 -- What asking for an occurrence of SERVICE leaves of wires, by what its one job came to.
-use Rattle.std.proofs.Common.{◌≡◌, ◌≢◌, ◌∙◌, ap, sym, subst, refl, inl, inr, ◌⊎◌, ℕ, zero, suc, ◌+◌, ◌<◌, ◌≤◌, Bool, true, false, cond, List, [], ◌∷◌, ◌++◌, length, None, Some, All, Contains, IfErr, IfOk, IsTrue, Result, Ok, Err, append-nil, arith, slice_get, bytes_eq, ltb, slice_index_or}
+use Rattle.std.proofs.Common.{◌≡◌, ◌∙◌, ap, sym, subst, refl, inl, inr, ◌⊎◌, ℕ, zero, suc, ◌+◌, ◌<◌, ◌≤◌, Bool, true, false, cond, List, [], ◌∷◌, ◌++◌, length, None, Some, All, Contains, IfErr, IfOk, IsTrue, Result, Err, append-nil, arith, slice_get, bytes_eq, ltb, slice_index_or}
 use Rattle.std.specs.List.{HoldsAt}
 use Rattle.std.proofs.lemmas.List.Elements.{All-contains}
 use Rattle.std.proofs.lemmas.List.Sorted.{IsPermutation-refl}
@@ -10,16 +10,15 @@ use Rattle.fx_http.specs.declared.replies.ReplyError.TheVariants.{TooLong}
 use Rattle.fx_outside.specs.Endpoints.{EndpointParts}
 use Rattle.fx_algebra.specs.Scopes.{scope}
 use Rattle.fx_algebra.specs.Solutions.{Bindings}
-use Rattle.fx_algebra.specs.declared.answers.Answer.TheVariants as answer
 use Rattle.fx_algebra.specs.declared.queries.Group.{Group}
 use Rattle.fx_bound.specs.declared.founds.Found.{Found}
 use Rattle.fx_traffic.specs.Gains.{Tell, faults_at}
-use Rattle.fx_traffic.specs.Sent.{Sent, Sends}
+use Rattle.fx_traffic.specs.Sent.{Sent}
 use Rattle.fx_traffic.specs.Traffic.{IsServiceSent}
 use Rattle.fx_wire.specs.Exchanges.{Exchange, Seen, exchanged}
 use Rattle.fx_wire.specs.Honest.{IsHonest}
-use Rattle.fx_pool.specs.Jobs.{AreDone, AreWanted, IsBadReply, IsDone, IsReplyTo, failures_at, is_at, is_failure}
-use Rattle.fx_pool.specs.Posting.{IsPosted, IsSent, exchanges_of}
+use Rattle.fx_pool.specs.Jobs.{AreDone, AreWanted, IsBadReply, IsDone, is_at, is_failure}
+use Rattle.fx_pool.specs.Posting.{IsSent, exchanges_of}
 use Rattle.fx_pool.specs.Reading.{a_service, HasFault, HasTable}
 use Rattle.fx_pool.specs.declared.faults.ReplyFault.TheVariants.{Http}
 use Rattle.fx_pool.specs.Runs.{IsHonestOver, WiresDid}
@@ -27,8 +26,7 @@ use Rattle.fx_pool.specs.declared.jobs.BadReply.{BadReply}
 use Rattle.fx_pool.specs.declared.jobs.JobReply.{JobReply}
 use Rattle.fx_pool.specs.declared.jobs.JobReply.TheVariants as reply
 use Rattle.fx_pool.specs.declared.jobs.Work.{Work}
-use Rattle.fx_engine.specs.Asked.{Went}
-use Rattle.fx_engine.specs.ServicesAsked.{AreRowsOf, AreRowsOver, AskedAt, HasFailed, IsBadService, HasServiceCause, IsForService, IsOneForService, IsRowsOf, IsServable, IsSettled, IsToldBy, ServiceAsked, job_of, service_text}
+use Rattle.fx_engine.specs.ServicesAsked.{AreRowsOf, AreRowsOver, AskedAt, HasFailed, IsBadService, HasServiceCause, IsForService, IsOneForService, IsRowsOf, IsServable, IsToldBy, ServiceAsked, job_of, service_text}
 use Rattle.fx_engine.specs.declared.services.ServiceError.{ServiceError}
 use Rattle.fx_engine.specs.declared.services.ServiceError.TheVariants as error
 use Rattle.fx_engine.proofs.AskedLemmas.{went_nowhere}

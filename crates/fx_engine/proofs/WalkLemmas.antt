@@ -20,7 +20,6 @@ use Rattle.fx_wire.specs.Exchanges.{Seen}
 use Rattle.fx_pool.specs.declared.flows.FlowError.{FlowError}
 use Rattle.fx_engine.specs.Asked.{Asked}
 use Rattle.fx_engine.specs.GroupsAsked.{AreSentFrom, ElementDue, ElementGiven, EndDue, EndGiven, GroupDue, IsNext, IsPlace, IsReached, Served, UnfilteredGiven, all_planned, element_in, group_in, number_behind, run_joined, run_seeds, run_stations, seeds_in, stations_in, units_in, with_run}
-use Rattle.fx_engine.specs.SectionSteps.{part_of}
 use Rattle.fx_engine.proofs.AskedLemmas.{AllTell, asked_behind, given_unasked, refused_as}
 use Rattle.fx_engine.proofs.ElementLemmas.{group_is}
 use Rattle.fx_engine.proofs.EvenLemmas.{elements_are_even, group_is_even}
