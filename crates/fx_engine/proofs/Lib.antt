@@ -12,6 +12,7 @@ pub mod ServiceRowLemmas
 pub mod ServiceLemmas
 pub mod ServableLemmas
 pub mod ServiceElementLemmas
+pub mod NotedLemmas
 pub mod RunLemmas
 pub mod EvenLemmas
 pub mod StationLemmas

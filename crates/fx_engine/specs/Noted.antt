@@ -1,7 +1,8 @@
 -- An occurrence of SERVICE, plain or silent: its rows, what is noted down of it, or the refusal.
-use Rattle.std.specs.Prelude.{◌≡◌, ℕ, Bool, true, false, List, [], ◌∷◌, ◌++◌, Option, Some, None, Result, Ok, Err}
+use Rattle.std.specs.Prelude.{◌≡◌, ◌<◌, ◌≤◌, ℕ, Bool, true, false, List, [], ◌∷◌, ◌++◌, map, Option, Some, None, Result, Ok, Err}
+use Rattle.std.proofs.Common.{suc}
 use Rattle.fx_outside.specs.Endpoints.{EndpointParts}
-use Rattle.fx_algebra.specs.Groups.{one_empty}
+use Rattle.fx_algebra.specs.Groups.{is_down, one_empty}
 use Rattle.fx_algebra.specs.Solutions.{Bindings}
 use Rattle.fx_algebra.specs.declared.queries.Group.{Group}
 use Rattle.fx_wire.specs.Exchanges.{Seen}
@@ -48,3 +49,18 @@ pub record OccurrenceAsked (tells alone : Bool) (before after : List Seen) (endp
   pub came : Result (List Bindings) ServiceError
   pub asked : ServiceAsked tells alone before after endpoints iri g came
   pub comes_to : ComesTo number silent iri old new came result
+
+-- ---- several
+
+-- the numbers of what is noted
+abbrev pub places : List Down → List ℕ
+places noted = map (λ d. d.place) noted
+
+-- what is noted has numbers that rise, from a first on and below a last
+abbrev pub RiseWithin : ℕ → ℕ → List Down → Type 0
+RiseWithin first last [] = first ≤ last
+RiseWithin first last (d ∷ ds) = (first ≤ d.place) × RiseWithin (suc d.place) last ds
+
+-- of the numbers from a first on and below a last, those are down that are noted
+abbrev pub AgreesOn : List ℕ → ℕ → ℕ → List Down → Type 0
+AgreesOn down first last noted = (k : ℕ) → first ≤ k → k < last → is_down down k ≡ is_down (places noted) k
