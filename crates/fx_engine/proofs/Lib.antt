@@ -13,6 +13,7 @@ pub mod ServiceLemmas
 pub mod ServableLemmas
 pub mod ServiceElementLemmas
 pub mod NotedLemmas
+pub mod RegisteredLemmas
 pub mod RunLemmas
 pub mod EvenLemmas
 pub mod StationLemmas
