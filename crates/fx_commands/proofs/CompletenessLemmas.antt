@@ -20,6 +20,7 @@ use Rattle.fx_sources.specs.Registries.{read_registry}
 use Rattle.fx_sources.specs.declared.errors.RegistryError.{RegistryError}
 use Rattle.fx_traffic.specs.Gains.{Tell, TellAll, faults_at}
 use Rattle.fx_wire.specs.Exchanges.{Seen}
+use Rattle.fx_engine.specs.Unknown.{unknown_of}
 use Rattle.fx_engine.specs.declared.mediator.FedError.{FedError}
 use Rattle.fx_engine.specs.declared.mediator.FedError.TheVariants as fed
 use Rattle.fx_terms.proofs.SetLemmas.{Among, among_from, contains_from}
@@ -45,6 +46,7 @@ use Rattle.fx_pool.specs.Flows.{IsLongBatch}
 use Rattle.fx_engine.specs.Asks.{IsLongAsk}
 use Rattle.fx_pool.specs.declared.jobs.BadReply.{BadReply}
 use Rattle.fx_engine.specs.Mediation.{Federated, HasBadAsk, HasBadBatch, HasLongAsk, HasLongBatch, Planned}
+use Rattle.fx_engine.proofs.MediationLemmas.{none_unknown}
 use Rattle.fx_commands.specs.FedRefusals.{fed_status_of}
 use Rattle.fx_commands.proofs.QueryLemmas.{known_from_nothing}
 use Rattle.fx_commands.specs.declared.limits.TheConstants.{GRAPH_LIMIT, QUERY_LIMIT, REGISTRY_LIMIT}
@@ -53,7 +55,7 @@ use Rattle.fx_commands.specs.declared.statuses.Status.TheVariants as status
 use Rattle.fx_commands.specs.Asking.{IsRefusedBefore, WiresSeen}
 use Rattle.fx_commands.specs.Completeness.{Completes, AreAsksShort, AreRepliesShort, AreTextsShort, AreWell, IsDoneOrWant, IsReadWell, IsWrittenWell}
 use Rattle.fx_commands.specs.Commands.{Asked, over_file, over_members, planned, served}
-use Rattle.fx_commands.specs.Explain.{IsExplainReported, unknown_of}
+use Rattle.fx_commands.specs.Explain.{IsExplainReported}
 use Rattle.fx_commands.specs.FedRefusals.{IsGivenEnd}
 use Rattle.fx_commands.specs.Files.{FileRead, IsNoGraph, IsNoQuery, IsNoRegistry, IsQueryThat, IsTooLong}
 use Rattle.fx_commands.specs.Headline.{Holds, IsTold}
@@ -213,19 +215,23 @@ no_long_text : (w : WiresSeen) (es : List EndpointParts) (asked : Query) (graphs
 no_long_text w es asked graphs block texts e size asks short sent (inl (p, lacked, long)) = no_long_ask es asked p size asks lacked.lacked long
 no_long_text w es asked graphs block texts e size asks short sent (inr long) = no_long_batch es graphs block asked texts long.unit long.batch long.asked.at e size short sent long.asked.member long.asked.found long.allowed long.is_long
 
--- the cause of a refusal by the members is one that there isn't
-query_refused : (w : WiresSeen) (es : List EndpointParts) (asked : Query) (graphs : List (List Triple)) (entries : List Entry) (block : ℕ) (e : FedError) (s : Status) → s ≡ fed_status_of e → TellAll w.before es graphs
-    → Federated w.tells w.alone w.before w.after es asked [] entries block (Err e) → AreWell w es → AreRepliesShort w → AreAsksShort es asked → AreTextsShort es graphs block asked → IsDoneOrWant s
-query_refused w es asked graphs entries block (fed.Member name) s is told fed well replies asks texts = absurd (none_rose w es fed.cause.1.0 well fed.cause.1.1 fed.cause.1.3)
-query_refused w es asked graphs entries block (fed.BadReply name bad) s is told fed well replies asks texts = absurd (no_bad_reply w es asked graphs block fed.cause.0 fed.exchanges bad told (fed.gained well.0) replies fed.cause.3)
-query_refused w es asked graphs entries block (fed.RequestTooLong name size) s is told fed well replies asks texts =
-    absurd (no_long_text w es asked graphs block fed.texts fed.cause.0 size asks texts (fed.of_stations graphs (known_from_nothing w.before es graphs told)) fed.cause.3)
-query_refused w es asked graphs entries block fed.Memory s is told fed well replies asks texts = inr is
+no_unknown : (iri : List ℕ) → Some iri ≡ None → ⊥
+no_unknown iri h = cc
 
-query_asked : (w : WiresSeen) (es others : List EndpointParts) (asked other : Query) (graphs : List (List Triple)) (entries : List Entry) (block : ℕ) (e : FedError) (s : Status) → others ≡ es → other ≡ asked → s ≡ fed_status_of e → TellAll w.before es graphs
+-- the cause of a refusal by the members is one that there isn't
+query_refused : (w : WiresSeen) (es : List EndpointParts) (asked : Query) (graphs : List (List Triple)) (entries : List Entry) (block : ℕ) (e : FedError) (s : Status) → s ≡ fed_status_of e → unknown_of es asked ≡ None → TellAll w.before es graphs
+    → Federated w.tells w.alone w.before w.after es asked [] entries block (Err e) → AreWell w es → AreRepliesShort w → AreAsksShort es asked → AreTextsShort es graphs block asked → IsDoneOrWant s
+query_refused w es asked graphs entries block (fed.Member name) s is known told fed well replies asks texts = absurd (none_rose w es fed.cause.1.0 well fed.cause.1.1 fed.cause.1.3)
+query_refused w es asked graphs entries block (fed.BadReply name bad) s is known told fed well replies asks texts = absurd (no_bad_reply w es asked graphs block fed.cause.0 fed.exchanges bad told (fed.gained well.0) replies fed.cause.3)
+query_refused w es asked graphs entries block (fed.RequestTooLong name size) s is known told fed well replies asks texts =
+    absurd (no_long_text w es asked graphs block fed.texts fed.cause.0 size asks texts (fed.of_stations graphs (known_from_nothing w.before es graphs told)) fed.cause.3)
+query_refused w es asked graphs entries block (fed.UnknownService iri) s is known told fed well replies asks texts = absurd (no_unknown iri (sym fed.known ∙ known))
+query_refused w es asked graphs entries block fed.Memory s is known told fed well replies asks texts = inr is
+
+query_asked : (w : WiresSeen) (es others : List EndpointParts) (asked other : Query) (graphs : List (List Triple)) (entries : List Entry) (block : ℕ) (e : FedError) (s : Status) → others ≡ es → other ≡ asked → s ≡ fed_status_of e → unknown_of es asked ≡ None → TellAll w.before es graphs
     → Federated w.tells w.alone w.before w.after others other [] entries block (Err e) → AreWell w es → AreRepliesShort w → AreAsksShort es asked → AreTextsShort es graphs block asked → IsDoneOrWant s
-query_asked w es others asked other graphs entries block e s a b is told fed =
-    query_refused w es asked graphs entries block e s is told
+query_asked w es others asked other graphs entries block e s a b is known told fed =
+    query_refused w es asked graphs entries block e s is known told
     (subst (λ (v : Query). Federated w.tells w.alone w.before w.after es v [] entries block (Err e)) b (subst (λ (l : List EndpointParts). Federated w.tells w.alone w.before w.after l other [] entries block (Err e)) a fed))
 
 pub query_completes : (w : WiresSeen) (r q : FileRead) (block : ℕ) (s : Status) (text : List ℕ) (out : SinkWritten) → IsQueryReported w r q block s text → (s ≡ status.WriteFault → sink.HasFailed out)
@@ -236,44 +242,35 @@ query_completes w r q block s text out (inl (none, inr refused)) cut es asked gr
 query_completes w r q block s text out (inr (Ok outcome, federated, end)) cut es asked graphs told alone a b well written replies asks texts = given_ends s text out cut written end
 query_completes w r q block s text out (inr (Err e, federated, end)) cut es asked graphs told alone a b well written replies asks texts =
     query_asked w es federated.endpoints asked federated.asked graphs federated.entries block e s (registry_told r es federated.endpoints told.registry federated.registered) (query_told q asked federated.asked told.query federated.accepted)
-    end.0 told.graphs_are federated.federated well replies asks texts
+    end.0 (none_unknown es asked alone) told.graphs_are federated.federated well replies asks texts
 
 -- ---- `explain`
 
-plan_refused : (w : WiresSeen) (es : List EndpointParts) (asked : Query) (graphs : List (List Triple)) (entries : List Entry) (e : FedError) (s : Status) → s ≡ fed_status_of e → TellAll w.before es graphs
+plan_refused : (w : WiresSeen) (es : List EndpointParts) (asked : Query) (graphs : List (List Triple)) (entries : List Entry) (e : FedError) (s : Status) → s ≡ fed_status_of e → unknown_of es asked ≡ None → TellAll w.before es graphs
     → Planned w.tells w.alone w.before w.after es asked [] entries (Err e) → AreWell w es → AreRepliesShort w → AreAsksShort es asked → IsDoneOrWant s
-plan_refused w es asked graphs entries (fed.Member name) s is told fed well replies asks = absurd (none_rose w es fed.cause.1.0 well fed.cause.1.1 fed.cause.1.3)
-plan_refused w es asked graphs entries (fed.BadReply name bad) s is told fed well replies asks = absurd (no_bad_ask w es asked graphs fed.cause.0 fed.exchanges bad told (fed.gained well.0) replies fed.cause.3)
-plan_refused w es asked graphs entries (fed.RequestTooLong name size) s is told fed well replies asks = absurd (by_ask fed.cause.3)
+plan_refused w es asked graphs entries (fed.Member name) s is known told fed well replies asks = absurd (none_rose w es fed.cause.1.0 well fed.cause.1.1 fed.cause.1.3)
+plan_refused w es asked graphs entries (fed.BadReply name bad) s is known told fed well replies asks = absurd (no_bad_ask w es asked graphs fed.cause.0 fed.exchanges bad told (fed.gained well.0) replies fed.cause.3)
+plan_refused w es asked graphs entries (fed.RequestTooLong name size) s is known told fed well replies asks = absurd (by_ask fed.cause.3)
   where
     by_ask : HasLongAsk es asked [] fed.cause.0 size → ⊥
     by_ask (p, lacked, long) = no_long_ask es asked p size asks lacked.lacked long
-plan_refused w es asked graphs entries fed.Memory s is told fed well replies asks = inr is
+plan_refused w es asked graphs entries (fed.UnknownService iri) s is known told fed well replies asks = absurd (no_unknown iri (sym fed.known ∙ known))
+plan_refused w es asked graphs entries fed.Memory s is known told fed well replies asks = inr is
 
-plan_asked : (w : WiresSeen) (es others : List EndpointParts) (asked other : Query) (graphs : List (List Triple)) (entries : List Entry) (e : FedError) (s : Status) → others ≡ es → other ≡ asked → s ≡ fed_status_of e → TellAll w.before es graphs
+plan_asked : (w : WiresSeen) (es others : List EndpointParts) (asked other : Query) (graphs : List (List Triple)) (entries : List Entry) (e : FedError) (s : Status) → others ≡ es → other ≡ asked → s ≡ fed_status_of e → unknown_of es asked ≡ None → TellAll w.before es graphs
     → Planned w.tells w.alone w.before w.after others other [] entries (Err e) → AreWell w es → AreRepliesShort w → AreAsksShort es asked → IsDoneOrWant s
-plan_asked w es others asked other graphs entries e s a b is told fed =
-    plan_refused w es asked graphs entries e s is told
+plan_asked w es others asked other graphs entries e s a b is known told fed =
+    plan_refused w es asked graphs entries e s is known told
     (subst (λ (v : Query). Planned w.tells w.alone w.before w.after es v [] entries (Err e)) b (subst (λ (l : List EndpointParts). Planned w.tells w.alone w.before w.after l other [] entries (Err e)) a fed))
 
 pub explain_completes : (w : WiresSeen) (r q : FileRead) (s : Status) (text : List ℕ) (out : SinkWritten) → IsExplainReported w r q s text → (s ≡ status.WriteFault → sink.HasFailed out)
     → (es : List EndpointParts) (asked : Query) (graphs : List (List Triple)) → IsTold w r q es asked graphs → unknown_of es asked ≡ None
     → IsReadWell r → IsReadWell q → AreWell w es → IsWrittenWell out → AreRepliesShort w → AreAsksShort es asked → IsDoneOrWant s
-explain_completes w r q s text out (inl (none, inl before)) cut es asked graphs told known a b well written replies asks = before_asking r q es asked s text told.registry told.query a b before
-explain_completes w r q s text out (inl (none, inr unknown)) cut es asked graphs told known a b well written replies asks =
-    let others = unknown.1.0 in
-    let other = unknown.1.1 in
-    absurd (
-    clash unknown.1.2
-    (sym unknown.1.5 ∙ ap (λ (l : List EndpointParts). unknown_of l other) (registry_told r es others told.registry unknown.1.3) ∙ ap (unknown_of es) (query_told q asked other told.query unknown.1.4) ∙ known)
-    )
-  where
-    clash : (iri : List ℕ) → Some iri ≡ None → ⊥
-    clash iri h = cc
+explain_completes w r q s text out (inl (none, before)) cut es asked graphs told known a b well written replies asks = before_asking r q es asked s text told.registry told.query a b before
 explain_completes w r q s text out (inr (Ok parts, made, end)) cut es asked graphs told known a b well written replies asks = given_ends s text out cut written end
 explain_completes w r q s text out (inr (Err e, made, end)) cut es asked graphs told known a b well written replies asks =
     plan_asked w es made.endpoints asked made.asked graphs made.entries e s (registry_told r es made.endpoints told.registry made.registered) (query_told q asked made.asked told.query made.accepted)
-    end.0 told.graphs_are made.planned well replies asks
+    end.0 known told.graphs_are made.planned well replies asks
 
 -- ---- `local`
 

@@ -2,7 +2,6 @@
 use Rattle.std.proofs.Common.{◌≡◌, ◌∙◌, ap, sym, refl, ℕ, ◌≤◌, List, Option, Some, None, Ok, Err, length, inl, inr, IsTrue}
 use Rattle.std.specs.Prelude.{IfSome, Result}
 use Rattle.fx_outside.specs.Endpoints.{EndpointParts}
-use Rattle.fx_algebra.specs.Occurrences.{Occurrence, services}
 use Rattle.fx_algebra.specs.declared.queries.Query.{Query}
 use Rattle.fx_grammar.specs.Accepted.{Accepted}
 use Rattle.fx_plan.specs.Explained.{explained}
@@ -15,17 +14,12 @@ use Rattle.fx_engine.specs.declared.mediator.FedError.TheVariants as fed
 use Rattle.fx_commands.specs.declared.limits.TheConstants.{QUERY_LIMIT, REGISTRY_LIMIT}
 use Rattle.fx_commands.specs.declared.statuses.Status.{Status}
 use Rattle.fx_commands.specs.Asking.{WiresSeen}
-use Rattle.fx_commands.specs.Explain.{IsExplainReported, IsExplanation, IsExplanationOf, IsPlanText, unknown_of}
+use Rattle.fx_commands.specs.Explain.{IsExplainReported, IsExplanation, IsExplanationOf, IsPlanText}
 use Rattle.fx_commands.specs.FedRefusals.{IsGivenEnd, fed_line, fed_status_of}
 use Rattle.fx_commands.specs.Files.{FileRead}
 use Rattle.fx_commands.specs.LocalSteps.{GivesQuery}
-use Rattle.fx_commands.specs.MemberSteps.{GivesRegistry, IsLaidOut, IsLayoutReported, IsPlanReported}
-use Rattle.fx_commands.specs.Services.{first_unknown}
+use Rattle.fx_commands.specs.MemberSteps.{GivesRegistry, IsLaidOut, IsLayoutReported}
 use Rattle.fx_commands.proofs.QueryLemmas.{known_from_nothing, want_before}
-
--- the first that is unknown among those of a query
-pub first_said : (es : List EndpointParts) (asked : Query) (slice items : List Occurrence) (iri : Option (List ℕ)) → slice ≡ items → items ≡ services asked → iri ≡ first_unknown es slice → unknown_of es asked ≡ iri
-first_said es asked slice items iri a b h = sym (h ∙ ap (first_unknown es) (a ∙ b))
 
 none_planned : (parts : List Part) → Ok parts ≡ Err fed.Memory → ⊥
 none_planned parts h = cc
@@ -52,12 +46,9 @@ plan_refused w es asked e s is (inl none) = let same = the_want (Err e) e refl n
     the_want r e a b = cc
 plan_refused w es asked e s is (inr given) = inr (Err e, given, (is, refl))
 
-pub plan_explained : (w : WiresSeen) (r q : FileRead) (es : List EndpointParts) (asked : Query) (s : Status) (text : List ℕ) → GivesRegistry r (Ok es) → GivesQuery q (Ok asked) → IsPlanReported w es asked s text → IsExplainReported w r q s text
-plan_explained w r q es asked s text g h (inl (none, inl want)) = inl (none, inl (want_before r q s text want))
-plan_explained w r q es asked s text g h (inl (none, inr named)) = inl (none, inr (named.0, (es, asked, named.1.0, g, h, named.1.1, named.1.2)))
-plan_explained w r q es asked s text g h (inr (known, inl (none, want))) = inl (none, inl (want_before r q s text want))
-plan_explained w r q es asked s text g h (inr (known, inr (result, (entries, planned), end))) =
-    inr (result, record { endpoints = es; registered = g; asked = asked; accepted = h; known = known; entries = entries; planned = planned }, end)
+pub plan_explained : (w : WiresSeen) (r q : FileRead) (es : List EndpointParts) (asked : Query) (s : Status) (text : List ℕ) → GivesRegistry r (Ok es) → GivesQuery q (Ok asked) → IsLayoutReported w es asked s text → IsExplainReported w r q s text
+plan_explained w r q es asked s text g h (inl (none, want)) = inl (none, want_before r q s text want)
+plan_explained w r q es asked s text g h (inr (result, (entries, planned), end)) = inr (result, record { endpoints = es; registered = g; asked = asked; accepted = h; entries = entries; planned = planned }, end)
 
 pub an_explanation : (wires : List Seen) (r q : FileRead) (es : List EndpointParts) (asked : Query) (text : List ℕ) → GivesRegistry r (Ok es) → GivesQuery q (Ok asked) → IsPlanText wires es asked text → IsExplanation wires r q text
 an_explanation wires r q es asked text g h k = pick r.content g

@@ -1,13 +1,19 @@
 -- Lines that are written in pieces.
-use Rattle.std.proofs.Common.{◌≡◌, ◌∙◌, ap, sym, ℕ, ◌+◌, ◌<◌, ◌≤◌, ◌⊎◌, inl, inr, List, [], ◌++◌, subst, take, drop, get_or, length, append_assoc, append-nil, arith}
+use Rattle.std.proofs.Common.{◌≡◌, ◌∙◌, ap, sym, ℕ, ◌+◌, ◌<◌, ◌≤◌, ◌⊎◌, inl, inr, List, [], ◌++◌, subst, take, drop, get_or, length, length-append, append_assoc, append-nil, arith}
 use Rattle.std.proofs.lemmas.List.{take-append-le, take_all}
 use Rattle.std.proofs.Math.Seq.{take-append-add}
+use Rattle.std.specs.Prelude.{Result, Ok, Err, OnErr}
 use Rattle.fx_outside.specs.Faults.{HasRisen}
-use Rattle.fx_outside.specs.Streams.{AppendsFront}
+use Rattle.fx_outside.specs.Streams.{AppendsFront, AppendsPart}
 use Rattle.std.specs.Borrow.{Bor}
 use Rattle.std.proofs.lemmas.List.{drop_more, take-append-drop}
 use Rattle.std.proofs.lemmas.List.Concat.{flat_map-append}
 use Rattle.fx_commands.specs.Lines.{Gains, all_pieces}
+
+-- what holds whatever the result is holds where it is an error
+pub on_err : {A E : Type 0} (r : Result A E) (P : Type 0) → P → OnErr r P
+on_err (Ok x) P p = tt
+on_err (Err e) P p = p
 
 -- a count that rose in the later part of a call rose in the call
 risen_before : (before between after : ℕ) → before ≤ between → HasRisen between after → HasRisen before after
@@ -70,6 +76,23 @@ pieces_cut old mid new text pieces i d b is wrote front =
     subst (AppendsFront old new) (sym (pieces_at pieces i d b)) (
       length (all_pieces (take i pieces)) + longer.0,
       front.1 ∙ ap (λ t. mid ++ take front.0 t) is ∙ ap (λ t. mid ++ t) longer.1 ∙ ap (λ m. m ++ take longer.0 (piece ++ rest)) wrote ∙ append_assoc old (all_pieces (take i pieces)) (take longer.0 (piece ++ rest)) ∙ ap (λ t. old ++ t) (sym (take-append-add (all_pieces (take i pieces)) (piece ++ rest) longer.0)),
+    )
+
+-- and a front of that one which is shorter than it is
+pub pieces_part : (old mid new text : List ℕ) (pieces : List (Bor (List ℕ))) (i : ℕ) (d : Bor (List ℕ)) → i < length pieces → text ≡ (get_or pieces i d).now → mid ≡ old ++ all_pieces (take i pieces) → AppendsPart mid new text → AppendsPart old new (all_pieces pieces)
+pieces_part old mid new text pieces i d b is wrote part =
+    let piece = (get_or pieces i d).now in
+    let front = all_pieces (take i pieces) in
+    let rest = all_pieces (drop (i + 1) pieces) in
+    let n = part.0 in
+    let below : n < length piece = subst (λ t. n < length t) is part.1 in
+    let long : length (front ++ (piece ++ rest)) ≡ length front + length (piece ++ rest) = length-append front (piece ++ rest) in
+    let more : length (piece ++ rest) ≡ length piece + length rest = length-append piece rest in
+    let within : take n piece ≡ take n (piece ++ rest) = sym (take-append-le n piece rest (omega (arith, below))) in
+    subst (AppendsPart old new) (sym (pieces_at pieces i d b)) (
+      length front + n,
+      omega (arith, below, long, more),
+      part.2 ∙ ap (λ t. mid ++ take n t) is ∙ ap (λ t. mid ++ t) within ∙ ap (λ m. m ++ take n (piece ++ rest)) wrote ∙ append_assoc old front (take n (piece ++ rest)) ∙ ap (λ t. old ++ t) (sym (take-append-add front (piece ++ rest) n)),
     )
 
 -- all were written

@@ -84,6 +84,10 @@ query_failed w r q block text es h (inr (Err (fed.RequestTooLong name size), fed
   where
     other : status.EndpointFault ≡ status.RequestTooLong → ⊥
     other h = cc
+query_failed w r q block text es h (inr (Err (fed.UnknownService iri), federated, end)) = absurd (other end.0)
+  where
+    other : status.EndpointFault ≡ status.UnknownService → ⊥
+    other h = cc
 query_failed w r q block text es h (inr (Err fed.Memory, federated, end)) = absurd (other end.0)
   where
     other : status.EndpointFault ≡ status.NoMemory → ⊥
@@ -117,21 +121,13 @@ query_headline w r q block s text out err reported gains wrote es asked graphs t
 -- ---- `explain`
 
 explain_done : (w : WiresSeen) (r q : FileRead) (text : List ℕ) → IsExplainReported w r q status.Done text → text ≡ []
-explain_done w r q text (inl (none, inl before)) = absurd before
-explain_done w r q text (inl (none, inr unknown)) = absurd (other unknown.0)
-  where
-    other : status.Done ≡ status.UnknownService → ⊥
-    other h = cc
+explain_done w r q text (inl (none, before)) = absurd before
 explain_done w r q text (inr (Ok parts, made, end)) = end
 explain_done w r q text (inr (Err e, made, end)) = absurd (fed_not_done e (sym end.0))
 
 explain_failed : (w : WiresSeen) (r q : FileRead) (text : List ℕ) (es : List EndpointParts) → Holds r REGISTRY_LIMIT (λ content. read_registry content ≡ Ok es) → IsExplainReported w r q status.EndpointFault text
     → (e : EndpointParts) × Contains es e × (faults_at w.before e.iri < faults_at w.after e.iri) × (text ≡ member_failed e.name)
-explain_failed w r q text es h (inl (none, inl before)) = absurd before
-explain_failed w r q text es h (inl (none, inr unknown)) = absurd (other unknown.0)
-  where
-    other : status.EndpointFault ≡ status.UnknownService → ⊥
-    other h = cc
+explain_failed w r q text es h (inl (none, before)) = absurd before
 explain_failed w r q text es h (inr (Ok parts, made, end)) = absurd end
 explain_failed w r q text es h (inr (Err (fed.Member name), made, end)) =
     let at = made.planned.cause.1 in
@@ -143,6 +139,10 @@ explain_failed w r q text es h (inr (Err (fed.BadReply name bad), made, end)) = 
 explain_failed w r q text es h (inr (Err (fed.RequestTooLong name size), made, end)) = absurd (other end.0)
   where
     other : status.EndpointFault ≡ status.RequestTooLong → ⊥
+    other h = cc
+explain_failed w r q text es h (inr (Err (fed.UnknownService iri), made, end)) = absurd (other end.0)
+  where
+    other : status.EndpointFault ≡ status.UnknownService → ⊥
     other h = cc
 explain_failed w r q text es h (inr (Err fed.Memory, made, end)) = absurd (other end.0)
   where

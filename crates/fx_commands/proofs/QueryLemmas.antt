@@ -107,6 +107,7 @@ refused_wrote P e s held is = subst (λ (v : Status). Wrote P v held held) (sym 
     by_error (fed.Member name) = refl
     by_error (fed.BadReply name bad) = refl
     by_error (fed.RequestTooLong name size) = refl
+    by_error (fed.UnknownService iri) = refl
     by_error fed.Memory = refl
 
 pub registry_wrote : (P : List ℕ → Type 0) (e : RegistryRefusal) (s : Status) (held : List ℕ) → s ≡ registry_status e → Wrote P s held held
@@ -136,12 +137,14 @@ pub fed_not_done : (e : FedError) → fed_status_of e ≡ status.Done → ⊥
 fed_not_done (fed.Member name) h = cc
 fed_not_done (fed.BadReply name bad) h = cc
 fed_not_done (fed.RequestTooLong name size) h = cc
+fed_not_done (fed.UnknownService iri) h = cc
 fed_not_done fed.Memory h = cc
 
 pub fed_not_cut : (e : FedError) → fed_status_of e ≡ status.WriteFault → ⊥
 fed_not_cut (fed.Member name) h = cc
 fed_not_cut (fed.BadReply name bad) h = cc
 fed_not_cut (fed.RequestTooLong name size) h = cc
+fed_not_cut (fed.UnknownService iri) h = cc
 fed_not_cut fed.Memory h = cc
 
 -- ---- what is known where nothing is known of the cache

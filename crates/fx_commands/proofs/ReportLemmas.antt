@@ -16,7 +16,7 @@ use Rattle.fx_commands.specs.Lines.{usage_line, no_memory}
 use Rattle.fx_commands.specs.Local.{IsAnswer, IsReported, IsWritten, HasLines}
 use Rattle.fx_commands.specs.declared.local.Report.{Report}
 use Rattle.fx_commands.specs.Query.{IsQueryReported, IsQueryWritten}
-use Rattle.fx_commands.specs.Serving.{IsMemberReported}
+use Rattle.fx_commands.specs.Serving.{IsLastCut, IsMemberReported}
 use Rattle.fx_commands.specs.Runs.{Reports, Writes}
 use Rattle.fx_commands.specs.Sinks.{SinkWritten, IsCutShort}
 use Rattle.fx_commands.specs.declared.statuses.Status.{Status}
@@ -39,16 +39,19 @@ reported g q (refusal.Query query.Memory) h = refl
 reported g q (refusal.UnknownService iri) h = (h.0, (iri, h.1, refl))
 reported g q refusal.Memory h = refl
 
-pub usage_reported : (read : List ℕ → FileRead) (w : WiresSeen) (door : DoorSeen) (asked : Option Asked) → asked ≡ None → IsUnasked w → Reports read w door door asked status.Usage [] usage_line
-usage_reported read w door None h u = (refl, refl, u, refl)
-usage_reported read w door (Some a) h u = cc
+pub usage_reported : (read : List ℕ → FileRead) (w : WiresSeen) (door : DoorSeen) (asked : Option Asked) (err : SinkWritten) → asked ≡ None → IsUnasked w → Reports read w door door asked status.Usage [] usage_line err
+usage_reported read w door None err h u = (refl, refl, u, refl)
+usage_reported read w door (Some a) err h u = cc
 
-pub memory_reported : (read : List ℕ → FileRead) (w : WiresSeen) (door : DoorSeen) (asked : Option Asked) → IsUnasked w → Reports read w door door asked status.NoMemory [] no_memory
-memory_reported read w door None u = (refl, refl, u, refl)
-memory_reported read w door (Some (over_file g q)) u = (refl, refl, u, refl)
-memory_reported read w door (Some (over_members r q workers block)) u = (inl (u, inl refl), refl, refl)
-memory_reported read w door (Some (planned r q)) u = (inl (u, inl refl), refl, refl)
-memory_reported read w door (Some (served g a n)) u = (inl (refl, refl, refl), u)
+want_otherwise : status.NoMemory ≡ status.WriteFault → ⊥
+want_otherwise is = cc
+
+pub memory_reported : (read : List ℕ → FileRead) (w : WiresSeen) (door : DoorSeen) (asked : Option Asked) (err : SinkWritten) → IsUnasked w → Reports read w door door asked status.NoMemory [] no_memory err
+memory_reported read w door None err u = (refl, refl, u, refl)
+memory_reported read w door (Some (over_file g q)) err u = (refl, refl, u, refl)
+memory_reported read w door (Some (over_members r q workers block)) err u = (inl (u, inl refl), refl, refl)
+memory_reported read w door (Some (planned r q)) err u = (inl (u, refl), refl, refl)
+memory_reported read w door (Some (served g a n)) err u = (inl (refl, refl, refl), u, λ is. absurd (want_otherwise is))
 
 -- without memory nothing is written on standard output
 pub nothing_written : (read : List ℕ → FileRead) (wires : List Seen) (asked : Option Asked) (held : List ℕ) → Writes read wires asked status.NoMemory held held
@@ -98,17 +101,17 @@ cut_short g q r out err h (inr k) = inr ((λ told. let w = k.0.0 told in (w.0, s
 
 -- ---- by the command
 
-pub file_reported : (read : List ℕ → FileRead) (w : WiresSeen) (door : DoorSeen) (asked : Option Asked) (g q : List ℕ) (s : Status) (text : List ℕ) → asked ≡ Some (over_file g q) → IsReported (read g) (read q) s text → IsUnasked w → Reports read w door door asked s [] text
-file_reported read w door asked g q s text is h u = subst (λ o. Reports read w door door o s [] text) (sym is) (h, refl, u, refl)
+pub file_reported : (read : List ℕ → FileRead) (w : WiresSeen) (door : DoorSeen) (asked : Option Asked) (err : SinkWritten) (g q : List ℕ) (s : Status) (text : List ℕ) → asked ≡ Some (over_file g q) → IsReported (read g) (read q) s text → IsUnasked w → Reports read w door door asked s [] text err
+file_reported read w door asked err g q s text is h u = subst (λ o. Reports read w door door o s [] text err) (sym is) (h, refl, u, refl)
 
-pub members_reported : (read : List ℕ → FileRead) (w : WiresSeen) (door : DoorSeen) (asked : Option Asked) (r q : List ℕ) (workers block : ℕ) (s : Status) (text : List ℕ) → asked ≡ Some (over_members r q workers block) → IsQueryReported w (read r) (read q) block s text → Reports read w door door asked s [] text
-members_reported read w door asked r q workers block s text is h = subst (λ o. Reports read w door door o s [] text) (sym is) (h, refl, refl)
+pub members_reported : (read : List ℕ → FileRead) (w : WiresSeen) (door : DoorSeen) (asked : Option Asked) (err : SinkWritten) (r q : List ℕ) (workers block : ℕ) (s : Status) (text : List ℕ) → asked ≡ Some (over_members r q workers block) → IsQueryReported w (read r) (read q) block s text → Reports read w door door asked s [] text err
+members_reported read w door asked err r q workers block s text is h = subst (λ o. Reports read w door door o s [] text err) (sym is) (h, refl, refl)
 
-pub plan_reported : (read : List ℕ → FileRead) (w : WiresSeen) (door : DoorSeen) (asked : Option Asked) (r q : List ℕ) (s : Status) (text : List ℕ) → asked ≡ Some (planned r q) → IsExplainReported w (read r) (read q) s text → Reports read w door door asked s [] text
-plan_reported read w door asked r q s text is h = subst (λ o. Reports read w door door o s [] text) (sym is) (h, refl, refl)
+pub plan_reported : (read : List ℕ → FileRead) (w : WiresSeen) (door : DoorSeen) (asked : Option Asked) (err : SinkWritten) (r q : List ℕ) (s : Status) (text : List ℕ) → asked ≡ Some (planned r q) → IsExplainReported w (read r) (read q) s text → Reports read w door door asked s [] text err
+plan_reported read w door asked err r q s text is h = subst (λ o. Reports read w door door o s [] text err) (sym is) (h, refl, refl)
 
-pub serving_reported : (read : List ℕ → FileRead) (w : WiresSeen) (door later : DoorSeen) (asked : Option Asked) (g a : List ℕ) (n : ℕ) (s : Status) (lines text : List ℕ) → asked ≡ Some (served g a n) → IsMemberReported (read g) door later a n s lines text → IsUnasked w → Reports read w door later asked s lines text
-serving_reported read w door later asked g a n s lines text is h u = subst (λ o. Reports read w door later o s lines text) (sym is) (h, u)
+pub serving_reported : (read : List ℕ → FileRead) (w : WiresSeen) (door later : DoorSeen) (asked : Option Asked) (err : SinkWritten) (g a : List ℕ) (n : ℕ) (s : Status) (lines text : List ℕ) → asked ≡ Some (served g a n) → IsMemberReported (read g) door later a n s lines text → IsUnasked w → IsLastCut s err lines text → Reports read w door later asked s lines text err
+serving_reported read w door later asked err g a n s lines text is h u cut = subst (λ o. Reports read w door later o s lines text err) (sym is) (h, u, cut)
 
 pub members_written : (read : List ℕ → FileRead) (before : List Seen) (asked : Option Asked) (r q : List ℕ) (workers block : ℕ) (s : Status) (old new : List ℕ) → asked ≡ Some (over_members r q workers block) → IsQueryWritten before (read r) (read q) s old new → Writes read before asked s old new
 members_written read before asked r q workers block s old new is h = subst (λ o. Writes read before o s old new) (sym is) h

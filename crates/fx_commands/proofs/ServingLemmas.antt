@@ -131,6 +131,25 @@ pub ended : (before after : DoorSeen) (address : List ℕ) (count : ℕ) (graph 
 ended before after address count graph door.Failed lines last f cut = (f refl, cut)
 ended before after address count graph door.Memory lines last f cut = cut
 
+-- neither `Done` nor a door's end is a fault of a write
+pub done_otherwise : status.Done ≡ status.WriteFault → ⊥
+done_otherwise is = cc
+
+pub ends_otherwise : (e : DoorError) → end_status e ≡ status.WriteFault → ⊥
+ends_otherwise door.Failed is = cc
+ends_otherwise door.Memory is = cc
+
+-- nor is a graph that is refused
+pub refused_otherwise : (r : GraphRefusal) → graph_status r ≡ status.WriteFault → ⊥
+refused_otherwise refusal.Fault is = cc
+refused_otherwise refusal.TooLong is = cc
+refused_otherwise (refusal.Refused (error.BadUtf8 at)) is = cc
+refused_otherwise (refusal.Refused (error.Bad l c)) is = cc
+refused_otherwise (refusal.Refused (error.Blank l c)) is = cc
+refused_otherwise (refusal.Refused (error.Relative l c)) is = cc
+refused_otherwise (refusal.Refused error.Memory) is = cc
+refused_otherwise refusal.Memory is = cc
+
 -- a door that could not be opened
 pub not_opened : (graph : List Triple) (before after : DoorSeen) (address : List ℕ) (count : ℕ) (last : List ℕ) → (IsTrue before.tells → after.started ≡ before.started) → (IsTrue before.tells → after.outputs ≡ before.outputs) → (IsTrue before.tells → after.inputs ≡ before.inputs)
     → IsCut before after address count graph last [] last

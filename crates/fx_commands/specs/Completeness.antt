@@ -20,12 +20,12 @@ use Rattle.fx_traffic.specs.Gains.{HaveGained, faults_at}
 use Rattle.fx_traffic.specs.Sent.{Sent}
 use Rattle.fx_traffic.specs.Traffic.{AreStationsSent}
 use Rattle.fx_wire.specs.Exchanges.{Exchange}
+use Rattle.fx_engine.specs.Unknown.{unknown_of}
 use Rattle.fx_commands.specs.declared.limits.TheConstants.{GRAPH_LIMIT, QUERY_LIMIT}
 use Rattle.fx_commands.specs.declared.statuses.Status.{Status}
 use Rattle.fx_commands.specs.declared.statuses.Status.TheVariants as status
 use Rattle.fx_commands.specs.Asking.{WiresSeen}
 use Rattle.fx_commands.specs.Commands.{Asked, over_file, over_members, planned, served}
-use Rattle.fx_commands.specs.Explain.{unknown_of}
 use Rattle.fx_commands.specs.Files.{FileRead}
 use Rattle.fx_commands.specs.Headline.{Holds, IsTold}
 use Rattle.fx_commands.specs.Services.{first_plain}

@@ -1,8 +1,7 @@
 -- What `fedx explain` does.
-use Rattle.std.specs.Prelude.{◌≡◌, ◌⊎◌, ℕ, List, [], Option, Some, None, IfSome, Ok, Result}
+use Rattle.std.specs.Prelude.{◌≡◌, ◌⊎◌, ℕ, List, [], IfSome, Ok, Result}
 use Rattle.fx_terms.specs.declared.triples.Triple.{Triple}
 use Rattle.fx_outside.specs.Endpoints.{EndpointParts}
-use Rattle.fx_algebra.specs.Occurrences.{services}
 use Rattle.fx_algebra.specs.Units.{sources}
 use Rattle.fx_algebra.specs.declared.queries.Query.{Query}
 use Rattle.fx_grammar.specs.Accepted.{Accepted}
@@ -16,12 +15,9 @@ use Rattle.fx_engine.specs.Mediation.{Planned}
 use Rattle.fx_engine.specs.Sections.{parts_with}
 use Rattle.fx_engine.specs.declared.mediator.FedError.{FedError}
 use Rattle.fx_commands.specs.declared.statuses.Status.{Status}
-use Rattle.fx_commands.specs.declared.statuses.Status.TheVariants as status
 use Rattle.fx_commands.specs.Asking.{WiresSeen, IsUnasked, IsRefusedBefore}
 use Rattle.fx_commands.specs.FedRefusals.{IsEnd}
 use Rattle.fx_commands.specs.Files.{FileRead, IsQueryOf, IsRegistryOf}
-use Rattle.fx_commands.specs.Lines.{unknown_service}
-use Rattle.fx_commands.specs.Services.{first_unknown}
 use Rattle.fx_commands.specs.Sinks.{Wrote}
 
 -- ---- the text of the plan
@@ -45,30 +41,20 @@ IsExplanation wires r q text = IfSome r.content (λ registry. IfSome q.content (
 
 -- ---- statuses
 
--- the query's first SERVICE without SILENT that isn't registered names this IRI, or there is none
-abbrev pub unknown_of : List EndpointParts → Query → Option (List ℕ)
-unknown_of endpoints q = first_unknown endpoints (services q)
-
--- there is one
-abbrev pub IsUnknown : FileRead → FileRead → Status → List ℕ → Type 0
-IsUnknown r q s text =
-    (s ≡ status.UnknownService) × ((endpoints : List EndpointParts) × (asked : Query) × (iri : List ℕ) × IsRegistryOf r endpoints × IsQueryOf q asked × (unknown_of endpoints asked ≡ Some iri) × (text ≡ unknown_service iri))
-
--- There is none, and the members of the registry were asked with a new cache which of the query's patterns they have anything for, and nothing else: what was
--- exchanged, the plan by what they answered, and else the cause at the one that the refusal names.
+-- The members of the registry were asked with a new cache which of the query's patterns they have anything for, and nothing else, if each SERVICE without
+-- SILENT names one: what was exchanged, the plan by what they answered, and else the cause at the one that the refusal names.
 pub record IsPlanned (w : WiresSeen) (r q : FileRead) (result : Result (List Part) FedError) : Type 0 where
   pub endpoints : List EndpointParts
   pub registered : IsRegistryOf r endpoints
   pub asked : Query
   pub accepted : IsQueryOf q asked
-  pub known : unknown_of endpoints asked ≡ None
   pub entries : List Entry
   pub planned : Planned w.tells w.alone w.before w.after endpoints asked [] entries result
 
--- the cause of each status, and its line on standard error: nothing is asked where a file is refused, or a SERVICE is unknown
+-- the cause of each status, and its line on standard error: nothing is asked where a file is refused
 abbrev pub IsExplainReported : WiresSeen → FileRead → FileRead → Status → List ℕ → Type 0
 IsExplainReported w r q s text =
-    (IsUnasked w × (IsRefusedBefore r q s text ⊎ IsUnknown r q s text))
+    (IsUnasked w × IsRefusedBefore r q s text)
     ⊎ ((result : Result (List Part) FedError) × IsPlanned w r q result × IsEnd result s text)
 
 -- what each status leaves on standard output: the text, a front of it where a write failed, and else nothing new

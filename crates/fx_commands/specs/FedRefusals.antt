@@ -4,18 +4,20 @@ use Rattle.fx_engine.specs.declared.mediator.FedError.{FedError}
 use Rattle.fx_engine.specs.declared.mediator.FedError.TheVariants as fed
 use Rattle.fx_commands.specs.declared.statuses.Status.{Status}
 use Rattle.fx_commands.specs.declared.statuses.Status.TheVariants as status
-use Rattle.fx_commands.specs.Lines.{member_failed, bad_reply, request_too_long, no_memory}
+use Rattle.fx_commands.specs.Lines.{member_failed, bad_reply, request_too_long, no_memory, unknown_service}
 
 abbrev pub fed_status_of : FedError → Status
 fed_status_of (fed.Member name) = status.EndpointFault
 fed_status_of (fed.BadReply name bad) = status.BadReply
 fed_status_of (fed.RequestTooLong name size) = status.RequestTooLong
+fed_status_of (fed.UnknownService iri) = status.UnknownService
 fed_status_of fed.Memory = status.NoMemory
 
 abbrev pub fed_line : FedError → List ℕ
 fed_line (fed.Member name) = member_failed name
 fed_line (fed.BadReply name bad) = bad_reply name bad.why
 fed_line (fed.RequestTooLong name size) = request_too_long name size
+fed_line (fed.UnknownService iri) = unknown_service iri
 fed_line fed.Memory = no_memory
 
 -- where the members give something it is written, unless memory runs out

@@ -1,5 +1,5 @@
 -- What the steps of `fedx query` and `fedx explain` give. `IsQueryReported` and `IsExplainReported` say what the whole gives.
-use Rattle.std.specs.Prelude.{◌≡◌, ◌≢◌, ◌⊎◌, ℕ, ◌≤◌, List, [], Result, Ok, Err, IfSome, length, Some, None}
+use Rattle.std.specs.Prelude.{◌≡◌, ◌≢◌, ◌⊎◌, ℕ, ◌≤◌, List, [], Result, Ok, Err, IfSome, length}
 use Rattle.fx_outside.specs.Endpoints.{EndpointParts}
 use Rattle.fx_algebra.specs.Occurrences.{services}
 use Rattle.fx_algebra.specs.declared.queries.Query.{Query}
@@ -17,10 +17,9 @@ use Rattle.fx_commands.specs.declared.refusals.RegistryRefusal.TheVariants as re
 use Rattle.fx_commands.specs.declared.statuses.Status.{Status}
 use Rattle.fx_commands.specs.declared.statuses.Status.TheVariants as status
 use Rattle.fx_commands.specs.Asking.{WiresSeen, IsUnasked}
-use Rattle.fx_commands.specs.Explain.{unknown_of}
 use Rattle.fx_commands.specs.FedRefusals.{IsEnd}
 use Rattle.fx_commands.specs.Files.{FileRead, HasFailed, IsTooLong, IsNoRegistry}
-use Rattle.fx_commands.specs.Lines.{cannot_read, registry_too_long, registry_refused, not_built, no_memory, unknown_service}
+use Rattle.fx_commands.specs.Lines.{cannot_read, registry_too_long, registry_refused, not_built, no_memory}
 
 -- ---- registries
 
@@ -67,16 +66,8 @@ HasRefused q s text = (s ≡ status.QueryRefused) × (services q ≢ []) × (tex
 abbrev pub IsAskReported : WiresSeen → List EndpointParts → Query → ℕ → Status → List ℕ → Type 0
 IsAskReported w endpoints q block s text = (IsUnasked w × (IsWant s text ⊎ HasRefused q s text)) ⊎ ((services q ≡ []) × IsAnswerReported w endpoints q block s text)
 
--- what printing the plan of a query reports whose SERVICEs are known
+-- what printing the plan of a query reports
 abbrev pub IsLayoutReported : WiresSeen → List EndpointParts → Query → Status → List ℕ → Type 0
 IsLayoutReported w endpoints q s text =
     (IsUnasked w × IsWant s text)
     ⊎ ((result : Result (List Part) FedError) × ((entries : List Entry) × Planned w.tells w.alone w.before w.after endpoints q [] entries result) × IsEnd result s text)
-
--- the first SERVICE that isn't known is refused
-abbrev pub NamesUnknown : List EndpointParts → Query → Status → List ℕ → Type 0
-NamesUnknown endpoints q s text = (s ≡ status.UnknownService) × ((iri : List ℕ) × (unknown_of endpoints q ≡ Some iri) × (text ≡ unknown_service iri))
-
--- what printing the plan of a query reports
-abbrev pub IsPlanReported : WiresSeen → List EndpointParts → Query → Status → List ℕ → Type 0
-IsPlanReported w endpoints q s text = (IsUnasked w × (IsWant s text ⊎ NamesUnknown endpoints q s text)) ⊎ ((unknown_of endpoints q ≡ None) × IsLayoutReported w endpoints q s text)

@@ -11,7 +11,7 @@ use Rattle.fx_commands.specs.Files.{FileRead}
 use Rattle.fx_commands.specs.Lines.{usage_line, no_memory}
 use Rattle.fx_commands.specs.Local.{IsAnswer, IsReported, IsWritten}
 use Rattle.fx_commands.specs.Query.{IsQueryReported, IsQueryWritten}
-use Rattle.fx_commands.specs.Serving.{IsMemberReported}
+use Rattle.fx_commands.specs.Serving.{IsLastCut, IsMemberReported}
 use Rattle.fx_commands.specs.Sinks.{SinkWritten, HasFailed, IsCutOff, IsCutShort, IsUntouched}
 
 -- words that are no command give the usage line, unless memory ran out
@@ -21,14 +21,14 @@ IsRefused status.NoMemory text = text ≡ no_memory
 IsRefused s text = ⊥
 
 -- What a run reports, by the files that its words name, if they are a command: the lines of connections, which a member alone writes and
--- which are whole, and the line behind them. All that is seen of the wires is as it was where the command asks no members, and all that is
+-- which are whole, and the line behind them, which isn't whole where a member's write failed. All that is seen of the wires is as it was where the command asks no members, and all that is
 -- seen of the door where it serves nothing.
-abbrev pub Reports : (List ℕ → FileRead) → WiresSeen → DoorSeen → DoorSeen → Option Asked → Status → List ℕ → List ℕ → Type 0
-Reports read w door later None s lines text = IsRefused s text × (lines ≡ []) × IsUnasked w × (later ≡ door)
-Reports read w door later (Some (over_file graph query)) s lines text = IsReported (read graph) (read query) s text × (lines ≡ []) × IsUnasked w × (later ≡ door)
-Reports read w door later (Some (over_members registry query workers block)) s lines text = IsQueryReported w (read registry) (read query) block s text × (lines ≡ []) × (later ≡ door)
-Reports read w door later (Some (planned registry query)) s lines text = IsExplainReported w (read registry) (read query) s text × (lines ≡ []) × (later ≡ door)
-Reports read w door later (Some (served graph address count)) s lines text = IsMemberReported (read graph) door later address count s lines text × IsUnasked w
+abbrev pub Reports : (List ℕ → FileRead) → WiresSeen → DoorSeen → DoorSeen → Option Asked → Status → List ℕ → List ℕ → SinkWritten → Type 0
+Reports read w door later None s lines text err = IsRefused s text × (lines ≡ []) × IsUnasked w × (later ≡ door)
+Reports read w door later (Some (over_file graph query)) s lines text err = IsReported (read graph) (read query) s text × (lines ≡ []) × IsUnasked w × (later ≡ door)
+Reports read w door later (Some (over_members registry query workers block)) s lines text err = IsQueryReported w (read registry) (read query) block s text × (lines ≡ []) × (later ≡ door)
+Reports read w door later (Some (planned registry query)) s lines text err = IsExplainReported w (read registry) (read query) s text × (lines ≡ []) × (later ≡ door)
+Reports read w door later (Some (served graph address count)) s lines text err = IsMemberReported (read graph) door later address count s lines text × IsUnasked w × IsLastCut s err lines text
 
 -- what a run leaves on standard output
 abbrev pub Writes : (List ℕ → FileRead) → List Seen → Option Asked → Status → List ℕ → List ℕ → Type 0

@@ -6,10 +6,11 @@ use Rattle.fx_terms.specs.declared.triples.Triple.{Triple}
 use Rattle.fx_ntriples.specs.Forms.{IsDocument}
 use Rattle.fx_ntriples.specs.declared.faults.NtError.{NtError}
 use Rattle.fx_outside.specs.Doors.{DoorSeen, Output}
-use Rattle.fx_outside.specs.Streams.{AppendsFront}
+use Rattle.fx_outside.specs.Streams.{AppendsFront, AppendsPart}
 use Rattle.fx_member.specs.Served.{IsServed}
 use Rattle.fx_commands.specs.Files.{FileRead, HasFailed, IsTooLong, IsNoGraph}
 use Rattle.fx_commands.specs.Lines.{cannot_read, graph_refused, graph_too_long, no_memory, cannot_serve}
+use Rattle.fx_commands.specs.Sinks.{SinkWritten}
 use Rattle.fx_commands.specs.declared.limits.TheConstants.{GRAPH_LIMIT}
 use Rattle.fx_commands.specs.declared.serving.Ending.{Ending}
 use Rattle.fx_commands.specs.declared.serving.Ending.TheVariants.{Replied, ReadFault, WriteFault}
@@ -74,6 +75,10 @@ IsOpen seen address = seen.started ≡ Some address
 
 -- The lines of the connections that are whole, and what is written behind them: nothing, or the one line by which serving ends. So
 -- a connection is taken only where the line of each before it is whole.
+
+-- where that line could not be written, a front of it was that is shorter than it is
+abbrev pub IsLastCut : Status → SinkWritten → List ℕ → List ℕ → Type 0
+IsLastCut s err lines last = s ≡ status.WriteFault → IsTrue err.tells → AppendsPart (err.old ++ lines) err.new last
 
 -- so many connections were served, each with its line
 abbrev pub IsDone : ℕ → DoorSeen → DoorSeen → List ℕ → List Triple → List ℕ → List ℕ → Type 0

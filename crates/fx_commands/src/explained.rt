@@ -1,32 +1,28 @@
 //! The command `explain`.
-ghost use Rattle.std.specs.Prelude.{◌≡◌, ◌<◌, ◌≤◌, All, IfOk, IsTrue, List, None, ℕ, length, map, string_bytes};
-ghost use Rattle.std.specs.Option.{option_copied};
+ghost use Rattle.std.specs.Prelude.{◌≡◌, ◌<◌, ◌≤◌, All, IfOk, IsTrue, List, ℕ, length, map, string_bytes};
 ghost use Rattle.fx_engine.specs.Mediation.{IsSpellable, parts_in};
 ghost use Rattle.fx_plan.specs.Explained.{HasMembers, explained};
 ghost use Rattle.fx_traffic.specs.Gains.{AreAfter, faults_at};
 ghost use Rattle.fx_commands.specs.Asking.{wires_seen};
 ghost use Rattle.fx_commands.specs.Counts.{CountsOnly};
-ghost use Rattle.fx_commands.specs.Explain.{IsExplainReported, IsExplainWritten, IsPlanText, unknown_of};
+ghost use Rattle.fx_commands.specs.Explain.{IsExplainReported, IsExplainWritten, IsPlanText};
 ghost use Rattle.fx_commands.specs.FedRefusals.{IsGivenEnd};
 ghost use Rattle.fx_commands.specs.Files.{file_read};
 ghost use Rattle.fx_commands.specs.Lines.{Gains};
-ghost use Rattle.fx_commands.specs.MemberSteps.{IsLaidOut, IsLayoutReported, IsPlanReported};
-ghost use Rattle.fx_commands.specs.Services as spec;
+ghost use Rattle.fx_commands.specs.MemberSteps.{IsLaidOut, IsLayoutReported};
 ghost use Rattle.fx_commands.specs.Sinks.{IsCutOff, Wrote, sink_written};
 
 use crate::loading::{load_query, load_registry};
 use crate::refusals::fed_status;
 use crate::reports::{
     write_fed_error, write_no_memory, write_query_refusal, write_registry_refusal,
-    write_unknown_service,
 };
 use crate::statuses::Status;
-use fx_algebra::{Query, services};
+use fx_algebra::Query;
 use fx_engine::{FedError, plan_parts};
 use fx_outside::{Endpoint, Files, Sink, write_all};
 use fx_plan::{Part, explain};
 use fx_sources::{AskCache, Registry};
-use fx_terms::Iri;
 use fx_wire::Wire;
 use std::alloc::Global;
 
@@ -64,61 +60,9 @@ pub fn run_explain<F: Files, W: Wire + Send, O: Sink, E: Sink>(
                 write_query_refusal(err, refusal, query);
                 refusal.status()
             }
-            Ok(asked) => explain_over(alloc, &members, asked.get(), wires, out, err),
+            Ok(asked) => explain_members(alloc, &members, asked.get(), wires, out, err),
         },
     }
-}
-
-// Prints the plan of a query over the members of a registry, or the line of the refusal. Its occurrences of SERVICE are looked at first.
-fn explain_over<W: Wire + Send, O: Sink, E: Sink>(
-    alloc: Global,
-    members: &Registry,
-    query: &Query,
-    wires: &mut [W],
-    out: &mut O,
-    err: &mut E,
-) -> Status
-    requires wired { (0 < length wires.old) × (length wires.old ≤ 16) }
-    requires spellable { IsSpellable query.now }
-    ensures reported { (text : List ℕ) × IsPlanReported (wires_seen W.tells_log W.counts_alone W.seen wires.old wires.new) members.now query.now result text × (IsTrue E.tells_held → Gains (E.held err.old) (E.held err.new) (E.write_faults err.old) (E.write_faults err.new) text) }
-    ensures written { IsTrue O.tells_held → Wrote (IsPlanText (map W.seen wires.old) members.now query.now) result (O.held out.old) (O.held out.new) }
-    ensures endpoint_faults { IsTrue W.counts_alone → result ≡ Status.Done → (address : List ℕ) → faults_at (map W.seen wires.new) address ≡ faults_at (map W.seen wires.old) address }
-    ensures wired { AreAfter (map W.seen wires.old) (map W.seen wires.new) }
-    ensures write_fault { result ≡ Status.WriteFault → IsCutOff (sink_written O.tells_held O.held O.write_faults out.old out.new) (sink_written E.tells_held E.held E.write_faults err.old err.new) }
-    ensures unfailed { ¬ (result ≡ Status.WriteFault) → O.write_faults out.new ≡ O.write_faults out.old }
-    ensures unfailed_lines { result ≡ Status.Done → E.write_faults err.new ≡ E.write_faults err.old }
-{
-    match services(alloc, query) {
-        Err(_) => {
-            write_no_memory(err);
-            Status::NoMemory
-        }
-        Ok(occurrences) => match first_unknown(members, occurrences.as_slice()) {
-            Some(iri) => {
-                write_unknown_service(err, iri);
-                Status::UnknownService
-            }
-            None => explain_members(alloc, members, query, wires, out, err),
-        },
-    }
-}
-
-// The IRI of the first SERVICE without SILENT that is the address of no member.
-fn first_unknown<'a>(members: &Registry, occurrences: &'a [(Iri, bool)]) -> Option<&'a Iri>
-    ensures { option_copied result ≡ spec.first_unknown members.now occurrences.now }
-{
-    for (iri, silent) in occurrences {
-        if !*silent && !is_registered(members, iri) {
-            return Some(iri);
-        }
-    }
-    None
-}
-
-fn is_registered(members: &Registry, iri: &Iri) -> bool
-    ensures { result ≡ spec.is_registered members.now iri.now }
-{
-    members.find(iri).is_some()
 }
 
 // Asks the members, and prints the plan, or the line of the refusal.

@@ -157,6 +157,7 @@ pub fn fed_status(error: &FedError) -> Status
         FedError::Member { name: _ } => Status::EndpointFault,
         FedError::BadReply { name: _, bad: _ } => Status::BadReply,
         FedError::RequestTooLong { name: _, length: _ } => Status::RequestTooLong,
+        FedError::UnknownService { iri: _ } => Status::UnknownService,
         FedError::Memory => Status::NoMemory,
     }
 }

@@ -1,9 +1,9 @@
 //! Lines on standard error.
-ghost use Rattle.std.specs.Prelude.{◌≡◌, ◌∷◌, ◌++◌, ◌≤◌, ℕ, [], Some, codes, IsTrue, IsErr, IsOk, OnOk, length};
+ghost use Rattle.std.specs.Prelude.{◌≡◌, ◌∷◌, ◌++◌, ◌≤◌, ℕ, [], Some, codes, IsTrue, IsErr, IsOk, OnErr, OnOk, length};
 ghost use Rattle.std.specs.Fmt.{decimal};
 ghost use Rattle.fx_commands.specs.FedRefusals.{fed_line};
 ghost use Rattle.fx_outside.specs.Faults.{HasRisen};
-ghost use Rattle.fx_outside.specs.Streams.{AppendsFront};
+ghost use Rattle.fx_outside.specs.Streams.{AppendsFront, AppendsPart};
 ghost use Rattle.fx_engine.specs.FaultTexts.{fault_text, with_code};
 ghost use Rattle.fx_commands.specs.Lines.{all_pieces, bad_reply, cannot_serve, Gains, graph_refused, line, no_memory, not_built, place, query_refused, registry_refused, request_too_long, unknown_service, usage_line};
 ghost use Rattle.fx_grammar.specs.Refused.{kind_name};
@@ -167,6 +167,7 @@ pub fn write_fed_error<E: Sink>(err: &mut E, error: &FedError)
         FedError::RequestTooLong { name, length } => {
             write_request_too_long(err, name.as_str(), *length)
         }
+        FedError::UnknownService { iri } => write_unknown_service(err, iri),
         FedError::Memory => write_line(err, b"no memory\n"),
     }
 }
@@ -242,10 +243,12 @@ pub fn write_no_memory<E: Sink>(err: &mut E)
     write_line(err, b"no memory\n");
 }
 
-/// Writes pieces, one behind the other. `WriteFailed` comes where a write failed, and a front of them is written then.
+/// Writes pieces, one behind the other. `WriteFailed` comes where a write failed, and a front of them is
+/// written then, which is shorter than they are.
 pub fn write_pieces<E: Sink>(err: &mut E, pieces: &[&[u8]]) -> Result<(), WriteFailed>
     ensures whole { IsTrue E.tells_held → OnOk result (E.held err.new ≡ E.held err.old ++ all_pieces pieces.now) }
     ensures front { IsTrue E.tells_held → AppendsFront (E.held err.old) (E.held err.new) (all_pieces pieces.now) }
+    ensures part { IsTrue E.tells_held → OnErr result (AppendsPart (E.held err.old) (E.held err.new) (all_pieces pieces.now)) }
     ensures kept { E.write_faults err.old ≤ E.write_faults err.new }
     ensures failed { IsErr result → HasRisen (E.write_faults err.old) (E.write_faults err.new) }
     ensures faultless { OnOk result (E.write_faults err.new ≡ E.write_faults err.old) }

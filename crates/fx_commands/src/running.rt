@@ -56,7 +56,7 @@ pub fn run<F: Files, W: Wire + Send, D: Door, O: Sink, E: Sink>(
 
     // Each status comes with its cause alone, and with its line on `err`, behind the lines of the connections that a member served, which are
     // whole. Where members were asked it also says what for.
-    ensures reported { OnUsed (wires_used (asked (map (λ w. string_bytes w) words.now))) wires.old wires.new (λ used later. (lines : List ℕ) × (text : List ℕ) × Reports (file_read (F.seen files.old) (F.seen files.new)) (wires_seen W.tells_log W.counts_alone W.seen used later) (D.seen door.old) (D.seen door.new) (asked (map (λ w. string_bytes w) words.now)) result lines text × (IsTrue E.tells_held → Gains (E.held err.old ++ lines) (E.held err.new) (E.write_faults err.old) (E.write_faults err.new) text)) }
+    ensures reported { OnUsed (wires_used (asked (map (λ w. string_bytes w) words.now))) wires.old wires.new (λ used later. (lines : List ℕ) × (text : List ℕ) × Reports (file_read (F.seen files.old) (F.seen files.new)) (wires_seen W.tells_log W.counts_alone W.seen used later) (D.seen door.old) (D.seen door.new) (asked (map (λ w. string_bytes w) words.now)) result lines text (sink_written E.tells_held E.held E.write_faults err.old err.new) × (IsTrue E.tells_held → Gains (E.held err.old ++ lines) (E.held err.new) (E.write_faults err.old) (E.write_faults err.new) text)) }
 
     // With `Done`, `out` gained exactly the document of the query's answer, over the file's graph or over the union of the
     // members' graphs, or the text of the query's plan over these graphs; with `WriteFault` a front of it; else nothing.

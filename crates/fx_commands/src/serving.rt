@@ -1,12 +1,13 @@
 //! The command `member`.
-ghost use Rattle.std.specs.Prelude.{◌≡◌, ◌+◌, ◌++◌, ◌≤◌, ℕ, List, [], Some, Err, IfErr, IfOk, IsErr, IsTrue, OnOk};
+ghost use Rattle.std.specs.Prelude.{◌≡◌, ◌+◌, ◌++◌, ◌≤◌, ℕ, List, [], Some, Err, IfErr, IfOk, IsErr, IsTrue, OnErr, OnOk};
 ghost use Rattle.fx_outside.specs.Doors.{output_of};
 ghost use Rattle.fx_outside.specs.Faults.{HasRisen};
-ghost use Rattle.fx_outside.specs.Streams.{AppendsFront};
+ghost use Rattle.fx_outside.specs.Streams.{AppendsFront, AppendsPart};
 ghost use Rattle.fx_commands.specs.Counts.{CountsDoor, CountsOnly};
 ghost use Rattle.fx_commands.specs.Files.{file_read};
 ghost use Rattle.fx_commands.specs.Lines.{Gains};
-ghost use Rattle.fx_commands.specs.Serving.{ending_line, ending_text, IsEnded, IsMemberReported, IsServingReported};
+ghost use Rattle.fx_commands.specs.Serving.{ending_line, ending_text, IsEnded, IsLastCut, IsMemberReported, IsServingReported};
+ghost use Rattle.fx_commands.specs.Sinks.{sink_written};
 ghost use Rattle.fx_commands.specs.ServingSteps.{end_line, end_status, GivesEnding};
 
 use crate::loading::load_store;
@@ -42,7 +43,7 @@ pub fn run_member<F: Files, D: Door, E: Sink>(
     count: u64,
     err: &mut E,
 ) -> Status
-    ensures reported { (lines : List ℕ) × (last : List ℕ) × IsMemberReported (file_read (F.seen files.old) (F.seen files.new) graph.now) (D.seen door.old) (D.seen door.new) address.now count result lines last × (IsTrue E.tells_held → Gains (E.held err.old ++ lines) (E.held err.new) (E.write_faults err.old) (E.write_faults err.new) last) }
+    ensures reported { (lines : List ℕ) × (last : List ℕ) × IsMemberReported (file_read (F.seen files.old) (F.seen files.new) graph.now) (D.seen door.old) (D.seen door.new) address.now count result lines last × (IsTrue E.tells_held → Gains (E.held err.old ++ lines) (E.held err.new) (E.write_faults err.old) (E.write_faults err.new) last) × IsLastCut result (sink_written E.tells_held E.held E.write_faults err.old err.new) lines last }
     ensures write_fault { result ≡ Status.WriteFault → HasRisen (E.write_faults err.old) (E.write_faults err.new) }
     ensures unfailed_lines { result ≡ Status.Done → E.write_faults err.new ≡ E.write_faults err.old }
     ensures door_faults { CountsDoor result (D.seen door.old).faults (D.seen door.new).faults }
@@ -69,7 +70,7 @@ fn serve_store<D: Door, E: Sink>(
     count: u64,
     err: &mut E,
 ) -> Status
-    ensures reported { (lines : List ℕ) × (last : List ℕ) × IsServingReported (D.seen door.old) (D.seen door.new) address.now count store.now result lines last × (IsTrue E.tells_held → Gains (E.held err.old ++ lines) (E.held err.new) (E.write_faults err.old) (E.write_faults err.new) last) }
+    ensures reported { (lines : List ℕ) × (last : List ℕ) × IsServingReported (D.seen door.old) (D.seen door.new) address.now count store.now result lines last × (IsTrue E.tells_held → Gains (E.held err.old ++ lines) (E.held err.new) (E.write_faults err.old) (E.write_faults err.new) last) × IsLastCut result (sink_written E.tells_held E.held E.write_faults err.old err.new) lines last }
     ensures write_fault { result ≡ Status.WriteFault → HasRisen (E.write_faults err.old) (E.write_faults err.new) }
     ensures unfailed_lines { result ≡ Status.Done → E.write_faults err.new ≡ E.write_faults err.old }
     ensures door_faults { CountsDoor result (D.seen door.old).faults (D.seen door.new).faults }
@@ -91,7 +92,7 @@ fn serve<D: Door, E: Sink>(
     err: &mut E,
 ) -> Status
     requires { IsTrue (D.seen door.old).tells → (D.seen door.old).started ≡ Some address.now }
-    ensures reported { (lines : List ℕ) × (last : List ℕ) × IsServingReported (D.seen door.old) (D.seen door.new) address.now count store.now result lines last × (IsTrue E.tells_held → Gains (E.held err.old ++ lines) (E.held err.new) (E.write_faults err.old) (E.write_faults err.new) last) }
+    ensures reported { (lines : List ℕ) × (last : List ℕ) × IsServingReported (D.seen door.old) (D.seen door.new) address.now count store.now result lines last × (IsTrue E.tells_held → Gains (E.held err.old ++ lines) (E.held err.new) (E.write_faults err.old) (E.write_faults err.new) last) × IsLastCut result (sink_written E.tells_held E.held E.write_faults err.old err.new) lines last }
     ensures write_fault { result ≡ Status.WriteFault → HasRisen (E.write_faults err.old) (E.write_faults err.new) }
     ensures unfailed_lines { result ≡ Status.Done → E.write_faults err.new ≡ E.write_faults err.old }
     ensures door_faults { CountsDoor result (D.seen door.old).faults (D.seen door.new).faults }
@@ -165,6 +166,7 @@ fn end<E: Sink>(err: &mut E, error: DoorError) -> Status
 fn write_ending<E: Sink>(err: &mut E, number: u64, ending: Ending) -> Result<(), WriteFailed>
     ensures whole { IsTrue E.tells_held → OnOk result (E.held err.new ≡ E.held err.old ++ ending_line number ending) }
     ensures front { IsTrue E.tells_held → AppendsFront (E.held err.old) (E.held err.new) (ending_line number ending) }
+    ensures part { IsTrue E.tells_held → OnErr result (AppendsPart (E.held err.old) (E.held err.new) (ending_line number ending)) }
     ensures kept { E.write_faults err.old ≤ E.write_faults err.new }
     ensures failed { IsErr result → HasRisen (E.write_faults err.old) (E.write_faults err.new) }
     ensures faultless { OnOk result (E.write_faults err.new ≡ E.write_faults err.old) }

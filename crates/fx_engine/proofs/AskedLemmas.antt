@@ -1,7 +1,7 @@
 -- What asking over several wires leaves of them: nothing asked for, one call after the other, and what is given or lost in the end.
-use Rattle.std.proofs.Common.{◌≡◌, sym, subst, refl, ℕ, ◌+◌, ◌<◌, ◌≤◌, Bool, List, [], ◌++◌, IfErr, IfOk, Result, Ok, Err, Contains, IsPermutation, arith}
+use Rattle.std.proofs.Common.{◌≡◌, sym, subst, refl, ℕ, ◌+◌, ◌<◌, ◌≤◌, Bool, List, [], ◌++◌, All, IfErr, IfOk, Result, Ok, Err, Contains, IsPermutation, arith}
 use Rattle.std.proofs.lemmas.List.Elements.{All-append, All-nil}
-use Rattle.std.proofs.lemmas.List.Sorted.{Contains-permutation, IsPermutation-refl}
+use Rattle.std.proofs.lemmas.List.Sorted.{All-permutation, Contains-permutation, IsPermutation-refl}
 use Rattle.std.specs.declared.alloc.Global.{Global}
 use Rattle.std.specs.declared.vec.Vec.{Vec}
 use Rattle.fx_terms.proofs.SetLemmas.{among_from, contains_from}
@@ -17,7 +17,7 @@ use Rattle.fx_traffic.specs.Sent.{Sent}
 use Rattle.fx_traffic.proofs.GainLemmas.{gain_laws}
 use Rattle.fx_traffic.proofs.SentLemmas.{sent_laws}
 use Rattle.fx_wire.specs.Exchanges.{Exchange, Seen}
-use Rattle.fx_pool.specs.Flows.{IsCause}
+use Rattle.fx_pool.specs.Flows.{IsBatchRead, IsCause}
 use Rattle.fx_pool.specs.RunFlows.{HasFlowCause, IsFlowCause}
 use Rattle.fx_pool.specs.declared.flows.FlowError.{FlowError}
 use Rattle.fx_pool.specs.declared.flows.FlowError.TheVariants as flow
@@ -118,6 +118,7 @@ module _ (tells alone : Bool) (endpoints : List EndpointParts) (us : List unit.U
     left = [];
     sent = IsPermutation-refl [];
     of_batches = All-nil (IsBatchText endpoints block (Contains us));
+    faultless = All-nil (IsBatchRead (Contains us));
     known = λ graphs told. f graphs;
     cause = tt;
   }
@@ -134,6 +135,7 @@ module _ (tells alone : Bool) (endpoints : List EndpointParts) (us : List unit.U
     left = [];
     sent = IsPermutation-refl [];
     of_batches = All-nil (IsBatchText endpoints block (Contains us));
+    faultless = tt;
     known = λ graphs told. f graphs;
     cause = tt;
   }
@@ -152,6 +154,7 @@ module _ (tells alone : Bool) (endpoints : List EndpointParts) (us : List unit.U
       left = h.left;
       sent = h.sent;
       of_batches = h.of_batches;
+      faultless = h.faultless;
       known = λ graphs told. f graphs h.wanted (h.known graphs told);
       cause = tt;
     }
@@ -169,6 +172,7 @@ module _ (tells alone : Bool) (endpoints : List EndpointParts) (us : List unit.U
       left = h.left;
       sent = h.sent;
       of_batches = h.of_batches;
+      faultless = tt;
       known = λ graphs told. f graphs h.wanted (h.known graphs told);
       cause = tt;
     }
@@ -186,6 +190,7 @@ module _ (tells alone : Bool) (endpoints : List EndpointParts) (us : List unit.U
       left = h.left;
       sent = h.sent;
       of_batches = h.of_batches;
+      faultless = tt;
       known = λ graphs told. f graphs h.wanted (h.known graphs told);
       cause = h.cause;
     }
@@ -211,10 +216,15 @@ module _ (tells alone : Bool) (endpoints : List EndpointParts) (us : List unit.U
           left = h.left ++ k.left;
           sent = sent_laws.any_order (h.wanted ++ k.wanted) (h.left ++ k.left) (h.exchanges ++ k.exchanges) both.all both.same (sent_laws.together h.wanted h.left k.wanted k.left h.exchanges k.exchanges h.sent k.sent);
           of_batches = All-append (IsBatchText endpoints block (Contains us)) h.wanted k.wanted h.of_batches k.of_batches;
+          faultless = faultless both.all both.same r k.faultless;
           known = λ graphs told. known r graphs (h.known graphs told) (k.known graphs (still_tell_all before between none.after_all endpoints graphs told));
           cause = cause both.all both.same r k.cause;
         }
       where
+        faultless : (all : List Exchange) → IsPermutation (h.exchanges ++ k.exchanges) all → (o : Result Y FlowError) → IfOk o (λ _. All (IsBatchRead (Contains us)) k.exchanges) → IfOk o (λ _. All (IsBatchRead (Contains us)) all)
+        faultless all same (Ok y) g = All-permutation (IsBatchRead (Contains us)) (h.exchanges ++ k.exchanges) all same (All-append (IsBatchRead (Contains us)) h.exchanges k.exchanges h.faultless g)
+        faultless all same (Err why) g = tt
+
         known : (o : Result Y FlowError) (graphs : List (List Triple)) → Given graphs h.wanted x → Knows Given_next Due_next graphs k.wanted o → Knows Given_both Due_both graphs (h.wanted ++ k.wanted) o
         known (Ok y) graphs g n = f graphs h.wanted k.wanted y g n
         known (Err why) graphs g n = d graphs h.wanted k.wanted g n

@@ -3,8 +3,8 @@ use Rattle.std.proofs.Common.{◌≡◌, ◌∙◌, ap, sym, subst, refl, ℕ, �
 use Rattle.std.specs.List.{AllByRecursion, zip}
 use Rattle.std.proofs.Math.Seq.{take-add}
 use Rattle.std.proofs.lemmas.List.{length-map, length-drop, length-take-le}
-use Rattle.std.proofs.lemmas.List.Elements.{All-append, All-contains, All-from_recursion, recursion_from_All, Contains-append_left, Contains-append_right}
-use Rattle.std.proofs.lemmas.List.Sorted.{Contains-permutation, IsPermutation-append, IsPermutation-append_left, IsPermutation-refl, IsPermutation-trans}
+use Rattle.std.proofs.lemmas.List.Elements.{All-append, All-contains, All-from_recursion, All-weaker, recursion_from_All, Contains-append_left, Contains-append_right}
+use Rattle.std.proofs.lemmas.List.Sorted.{All-permutation, Contains-permutation, IsPermutation-append, IsPermutation-append_left, IsPermutation-refl, IsPermutation-trans}
 use Rattle.fx_terms.specs.declared.triples.Triple.{Triple}
 use Rattle.fx_terms.proofs.SetLemmas.{Among, among_from, contains_from}
 use Rattle.fx_outside.specs.Endpoints.{EndpointParts}
@@ -25,9 +25,9 @@ use Rattle.fx_pool.specs.declared.jobs.JobReply.{JobReply}
 use Rattle.fx_pool.specs.declared.jobs.JobReply.TheVariants as reply
 use Rattle.fx_pool.proofs.WireLemmas.{after_itself}
 use Rattle.fx_engine.specs.AskSteps.{AreTruthsOf, IsRefused, job_of}
-use Rattle.fx_engine.specs.Asks.{AskedAll, HasProbeCause, IsAnsweredBy, IsAskCause, IsProbeCause}
+use Rattle.fx_engine.specs.Asks.{AskedAll, HasProbeCause, IsAnsweredBy, IsAskCause, IsAskRead, IsProbeCause}
 use Rattle.fx_engine.proofs.WiresLemmas.{AllTell, all_after, gained_both, still_tell, still_tell_all}
-use Rattle.fx_engine.proofs.ProbeLemmas.{AllAmong, all_answered, all_told, among_probes, as_many, asks_sent, cause, done_at, failed_counts, no_failures}
+use Rattle.fx_engine.proofs.ProbeLemmas.{AllAmong, all_answered, all_read, all_told, among_probes, as_many, asks_sent, cause, done_at, failed_counts, no_failures}
 
 module _ (tells alone : Bool) (es : List EndpointParts) where
   -- ---- at once
@@ -47,6 +47,7 @@ module _ (tells alone : Bool) (es : List EndpointParts) where
     texts = refl;
     sent = IsPermutation-refl [];
     many = tt;
+    faultless = tt;
     answered = tt;
     told = tt;
     cause = tt;
@@ -67,6 +68,7 @@ module _ (tells alone : Bool) (es : List EndpointParts) where
     texts = refl;
     sent = IsPermutation-refl [];
     many = refl;
+    faultless = All-from_recursion (IsAskRead []) [] tt;
     answered = All-from_recursion (IsAnsweredBy es []) [] tt;
     told = λ graphs told. All-from_recursion (source.Tells graphs) [] tt;
     cause = tt;
@@ -91,6 +93,7 @@ module _ (tells alone : Bool) (es : List EndpointParts) where
       texts = asks_sent es ps h.of_jobs.wanted h.of_jobs.of_jobs;
       sent = h.of_jobs.sent;
       many = tt;
+      faultless = tt;
       answered = tt;
       told = tt;
       cause = tt;
@@ -111,6 +114,7 @@ module _ (tells alone : Bool) (es : List EndpointParts) where
       texts = asks_sent es ps h.of_jobs.wanted h.of_jobs.of_jobs;
       sent = h.of_jobs.sent;
       many = many r k;
+      faultless = faultless r k;
       answered = answered r k;
       told = told r k;
       cause = cause_in r k;
@@ -130,6 +134,10 @@ module _ (tells alone : Bool) (es : List EndpointParts) where
         many : (o : Result (List Bool) FlowError) → AreTruthsOf ps rs o → IfOk o (λ truths. length truths ≡ length ps)
         many (Ok truths) are = sym (length-map truths (λ truth. reply.Truth truth)) ∙ ap length (sym are) ∙ as_many es ps rs h.exchanges h.done
         many (Err e) are = tt
+
+        faultless : (o : Result (List Bool) FlowError) → AreTruthsOf ps rs o → IfOk o (λ _. All (IsAskRead ps) h.exchanges)
+        faultless (Ok truths) are = all_read es ps ps (λ p m. m) truths h.exchanges (done truths are)
+        faultless (Err e) are = tt
 
         answered : (o : Result (List Bool) FlowError) → AreTruthsOf ps rs o → IfOk o (λ truths. All (IsAnsweredBy es h.exchanges) (zip ps truths))
         answered (Ok truths) are = All-from_recursion (IsAnsweredBy es h.exchanges) (zip ps truths) (all_answered es ps truths h.exchanges h.exchanges (λ x m. m) (done truths are))
@@ -189,6 +197,9 @@ module _ (tells alone : Bool) (es : List EndpointParts) where
 
   -- ---- some after the other
 
+  asks_read : (ps more : List Probe) → ((p : Probe) → Contains ps p → Contains more p) → (xs : List Exchange) → All (IsAskRead ps) xs → All (IsAskRead more) xs
+  asks_read ps more of xs h = All-weaker (IsAskRead ps) (IsAskRead more) (λ x r. record { probe = r.probe; among = of r.probe r.among; posts = r.posts; truth = r.truth; tells = r.tells }) xs h
+
   asks_both : (ps qs : List Probe) (ws vs : List Sent) → AreAsksSent es ps ws → AreAsksSent es qs vs → AreAsksSent es (ps ++ qs) (ws ++ vs)
   asks_both [] qs ws vs h k = subst (λ (v : List Sent). AreAsksSent es qs (v ++ vs)) (sym h) k
   asks_both (p ∷ ps) qs [] vs h k = absurd h
@@ -231,6 +242,7 @@ module _ (tells alone : Bool) (es : List EndpointParts) where
           texts = asks_both h.asked k.asked h.wanted k.wanted h.texts k.texts;
           sent = sent_laws.any_order (h.wanted ++ k.wanted) (h.left ++ k.left) (h.exchanges ++ k.exchanges) both.all both.same (sent_laws.together h.wanted h.left k.wanted k.left h.exchanges k.exchanges h.sent k.sent);
           many = many r k.many;
+          faultless = faultless both.all both.same r k.faultless;
           answered = answered both.all front k.exchanges back r k.answered;
           told = told r k.told;
           cause = cause_of both.all k.exchanges back r k.cause;
@@ -249,6 +261,12 @@ module _ (tells alone : Bool) (es : List EndpointParts) where
             let two : length (ps ++ qs) ≡ length ps + length qs = length-append ps qs in
             omega (arith, first, second, one, two)
         many (Err e) g = tt
+
+        faultless : (all : List Exchange) → IsPermutation (h.exchanges ++ k.exchanges) all → (o : Result (List Bool) FlowError) → IfOk o (λ _. All (IsAskRead qs) k.exchanges) → IfOk (behind truths o) (λ _. All (IsAskRead (ps ++ qs)) all)
+        faultless all same (Ok more) g =
+            All-permutation (IsAskRead (ps ++ qs)) (h.exchanges ++ k.exchanges) all same
+            (All-append (IsAskRead (ps ++ qs)) h.exchanges k.exchanges (asks_read ps (ps ++ qs) (λ p m. Contains-append_left ps qs p m) h.exchanges h.faultless) (asks_read qs (ps ++ qs) (λ p m. Contains-append_right ps qs p m) k.exchanges g))
+        faultless all same (Err e) g = tt
 
         zipped : (P : Probe × Bool → Type 0) (more : List Bool) → All P (zip ps truths) → All P (zip qs more) → All P (zip (ps ++ qs) (truths ++ more))
         zipped P more f g = subst (All P) (sym (zip_both ps qs truths more h.many)) (All-append P (zip ps truths) (zip qs more) f g)
@@ -287,6 +305,7 @@ module _ (tells alone : Bool) (es : List EndpointParts) where
     texts = h.texts;
     sent = h.sent;
     many = tt;
+    faultless = tt;
     answered = tt;
     told = tt;
     cause = cause_behind s s t (after_itself s) ps (ps ++ rest) (λ p m. Contains-append_left ps rest p m) h.exchanges h.exchanges (λ x m. m) e h.cause;
@@ -307,6 +326,7 @@ module _ (tells alone : Bool) (es : List EndpointParts) where
     texts = h.texts;
     sent = h.sent;
     many = tt;
+    faultless = tt;
     answered = tt;
     told = tt;
     cause = tt;

@@ -23,11 +23,12 @@ use Rattle.fx_traffic.specs.Gains.{AreAfter, Tell}
 use Rattle.fx_traffic.specs.Sent.{Sent}
 use Rattle.fx_traffic.proofs.TextLemmas.{texts_of_more}
 use Rattle.fx_wire.specs.Exchanges.{Exchange, Seen}
-use Rattle.fx_pool.specs.Flows.{IsBadBatch, IsLongBatch}
+use Rattle.fx_pool.specs.Flows.{IsBadBatch, IsBatchRead, IsLongBatch}
 use Rattle.fx_pool.specs.RunFlows.{HasFlowCause, IsFlowCause}
 use Rattle.fx_pool.specs.declared.flows.FlowError.{FlowError}
 use Rattle.fx_pool.specs.declared.flows.FlowError.TheVariants as flow
 use Rattle.fx_pool.specs.declared.jobs.BadReply.{BadReply}
+use Rattle.fx_pool.proofs.UnitsLemmas.{read_of_more}
 use Rattle.fx_engine.specs.GroupsAsked.{CanBeAsked, part_units, units_in}
 use Rattle.fx_engine.specs.Mediation.{HasFedCause, IsBatchFor, IsNamed, IsPlaced, IsUnitOf}
 use Rattle.fx_engine.specs.Sections.{part_with, parts_by, run_patterns, sections}
@@ -100,6 +101,10 @@ module _ (es : List EndpointParts) (q : Query) (n : ℕ) (entries : List Entry) 
   pub texts_of_query : (block : ℕ) (xs : List Sent) → All (IsBatchText es block (Contains (units_in parts))) xs → All (IsBatchText es block (IsUnitOf q)) xs
   texts_of_query block xs h = texts_of_more es block (Contains (units_in parts)) (IsUnitOf q) unit_of_query xs h
 
+  -- and what is read of their replies
+  pub read_of_query : (xs : List Exchange) → All (IsBatchRead (Contains (units_in parts))) xs → All (IsBatchRead (IsUnitOf q)) xs
+  read_of_query xs h = read_of_more (Contains (units_in parts)) (IsUnitOf q) unit_of_query xs h
+
 -- ---- the cause
 
 some_pattern : (q : Query) (u : unit.Unit) → IsFit u → All (Contains (patterns q)) u.patterns → 0 < length (patterns q)
@@ -144,6 +149,10 @@ module _ (es : List EndpointParts) (q : Query) (old : List Entry) (n : ℕ) (ent
   named_batch_cause flow.Memory (fed.Member name) k n = absurd n
   named_batch_cause flow.Memory (fed.BadReply name other) k n = absurd n
   named_batch_cause flow.Memory (fed.RequestTooLong name other) k n = absurd n
+  named_batch_cause (flow.Member at) (fed.UnknownService iri) k n = absurd n
+  named_batch_cause (flow.BadReply at bad) (fed.UnknownService iri) k n = absurd n
+  named_batch_cause (flow.RequestTooLong at size) (fed.UnknownService iri) k n = absurd n
+  named_batch_cause flow.Memory (fed.UnknownService iri) k n = absurd n
 
   batch_cause : (why : FlowError) (e : FedError) → HasFlowCause s t es (units_in parts) block wanted xs why → IsNamed es why e → HasFedCause s t es q old wanted xs block e
   batch_cause (flow.Member at) e k n = named_batch_cause (flow.Member at) e k n
@@ -153,6 +162,7 @@ module _ (es : List EndpointParts) (q : Query) (old : List Entry) (n : ℕ) (ent
   batch_cause flow.Memory (fed.Member name) k n = absurd n
   batch_cause flow.Memory (fed.BadReply name other) k n = absurd n
   batch_cause flow.Memory (fed.RequestTooLong name other) k n = absurd n
+  batch_cause flow.Memory (fed.UnknownService iri) k n = absurd n
 
 -- the cause behind other exchanges
 pub batch_cause_behind : (es : List EndpointParts) (q : Query) (old : List Entry) (n : ℕ) (entries : List Entry) (parts : List Part) → parts ≡ parts_by (sections q) (chosen q n entries) → All (CanBeAsked (length es)) parts → (block : ℕ) (s t u : List Seen) → AreAfter s t

@@ -43,6 +43,7 @@ truths_lost tells alone s t es ps truths h = record {
   texts = h.texts;
   sent = h.sent;
   many = tt;
+  faultless = tt;
   answered = tt;
   told = tt;
   cause = tt;
@@ -167,6 +168,10 @@ module _ (es : List EndpointParts) (q : Query) (old : List Entry) (s t : List Se
   named_cause flow.Memory (fed.Member name) k n = absurd n
   named_cause flow.Memory (fed.BadReply name other) k n = absurd n
   named_cause flow.Memory (fed.RequestTooLong name other) k n = absurd n
+  named_cause (flow.Member at) (fed.UnknownService iri) k n = absurd n
+  named_cause (flow.BadReply at bad) (fed.UnknownService iri) k n = absurd n
+  named_cause (flow.RequestTooLong at size) (fed.UnknownService iri) k n = absurd n
+  named_cause flow.Memory (fed.UnknownService iri) k n = absurd n
 
   pub plan_cause : (why : FlowError) (e : FedError) → HasProbeCause s t es (missing q (length es) old) xs why → IsNamed es why e → HasPlanCause s t es q old xs e
   plan_cause (flow.Member at) e k n = named_cause (flow.Member at) e k n
@@ -176,6 +181,7 @@ module _ (es : List EndpointParts) (q : Query) (old : List Entry) (s t : List Se
   plan_cause flow.Memory (fed.Member name) k n = absurd n
   plan_cause flow.Memory (fed.BadReply name other) k n = absurd n
   plan_cause flow.Memory (fed.RequestTooLong name other) k n = absurd n
+  plan_cause flow.Memory (fed.UnknownService iri) k n = absurd n
 
   pub probe_placed : (why : FlowError) → HasProbeCause s t es (missing q (length es) old) xs why → IsPlaced (length es) why
   probe_placed (flow.Member at) k = below es k.probe.at at k.endpoint k.named k.found

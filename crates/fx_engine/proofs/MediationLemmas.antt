@@ -1,14 +1,15 @@
 -- A query was asked over wires: its plan or its answer, or the cause of a refusal.
-use Rattle.std.proofs.Common.{◌≡◌, ◌∙◌, sym, subst, refl, ℕ, ◌+◌, ◌≤◌, ◌⊎◌, inl, Bool, List, [], ◌++◌, length, Ok, Err, IfErr, IfOk, IsTrue, Result, arith, append-nil}
-use Rattle.std.specs.Prelude.{All, Contains}
-use Rattle.std.proofs.lemmas.List.Elements.{All-nil, Contains-append_left, Contains-append_right}
-use Rattle.std.proofs.lemmas.List.Sorted.{Contains-permutation}
+use Rattle.std.proofs.Common.{◌≡◌, ◌∙◌, ap, sym, subst, refl, ℕ, ◌+◌, ◌≤◌, ◌⊎◌, inl, inr, Bool, List, [], ◌++◌, length, None, Ok, Err, IfErr, IfOk, IsTrue, Result, arith, append-nil}
+use Rattle.std.specs.Prelude.{All, Contains, IsPermutation}
+use Rattle.std.proofs.lemmas.List.Elements.{All-append, All-nil, All-weaker, Contains-append_left, Contains-append_right}
+use Rattle.std.proofs.lemmas.List.Sorted.{All-permutation, Contains-permutation, IsPermutation-refl}
 use Rattle.std.specs.List.{zip}
 use Rattle.fx_terms.specs.declared.triples.Triple.{Triple}
 use Rattle.fx_outside.specs.Endpoints.{EndpointParts}
 use Rattle.fx_algebra.specs.Answers.{answer_alone, no_graphs}
 use Rattle.fx_algebra.specs.Cuts.{seeds, stations}
 use Rattle.fx_algebra.specs.Graphs.{union}
+use Rattle.fx_algebra.specs.Occurrences.{services}
 use Rattle.fx_algebra.specs.Units.{sources}
 use Rattle.fx_algebra.specs.declared.answers.Answer.{Answer}
 use Rattle.fx_algebra.specs.declared.queries.Query.{Query}
@@ -27,12 +28,16 @@ use Rattle.fx_traffic.specs.Traffic.{AreStationsSent}
 use Rattle.fx_traffic.proofs.GainLemmas.{gain_laws}
 use Rattle.fx_traffic.proofs.SentLemmas.{sent_laws}
 use Rattle.fx_wire.specs.Exchanges.{Exchange, Seen}
+use Rattle.fx_pool.specs.Flows.{IsBatchRead}
 use Rattle.fx_pool.specs.declared.flows.FlowError.{FlowError}
+use Rattle.fx_pool.specs.declared.flows.FlowError.TheVariants as flow
+use Rattle.fx_pool.proofs.WireLemmas.{after_itself}
 use Rattle.fx_engine.specs.AnswersAsked.{AnswerDue, AnswerGiven}
 use Rattle.fx_engine.specs.Asked.{Asked, Knows}
-use Rattle.fx_engine.specs.Asks.{AskedAll}
-use Rattle.fx_engine.specs.Mediation.{AreKnown, Federated, HasFedCause, HasKept, HasLearned, HasPlanCause, HoldsBehind, IsNamed, IsUnitOf, Planned}
+use Rattle.fx_engine.specs.Asks.{AskedAll, IsAskRead}
+use Rattle.fx_engine.specs.Mediation.{AreKnown, Federated, HasFedCause, HasKept, HasLearned, HasPlanCause, HoldsBehind, IsNamed, IsRead, IsUnitOf, KnowsServices, Planned}
 use Rattle.fx_engine.specs.Sections.{parts_by, parts_with, sections}
+use Rattle.fx_engine.specs.Unknown.{first_unknown, unknown_of}
 use Rattle.fx_engine.specs.declared.mediator.FedError.{FedError}
 use Rattle.fx_engine.specs.declared.mediator.FedError.TheVariants as fed
 use Rattle.fx_engine.specs.declared.mediator.Outcome.{Outcome}
@@ -46,8 +51,45 @@ stays X es q old xs fed.Memory = all_kept es q old xs
 stays X es q old xs (fed.Member name) = refl
 stays X es q old xs (fed.BadReply name bad) = refl
 stays X es q old xs (fed.RequestTooLong name size) = refl
+stays X es q old xs (fed.UnknownService iri) = refl
 
-module _ (tells alone : Bool) (s t : List Seen) (es : List EndpointParts) (q : Query) (old : List Entry) where
+-- a query without SERVICE has none that is unknown
+pub none_unknown : (es : List EndpointParts) (q : Query) → services q ≡ [] → unknown_of es q ≡ None
+none_unknown es q alone = ap (first_unknown es) alone
+
+-- a refusal that names an endpoint comes where each SERVICE is known
+pub known_named : (X : Type 0) (es : List EndpointParts) (q : Query) (why : FlowError) (e : FedError) → IsNamed es why e → unknown_of es q ≡ None → KnowsServices {X = X} es q (Err e)
+known_named X es q why (fed.Member name) n known = known
+known_named X es q why (fed.BadReply name bad) n known = known
+known_named X es q why (fed.RequestTooLong name size) n known = known
+known_named X es q why fed.Memory n known = tt
+known_named X es q (flow.Member at) (fed.UnknownService iri) n known = absurd n
+known_named X es q (flow.BadReply at bad) (fed.UnknownService iri) n known = absurd n
+known_named X es q (flow.RequestTooLong at size) (fed.UnknownService iri) n known = absurd n
+known_named X es q flow.Memory (fed.UnknownService iri) n known = absurd n
+
+-- nothing is asked where a SERVICE is unknown, or memory lacks
+pub planned_unasked : (tells alone : Bool) (wires : List Seen) (es : List EndpointParts) (q : Query) (old : List Entry) (e : FedError) → KnowsServices {X = List Part} es q (Err e) → HasPlanCause wires wires es q old [] e → Planned tells alone wires wires es q old old (Err e)
+planned_unasked tells alone wires es q old e known cause = record {
+  exchanges = [];
+  gained = λ told. gain_laws.nothing wires;
+  after_all = after_itself wires;
+  quiet = λ is. tt;
+  asks = [];
+  asked = record { probes = []; unasked = missing q (length es) old; lacked = IsPermutation-refl (missing q (length es) old); texts = refl };
+  left = [];
+  sent = IsPermutation-refl [];
+  faultless = tt;
+  parts = tt;
+  by_answers = tt;
+  within = tt;
+  known = known;
+  cause = cause;
+  held = stays (List Part) es q old [] e;
+  stays_true = λ graphs is. is.entries_are;
+}
+
+module _ (tells alone : Bool) (s t : List Seen) (es : List EndpointParts) (q : Query) (old : List Entry) (known : unknown_of es q ≡ None) where
   abbrev probes : List Probe
   probes = missing q (length es) old
 
@@ -70,9 +112,11 @@ module _ (tells alone : Bool) (s t : List Seen) (es : List EndpointParts) (q : Q
     asked = record { probes = h.asked; unasked = h.unasked; lacked = h.split; texts = h.texts };
     left = h.left;
     sent = h.sent;
+    faultless = tt;
     parts = tt;
     by_answers = tt;
     within = tt;
+    known = known_named (List Part) es q why e n known;
     cause = plan_cause es q old s t h.exchanges why e h.cause n;
     held = stays (List Part) es q old h.exchanges e;
     stays_true = stays_as_known;
@@ -97,9 +141,11 @@ module _ (tells alone : Bool) (s t : List Seen) (es : List EndpointParts) (q : Q
           asked = record { probes = h.asked; unasked = h.unasked; lacked = h.split; texts = h.texts };
           left = h.left;
           sent = h.sent;
+          faultless = h.faultless;
           parts = λ graphs known. are ∙ parts_are_by_graphs s es q old graphs truths known.told known.entries_are h.many (h.told graphs known.told);
           by_answers = record { answers = learns; parts_are = are };
           within = within;
+          known = known;
           cause = tt;
           held = learns;
           stays_true = learned_true new so;
@@ -115,9 +161,11 @@ module _ (tells alone : Bool) (s t : List Seen) (es : List EndpointParts) (q : Q
       asked = record { probes = h.asked; unasked = h.unasked; lacked = h.split; texts = h.texts };
       left = h.left;
       sent = h.sent;
+      faultless = tt;
       parts = tt;
       by_answers = tt;
       within = tt;
+      known = tt;
       cause = tt;
       held = has_kept es q old h.exchanges h.exchanges (λ x m. m) truths h.answered new kept;
       stays_true = kept_true new kept;
@@ -134,6 +182,7 @@ module _ (tells alone : Bool) (s t : List Seen) (es : List EndpointParts) (q : Q
     fed_cause xs texts (fed.Member name) k = k
     fed_cause xs texts (fed.BadReply name bad) k = (k.0, k.1, k.2, inl k.3)
     fed_cause xs texts (fed.RequestTooLong name size) k = (k.0, k.1, k.2, inl k.3)
+    fed_cause xs texts (fed.UnknownService iri) k = k
     fed_cause xs texts fed.Memory k = tt
 
     pub federated_refused : (why : FlowError) (e : FedError) → AskedAll tells alone s t es probes (Err why) → IsNamed es why e → Federated tells alone s t es q old old block (Err e)
@@ -149,8 +198,10 @@ module _ (tells alone : Bool) (s t : List Seen) (es : List EndpointParts) (q : Q
       of_stations = λ graphs known. nothing_more graphs;
       left = h.left;
       sent = subst (λ (v : List Sent). Sends v h.left h.exchanges) (sym (append-nil h.wanted)) h.sent;
+      faultless = tt;
       answer = tt;
       none_down = tt;
+      known = known_named Outcome es q why e n known;
       cause = fed_cause h.exchanges [] e (plan_cause es q old s t h.exchanges why e h.cause n);
       held = stays Outcome es q old h.exchanges e;
       stays_true = stays_as_known;
@@ -177,6 +228,12 @@ module _ (tells alone : Bool) (s t : List Seen) (es : List EndpointParts) (q : Q
           omega (arith, low, high, same, none)
       unfaulted (Err e) none is = tt
 
+      faultless : (all : List Exchange) → IsPermutation (h.exchanges ++ k.exchanges) all → (o : Result Outcome FedError) → IfOk o (λ _. All (IsBatchRead (IsUnitOf q)) k.exchanges) → IfOk o (λ _. All (IsRead es q old) all)
+      faultless all same (Ok outcome) read =
+          All-permutation (IsRead es q old) (h.exchanges ++ k.exchanges) all same
+          (All-append (IsRead es q old) h.exchanges k.exchanges (All-weaker (IsAskRead probes) (IsRead es q old) (λ x r. inl r) h.exchanges h.faultless) (All-weaker (IsBatchRead (IsUnitOf q)) (IsRead es q old) (λ x r. inr r) k.exchanges read))
+      faultless all same (Err e) read = tt
+
       abbrev Among : List Exchange → List Exchange → Type 0
       Among xs all = (x : Exchange) → Contains xs x → Contains all x
 
@@ -184,9 +241,11 @@ module _ (tells alone : Bool) (s t : List Seen) (es : List EndpointParts) (q : Q
           → ((all : List Exchange) → Among k.exchanges all → IfErr o (HasFedCause s u es q old k.wanted all block))
           → ((all : List Exchange) → Among h.exchanges all → HoldsBehind es q old new all o)
           → All (IsBatchText es block (IsUnitOf q)) k.wanted
+          → IfOk o (λ _. All (IsBatchRead (IsUnitOf q)) k.exchanges)
+          → KnowsServices es q o
           → StaysTrue new
           → Federated tells alone s u es q old new block o
-      federated o new none answer down cause held of_batches still =
+      federated o new none answer down cause held of_batches read knows still =
           let both = gained_both tells s t u h.exchanges k.exchanges h.gained k.went.gained in
           record {
             exchanges = both.all;
@@ -200,8 +259,10 @@ module _ (tells alone : Bool) (s t : List Seen) (es : List EndpointParts) (q : Q
             of_stations = λ graphs known. sent_for r graphs (by_graphs graphs known) (behind_them graphs known);
             left = h.left ++ k.left;
             sent = sent_laws.any_order (h.wanted ++ k.wanted) (h.left ++ k.left) (h.exchanges ++ k.exchanges) both.all both.same (sent_laws.together h.wanted h.left k.wanted k.left h.exchanges k.exchanges h.sent k.sent);
+            faultless = faultless both.all both.same o read;
             answer = answer;
             none_down = down;
+            known = knows;
             cause = cause both.all (λ x m. Contains-permutation (h.exchanges ++ k.exchanges) both.all x both.same (Contains-append_right h.exchanges k.exchanges x m));
             held = held both.all (λ x m. Contains-permutation (h.exchanges ++ k.exchanges) both.all x both.same (Contains-append_left h.exchanges k.exchanges x m));
             stays_true = still;

@@ -1,7 +1,7 @@
 -- What one reply to the ASK of a probe tells, or why there is no answer.
 use Rattle.std.proofs.Common.{◌≡◌, ◌∙◌, ap, sym, subst, refl, ℕ, zero, suc, ◌<◌, ◌≤◌, Bool, true, false, List, [], ◌∷◌, ◌++◌, map, Some, All, Contains, cond, length, ltb, ltb-true, ltb-false, slice_get, inl, inr, ◌⊎◌, arith}
 use Rattle.std.specs.List.{AllByRecursion, zip}
-use Rattle.std.proofs.lemmas.List.Elements.{All-contains, Contains-append_left, Contains-append_right}
+use Rattle.std.proofs.lemmas.List.Elements.{All-append, All-contains, All-from_recursion, All-nil, Contains-append_left, Contains-append_right}
 use Rattle.std.proofs.lemmas.Slice.Eq.{bytes_eq-Decides}
 use Rattle.fx_terms.specs.declared.triples.Triple.{Triple}
 use Rattle.fx_terms.proofs.SetLemmas.{Among, contains_from}
@@ -29,7 +29,7 @@ use Rattle.fx_pool.specs.declared.jobs.JobReply.TheVariants as reply
 use Rattle.fx_pool.proofs.AskJobLemmas.{IsReplied, bad_replied, no_table, none_found, too_long, truth_replied}
 use Rattle.fx_pool.proofs.FaultLemmas.{long_truth, truth_faultless}
 use Rattle.fx_engine.specs.AskSteps.{IsForAsk, IsRefusal, job_of}
-use Rattle.fx_engine.specs.Asks.{HasProbeCause, IsAnsweredBy, IsBadAsk}
+use Rattle.fx_engine.specs.Asks.{HasProbeCause, IsAnsweredBy, IsAskRead, IsBadAsk}
 use Rattle.fx_engine.proofs.TruthLemmas.{honest_truth, same_truth}
 
 -- all of these exchanges are among those
@@ -66,6 +66,13 @@ module _ (es : List EndpointParts) (p : Probe) (own all : List Exchange) (more :
   answered truth d =
       let k = truth_replied es p.at text own truth d in
       record { exchange = exchanged d.endpoint k.request k.bytes; among = here d.endpoint (λ request bytes. HasResults bytes (Truth truth)) k; found = d.found; posts = k.posts.exact; told = k.told }
+
+  -- and that is read
+  pub read : (ps : List Probe) → Contains ps p → (truth : Bool) → Came (reply.Truth truth) → All (IsAskRead ps) own
+  read ps its truth d =
+      let k = truth_replied es p.at text own truth d in
+      let x = exchanged d.endpoint k.request k.bytes in
+      subst (All (IsAskRead ps)) (sym k.exchanged_so) (All-from_recursion (IsAskRead ps) (x ∷ []) (record { probe = p; among = its; posts = k.posts.exact; truth = truth; tells = k.told }, tt))
 
   -- where the reply isn't too long it is honest
   told_honest : (wires : List Seen) → All (IsHonestOver wires) all → (e : EndpointParts) (request bytes : List ℕ) → Contains all (exchanged e request bytes) → (g : List Triple) → Tell wires e.iri g → length bytes ≤ 67108864 → IsHonest g request bytes
@@ -155,6 +162,14 @@ module _ (es : List EndpointParts) where
   all_answered (p ∷ ps) [] xs all more h = tt
   all_answered (p ∷ ps) (t ∷ truths) xs all more h =
       (answered es p h.0 all (λ x m. more x (front_among xs h.0 h.1 h.2 x m)) t h.3, all_answered ps truths h.1 all (λ x m. more x (back_among xs h.0 h.1 h.2 x m)) h.4)
+
+  pub all_read : (all ps : List Probe) → ((p : Probe) → Contains ps p → Contains all p) → (truths : List Bool) (xs : List Exchange) → AreDone es (map job_of ps) (truths_of truths) xs → All (IsAskRead all) xs
+  all_read all [] among [] xs h = subst (All (IsAskRead all)) (sym h) (All-nil (IsAskRead all))
+  all_read all [] among (t ∷ truths) xs h = absurd h
+  all_read all (p ∷ ps) among [] xs h = absurd h
+  all_read all (p ∷ ps) among (t ∷ truths) xs h =
+      subst (All (IsAskRead all)) (sym h.2)
+      (All-append (IsAskRead all) h.0 h.1 (read es p h.0 h.0 (λ x m. m) all (among p (contains_from (p ∷ ps) p (inl refl))) t h.3) (all_read all ps (λ q m. among q (Contains-append_right (p ∷ []) ps q m)) truths h.1 h.4))
 
   pub all_told : (wires : List Seen) (graphs : List (List Triple)) → TellAll wires es graphs → (ps : List Probe) (truths : List Bool) (xs all : List Exchange) → AllAmong xs all → All (IsHonestOver wires) all → AllByRecursion (λ p. IsTriple p.key.pattern) ps
       → AreDone es (map job_of ps) (truths_of truths) xs → AllByRecursion (source.Tells graphs) (zip ps truths)

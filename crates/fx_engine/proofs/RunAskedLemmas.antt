@@ -26,9 +26,11 @@ use Rattle.fx_traffic.specs.Traffic.{IsStationSent, SentUnless}
 use Rattle.fx_traffic.proofs.FewerLemmas.{fewer_laws}
 use Rattle.fx_traffic.proofs.TextLemmas.{texts_of_more}
 use Rattle.fx_wire.specs.Exchanges.{Exchange, Seen}
+use Rattle.fx_pool.specs.Flows.{IsBatchRead}
 use Rattle.fx_pool.specs.RunFlows.{HasFlowCause, IsFlowCause, RunFlowed}
 use Rattle.fx_pool.specs.declared.flows.FlowError.{FlowError}
 use Rattle.fx_pool.specs.declared.flows.FlowError.TheVariants as flow
+use Rattle.fx_pool.proofs.UnitsLemmas.{read_of_more}
 use Rattle.fx_engine.specs.Asked.{Asked, Knows}
 use Rattle.fx_engine.specs.GroupsAsked.{ComesOf, IsRunFound, RunDue, RunGiven, part_units, planned, units_in}
 use Rattle.fx_engine.specs.Laws.{HasFitUnits, HasSoundUnits}
@@ -181,10 +183,15 @@ module _ (tells alone : Bool) (before after : List Seen) (endpoints : List Endpo
         left = h.left;
         sent = h.sent;
         of_batches = texts_of_more endpoints block (Contains units) (Contains (units_in parts)) of_plan h.wanted h.of_batches;
+        faultless = faultless r h.faultless;
         known = λ graphs told. known r h.done graphs told;
         cause = cause r h.cause;
       }
         where
+          faultless : (o : Result (List Row) FlowError) → IfOk o (λ _. All (IsBatchRead (Contains units)) h.exchanges) → IfOk o (λ _. All (IsBatchRead (Contains (units_in parts))) h.exchanges)
+          faultless (Ok found) k = read_of_more (Contains units) (Contains (units_in parts)) of_plan h.exchanges k
+          faultless (Err why) k = tt
+
           cause : (o : Result (List Row) FlowError) → IfErr o (HasFlowCause before after endpoints units block h.wanted h.exchanges) → IfErr o (HasFlowCause before after endpoints (units_in parts) block h.wanted h.exchanges)
           cause (Ok found) k = tt
           cause (Err why) k = has_cause h.wanted h.exchanges why k

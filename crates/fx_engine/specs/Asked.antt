@@ -7,6 +7,7 @@ use Rattle.fx_traffic.specs.Batches.{IsBatchText}
 use Rattle.fx_traffic.specs.Gains.{AreAfter, HaveGained, TellAll, faults_at}
 use Rattle.fx_traffic.specs.Sent.{Sent, Sends}
 use Rattle.fx_wire.specs.Exchanges.{Exchange, Seen}
+use Rattle.fx_pool.specs.Flows.{IsBatchRead}
 use Rattle.fx_pool.specs.RunFlows.{HasFlowCause}
 use Rattle.fx_pool.specs.declared.flows.FlowError.{FlowError}
 
@@ -23,7 +24,8 @@ Knows Given Due graphs wanted (Ok x) = Given graphs wanted x
 Knows Given Due graphs wanted (Err e) = Due graphs wanted
 
 -- Something was asked for, by units of these: what was exchanged, what was wanted of it, which is texts of batches of no more rows than so many, and
--- what is known of that and of the result where the graphs of the endpoints are told. At most one fault was counted, and none where something is given.
+-- what is known of that and of the result where the graphs of the endpoints are told. Where something is given each reply was read, without a fault. At
+-- most one fault was counted, and none where something is given.
 pub record Asked {X : Type 0} (tells alone : Bool) (before after : List Seen) (endpoints : List EndpointParts) (us : List unit.Unit) (block : ℕ) (Given : List (List Triple) → List Sent → X → Type 0) (Due : List (List Triple) → List Sent → Type 0) (result : Result X FlowError) : Type 0 where
   pub exchanges : List Exchange
   pub failed : ℕ
@@ -34,5 +36,6 @@ pub record Asked {X : Type 0} (tells alone : Bool) (before after : List Seen) (e
   pub left : List Sent
   pub sent : Sends wanted left exchanges
   pub of_batches : All (IsBatchText endpoints block (Contains us)) wanted
+  pub faultless : IfOk result (λ _. All (IsBatchRead (Contains us)) exchanges)
   pub known : (graphs : List (List Triple)) → TellAll before endpoints graphs → Knows Given Due graphs wanted result
   pub cause : IfErr result (HasFlowCause before after endpoints us block wanted exchanges)

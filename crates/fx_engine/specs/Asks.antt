@@ -29,6 +29,14 @@ pub record IsAnsweredBy (endpoints : List EndpointParts) (xs : List Exchange) (a
   pub posts : exchange.request ≡ request_of exchange.at (ask_text answer.0.key.pattern)
   pub told : HasResults exchange.reply (Truth answer.1)
 
+-- the exchange asks whether the key of one of these probes fits, and its reply tells a truth value, without a fault
+pub record IsAskRead (probes : List Probe) (x : Exchange) : Type 0 where
+  pub probe : Probe
+  pub among : Contains probes probe
+  pub posts : x.request ≡ request_of x.at (ask_text probe.key.pattern)
+  pub truth : Bool
+  pub tells : HasResults x.reply (Truth truth)
+
 -- a reply to the ASK of a probe has this first fault, and is the reply of one of the exchanges; where the graph is told, the fault is that the
 -- reply is too long
 pub record IsBadAsk (tells : List Triple → Type 0) (e : EndpointParts) (p : Probe) (xs : List Exchange) (bad : BadReply) : Type 0 where
@@ -78,6 +86,7 @@ pub record AskedAll (tells alone : Bool) (before after : List Seen) (endpoints :
   pub texts : AreAsksSent endpoints asked wanted
   pub sent : Sends wanted left exchanges
   pub many : IfOk result (λ truths. length truths ≡ length probes)
+  pub faultless : IfOk result (λ _. All (IsAskRead probes) exchanges)
   pub answered : IfOk result (λ truths. All (IsAnsweredBy endpoints exchanges) (zip probes truths))
   pub told : IfOk result (λ truths. (graphs : List (List Triple)) → TellAll before endpoints graphs → All (source.Tells graphs) (zip probes truths))
   pub cause : IfErr result (HasProbeCause before after endpoints probes exchanges)

@@ -12,3 +12,4 @@ pub mod Noted
 pub mod SectionSteps
 pub mod Sections
 pub mod ServicesAsked
+pub mod Unknown

@@ -1,5 +1,5 @@
 -- What a federation gives over several wires, and why it gives nothing.
-use Rattle.std.specs.Prelude.{◌≡◌, ◌<◌, ◌⊎◌, ◌++◌, ℕ, Bool, List, [], IfOk, IfErr, IsTrue, All, Contains, Some, Result, Ok, Err, length, slice_get}
+use Rattle.std.specs.Prelude.{◌≡◌, ◌<◌, ◌⊎◌, ◌++◌, ℕ, Bool, List, [], IfOk, IfErr, IsTrue, All, Contains, None, Some, Result, Ok, Err, length, slice_get}
 use Rattle.std.specs.List.{zip}
 use Rattle.std.specs.declared.alloc.Global.{Global}
 use Rattle.std.specs.declared.vec.Vec.{Vec}
@@ -15,7 +15,7 @@ use Rattle.fx_algebra.specs.declared.units.Unit as unit
 use Rattle.fx_grammar.specs.Accepted.{Accepted}
 use Rattle.fx_plan.specs.Explained.{HasMembers}
 use Rattle.fx_plan.specs.declared.parts.Part.{Part}
-use Rattle.fx_pool.specs.Flows.{IsBadBatch, IsLongBatch}
+use Rattle.fx_pool.specs.Flows.{IsBadBatch, IsBatchRead, IsLongBatch}
 use Rattle.fx_pool.specs.declared.flows.FlowError.{FlowError}
 use Rattle.fx_pool.specs.declared.flows.FlowError.TheVariants as flow
 use Rattle.fx_pool.specs.declared.jobs.BadReply.{BadReply}
@@ -29,8 +29,9 @@ use Rattle.fx_traffic.specs.Gains.{AreAfter, HaveGained, Tell, TellAll, faults_a
 use Rattle.fx_traffic.specs.Sent.{Sent, Sends}
 use Rattle.fx_traffic.specs.Traffic.{AreAsked, AreStationsSent}
 use Rattle.fx_wire.specs.Exchanges.{Exchange, Seen}
-use Rattle.fx_engine.specs.Asks.{IsAnsweredBy, IsBadAsk, IsLongAsk}
+use Rattle.fx_engine.specs.Asks.{IsAnsweredBy, IsAskRead, IsBadAsk, IsLongAsk}
 use Rattle.fx_engine.specs.Sections.{parts_by, parts_with, sections}
+use Rattle.fx_engine.specs.Unknown.{unknown_of}
 use Rattle.fx_engine.specs.declared.mediator.FedError.{FedError}
 use Rattle.fx_engine.specs.declared.mediator.FedError.TheVariants as fed
 use Rattle.fx_engine.specs.declared.mediator.Outcome.{Outcome}
@@ -86,11 +87,12 @@ abbrev pub AtNamed : List EndpointParts → List ℕ → (EndpointParts → Type
 AtNamed endpoints name P = (e : EndpointParts) × Contains endpoints e × (e.name ≡ name) × P e
 
 -- Why there is no plan, at the endpoint that the refusal names: its faults rose; a reply of it to an ASK is bad, which one of the exchanges has; an
--- ASK for it is too long.
+-- ASK for it is too long. Where a SERVICE is unknown nothing was asked.
 abbrev pub HasPlanCause : List Seen → List Seen → List EndpointParts → Query → List Entry → List Exchange → FedError → Type 0
 HasPlanCause before after endpoints q entries xs (fed.Member name) = (0 < length (patterns q)) × AtNamed endpoints name (λ e. faults_at before e.iri < faults_at after e.iri)
 HasPlanCause before after endpoints q entries xs (fed.BadReply name bad) = AtNamed endpoints name (λ e. HasBadAsk before endpoints q entries e xs bad)
 HasPlanCause before after endpoints q entries xs (fed.RequestTooLong name size) = AtNamed endpoints name (λ e. HasLongAsk endpoints q entries e size)
+HasPlanCause before after endpoints q entries xs (fed.UnknownService iri) = (after ≡ before) × (xs ≡ [])
 HasPlanCause before after endpoints q entries xs fed.Memory = Unit {0}
 
 -- Why there is no answer: such a cause, or so it is of a batch of no more rows than so many.
@@ -98,6 +100,7 @@ abbrev pub HasFedCause : List Seen → List Seen → List EndpointParts → Quer
 HasFedCause before after endpoints q entries texts xs block (fed.Member name) = (0 < length (patterns q)) × AtNamed endpoints name (λ e. faults_at before e.iri < faults_at after e.iri)
 HasFedCause before after endpoints q entries texts xs block (fed.BadReply name bad) = AtNamed endpoints name (λ e. HasBadAsk before endpoints q entries e xs bad ⊎ HasBadBatch before endpoints q block e xs bad)
 HasFedCause before after endpoints q entries texts xs block (fed.RequestTooLong name size) = AtNamed endpoints name (λ e. HasLongAsk endpoints q entries e size ⊎ HasLongBatch endpoints q block e texts size)
+HasFedCause before after endpoints q entries texts xs block (fed.UnknownService iri) = (after ≡ before) × (xs ≡ [])
 HasFedCause before after endpoints q entries texts xs block fed.Memory = Unit {0}
 
 -- the refusal, with the name of the endpoint in place of its number, unless memory ran out
@@ -117,6 +120,12 @@ IsPlaced count (flow.Member at) = at < count
 IsPlaced count (flow.BadReply at bad) = at < count
 IsPlaced count (flow.RequestTooLong at size) = at < count
 IsPlaced count flow.Memory = Unit {0}
+
+-- Each SERVICE without SILENT names an endpoint, unless the first that doesn't is told, or memory ran out.
+abbrev pub KnowsServices : {X : Type 0} → List EndpointParts → Query → Result X FedError → Type 0
+KnowsServices endpoints q (Err fed.Memory) = Unit {0}
+KnowsServices endpoints q (Err (fed.UnknownService iri)) = unknown_of endpoints q ≡ Some iri
+KnowsServices endpoints q result = unknown_of endpoints q ≡ None
 
 -- ---- the cache
 
@@ -141,11 +150,15 @@ pub record AreKnown (before : List Seen) (endpoints : List EndpointParts) (entri
   pub told : TellAll before endpoints graphs
   pub entries_are : All (source.Tells graphs) entries
 
+-- the exchange asks whether a key fits that the entries lack, or for a batch of a unit of the query, and its reply was read, without a fault
+abbrev pub IsRead : List EndpointParts → Query → List Entry → Exchange → Type 0
+IsRead endpoints q entries x = IsAskRead (missing q (length endpoints) entries) x ⊎ IsBatchRead (IsUnitOf q) x
+
 -- ---- a federation
 
 -- A query without SERVICE was asked over wires, in batches of so many rows at most: what was exchanged, one wire's part behind the other's; the ASKs and the
--- texts of batches that were wanted of it, which are those of the query's traffic where graphs are told; the answer over the union of the graphs, or the
--- cause; and what the cache holds, which stays true of graphs.
+-- texts of batches that were wanted of it, which are those of the query's traffic where graphs are told; with an answer, that each reply was read; the
+-- answer over the union of the graphs, or the cause; and what the cache holds, which stays true of graphs.
 pub record Federated (tells alone : Bool) (before after : List Seen) (endpoints : List EndpointParts) (q : Query) (old new : List Entry) (block : ℕ) (result : Result Outcome FedError) : Type 0 where
   pub exchanges : List Exchange
   pub gained : IsTrue tells → HaveGained before after exchanges
@@ -158,8 +171,10 @@ pub record Federated (tells alone : Bool) (before after : List Seen) (endpoints 
   pub of_stations : (graphs : List (List Triple)) → AreKnown before endpoints old graphs → AreStationsSent endpoints graphs block (stations q) (seeds q (union graphs) no_graphs []) texts
   pub left : List Sent
   pub sent : Sends (asks ++ texts) left exchanges
+  pub faultless : IfOk result (λ _. All (IsRead endpoints q old) exchanges)
   pub answer : IfOk result (λ outcome. (graphs : List (List Triple)) → AreKnown before endpoints old graphs → outcome.answer ≡ answer_alone q (union graphs))
   pub none_down : IfOk result (λ outcome. outcome.down ≡ [])
+  pub known : KnowsServices endpoints q result
   pub cause : IfErr result (HasFedCause before after endpoints q old texts exchanges block)
   pub held : HoldsBehind endpoints q old new exchanges result
   pub stays_true : (graphs : List (List Triple)) → AreKnown before endpoints old graphs → All (source.Tells graphs) new
@@ -180,9 +195,11 @@ pub record Planned (tells alone : Bool) (before after : List Seen) (endpoints : 
   pub asked : AreAsked endpoints q old asks
   pub left : List Sent
   pub sent : Sends asks left exchanges
+  pub faultless : IfOk result (λ _. All (IsAskRead (missing q (length endpoints) old)) exchanges)
   pub parts : IfOk result (λ parts. (graphs : List (List Triple)) → AreKnown before endpoints old graphs → parts ≡ parts_with (sources graphs) q)
   pub by_answers : IfOk result (IsPlannedBy endpoints q old new exchanges)
   pub within : IfOk result (All (HasMembers (length endpoints)))
+  pub known : KnowsServices endpoints q result
   pub cause : IfErr result (HasPlanCause before after endpoints q old exchanges)
   pub held : HoldsBehind endpoints q old new exchanges result
   pub stays_true : (graphs : List (List Triple)) → AreKnown before endpoints old graphs → All (source.Tells graphs) new

@@ -14,6 +14,7 @@ mod parts;
 mod planning;
 mod sections;
 mod services;
+mod unknown;
 
 pub use fault_texts::{fault_code, fault_words};
 pub use fx_pool::{BadReply, ReplyFault};

@@ -1,10 +1,12 @@
 //! The mediator over several wires: the answer of a query over the union of the graphs of a registry's endpoints, and its plan.
-ghost use Rattle.std.specs.Prelude.{◌≡◌, ◌<◌, ◌≤◌, [], length, map, string_bytes, IfOk};
+ghost use Rattle.std.specs.Prelude.{◌≡◌, ◌<◌, ◌≤◌, [], None, length, map, string_bytes, IfOk};
 ghost use Rattle.fx_algebra.specs.Occurrences.{services};
+ghost use Rattle.fx_engine.specs.Unknown.{unknown_of};
 ghost use Rattle.fx_engine.specs.Mediation.{Federated, HasName, IsNamed, IsPlaced, IsSpellable, Planned, parts_in};
 
 use crate::answers::answer_by_plan;
 use crate::choices::{Choice, choose_parts};
+use crate::unknown::unknown_service;
 use fx_algebra::{Answer, Query};
 use fx_outside::Endpoint;
 use fx_plan::Part;
@@ -92,6 +94,8 @@ pub enum FedError {
     BadReply { name: MemberName, bad: BadReply },
     /// A text for the endpoint has more than 67,108,864 bytes, so many, and wasn't sent.
     RequestTooLong { name: MemberName, length: u64 },
+    /// A SERVICE without SILENT names no endpoint by this IRI. It is the first such, and nothing was asked.
+    UnknownService { iri: Iri },
     /// Memory ran out.
     Memory,
 }
@@ -151,7 +155,8 @@ pub fn federate<W: Wire + Send>(
 /// the units that it would be asked for by, in their order, unless one of its patterns fits no endpoint's graph.
 ///
 /// Each endpoint is asked which triple patterns fit its graph, unless the cache holds the answer, and nothing else is asked. The cache learns the
-/// answers after the last exchange, and the errors come as in `federate`. Endpoints of SERVICE are not asked, whether the registry has them or not.
+/// answers after the last exchange, and the errors come as in `federate`. Endpoints of SERVICE are not asked, but each SERVICE without SILENT has to name
+/// one of the registry: `UnknownService` has the first that doesn't, before anything is asked.
 pub fn plan_parts<W: Wire + Send>(
     alloc: Global,
     query: &Query,
@@ -161,6 +166,26 @@ pub fn plan_parts<W: Wire + Send>(
 ) -> Result<Vec<Part>, FedError>
     requires wired { (0 < length wires.old) × (length wires.old ≤ 16) }
     requires spellable { IsSpellable query.now }
+    ensures { Planned W.tells_log W.counts_alone (map W.seen wires.old) (map W.seen wires.new) registry.now query.now cache.old cache.new (parts_in result) }
+{
+    match unknown_service(alloc, query, registry) {
+        Err(Memory) => Err(FedError::Memory),
+        Ok(Some(iri)) => Err(FedError::UnknownService { iri }),
+        Ok(None) => plan_known(alloc, query, registry, cache, wires),
+    }
+}
+
+// The same, where each SERVICE without SILENT names an endpoint.
+fn plan_known<W: Wire + Send>(
+    alloc: Global,
+    query: &Query,
+    registry: &Registry,
+    cache: &mut AskCache,
+    wires: &mut [W],
+) -> Result<Vec<Part>, FedError>
+    requires wired { (0 < length wires.old) × (length wires.old ≤ 16) }
+    requires spellable { IsSpellable query.now }
+    requires known { unknown_of registry.now query.now ≡ None }
     ensures { Planned W.tells_log W.counts_alone (map W.seen wires.old) (map W.seen wires.new) registry.now query.now cache.old cache.new (parts_in result) }
 {
     match choose_parts(alloc, query, registry, cache, wires) {

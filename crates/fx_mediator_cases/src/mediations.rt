@@ -179,6 +179,10 @@ fn refusal_text(alloc: Global, refusal: &FedError) -> Option<String> {
             let name = name.as_str();
             format!(in alloc; "request for {name} has {length} bytes").ok()
         }
+        FedError::UnknownService { iri } => {
+            let iri = iri.text();
+            format!(in alloc; "unknown service {iri}").ok()
+        }
         FedError::Memory => None,
     }
 }

@@ -104,6 +104,7 @@ module _ (tells alone : Bool) (w t : Seen) (others : List Seen) (es : List Endpo
     left = h.left;
     sent = h.sent;
     of_batches = h.of_batches;
+    faultless = h.faultless;
     of_run = λ graphs told sound. h.of_run graphs (first_told es graphs told) sound;
     done = done r h.done;
     cause = cause r h.cause;
@@ -140,6 +141,7 @@ not_flowed tells alone wires es us block rows = record {
   left = [];
   sent = IsPermutation-refl [];
   of_batches = All-nil (IsBatchText es block (Contains us));
+  faultless = tt;
   of_run = λ graphs told sound. batch_laws.nothing es (union graphs) block 1 us rows;
   done = tt;
   cause = tt;

@@ -22,7 +22,7 @@ use Rattle.fx_bound.specs.Uniting.{Place}
 use Rattle.fx_bound.specs.declared.founds.Found.{Found}
 use Rattle.fx_traffic.specs.Batches.{member_sent, text_sent, to_endpoint}
 use Rattle.fx_traffic.specs.Sent.{Sent, Sends}
-use Rattle.fx_pool.specs.Flows.{AskedMember, FoundBy, FoundIn, IsBadReplyTo, IsBatchCause, Names, Passed}
+use Rattle.fx_pool.specs.Flows.{AskedMember, FoundBy, FoundIn, IsBadReplyTo, IsBatchCause, IsReadFor, Names, Passed}
 use Rattle.fx_pool.specs.Posting.{IsHonestAt, IsPosted, IsSent, exchanges_of, failures_of}
 use Rattle.fx_pool.specs.Reading.{a_batch, HasFault, HasResults}
 use Rattle.fx_pool.specs.declared.faults.ReplyFault.TheVariants.{Http}
@@ -78,6 +78,7 @@ module _ (alone : Bool) (es : List EndpointParts) (p : Parts) (at : ℕ) (e : En
         endpoint = e;
         found = found;
         numbered = All-from_recursion (λ (f : Found). Contains (numbers p) f.branch) [] tt;
+        faultless = All-from_recursion (IsReadFor p) [] tt;
         read = λ g told. nothing_read p g known empty;
         named = tt;
         cause = tt;
@@ -104,6 +105,7 @@ module _ (alone : Bool) (es : List EndpointParts) (p : Parts) (at : ℕ) (e : En
       endpoint = e;
       found = found;
       numbered = tt;
+      faultless = tt;
       read = tt;
       named = tt;
       cause = tt;
@@ -144,6 +146,7 @@ module _ (alone : Bool) (es : List EndpointParts) (p : Parts) (at : ℕ) (e : En
         endpoint = e;
         found = found;
         numbered = numbered result h;
+        faultless = faultless result h;
         read = read result h;
         named = named result h;
         cause = cause result h;
@@ -156,6 +159,10 @@ module _ (alone : Bool) (es : List EndpointParts) (p : Parts) (at : ℕ) (e : En
           numbered : (r : Result (List Found) FlowError) → FoundIn p at request bytes r → IfOk r (λ founds. All (λ f. Contains (numbers p) f.branch) founds)
           numbered (Ok founds) k = k.1
           numbered (Err why) k = tt
+
+          faultless : (r : Result (List Found) FlowError) → FoundIn p at request bytes r → IfOk r (λ _. All (IsReadFor p) (x ∷ []))
+          faultless (Ok founds) k = All-from_recursion (IsReadFor p) (x ∷ []) (record { text = text; of_batch = is; posts = posts.exact; founds = founds; tells = k.0 }, tt)
+          faultless (Err why) k = tt
 
           read : (r : Result (List Found) FlowError) → FoundIn p at request bytes r → IfOk r (λ founds. (g : List Triple) → s.graph e.iri ≡ Some g → IsRead g p founds)
           read (Ok founds) k = λ g told. found_read p g request bytes text founds known (told_honest g told k.0.results.replied.0) posts.whole posts.short accepted k.0
@@ -196,6 +203,7 @@ module _ (alone : Bool) (es : List EndpointParts) (p : Parts) (at : ℕ) (e : En
       endpoint = e;
       found = found;
       numbered = tt;
+      faultless = tt;
       read = tt;
       named = refl;
       cause = let more : t.faults e.iri ≡ s.faults e.iri + 1 = counted in omega (arith, more);
@@ -211,6 +219,7 @@ module _ (alone : Bool) (es : List EndpointParts) (p : Parts) (at : ℕ) (e : En
       endpoint = e;
       found = found;
       numbered = tt;
+      faultless = tt;
       read = tt;
       named = refl;
       cause = record { text = text; of_batch = is; long = posts.1; size_is = posts.0 };

@@ -1,7 +1,7 @@
 -- What asking for the batches of a step leaves of a wire.
 use Rattle.std.proofs.Common.{◌≡◌, ◌∙◌, ap, sym, subst, refl, Bool, ◌+◌, ◌*◌, ◌/◌, ◌<◌, ◌≤◌, ℕ, List, [], ◌∷◌, ◌++◌, Ok, Err, All, Contains, IsPermutation, length, take, drop, take-append-drop, arith, append-nil, inl, length-append, add-mul, one-mul, div-mul-le_self, slice_range, min, take-add, length-take-le, length-drop, ◌-◌}
 use Rattle.std.proofs.lemmas.Grind.{flat_map-append}
-use Rattle.std.proofs.lemmas.List.Elements.{All-append, All-from_recursion}
+use Rattle.std.proofs.lemmas.List.Elements.{All-append, All-from_recursion, All-weaker}
 use Rattle.std.proofs.lemmas.List.Sorted.{IsPermutation-append, IsPermutation-refl}
 use Rattle.std.proofs.lemmas.Nat.{le-div}
 use Rattle.fx_terms.proofs.SetLemmas.{contains_from}
@@ -17,7 +17,7 @@ use Rattle.fx_traffic.specs.Sent.{Sent, Sends}
 use Rattle.fx_traffic.proofs.CutLemmas.{batch_laws}
 use Rattle.fx_traffic.proofs.SentLemmas.{sent_laws}
 use Rattle.fx_wire.specs.Exchanges.{Exchange, Seen}
-use Rattle.fx_pool.specs.Flows.{AskedBatch, AskedSoFar, AskedStep, HasMemberCause, IsMemberCause, Passed}
+use Rattle.fx_pool.specs.Flows.{AskedBatch, AskedSoFar, AskedStep, HasMemberCause, IsBatchRead, IsMemberCause, IsReadFor, Passed}
 use Rattle.fx_pool.specs.declared.flows.FlowError.{FlowError}
 use Rattle.fx_pool.specs.declared.flows.FlowError.TheVariants as flow
 use Rattle.fx_pool.proofs.MembersLemmas.{cause_behind, passed_behind, passed_none, same_told}
@@ -31,6 +31,7 @@ nothing_yet alone s es u block all positive = record {
   full = λ h. omega arith;
   left = [];
   sent = IsPermutation-refl [];
+  faultless = All-from_recursion (IsBatchRead (λ v. v ≡ u)) [] tt;
   done = λ graphs told sound. IsPermutation-refl [];
 }
 
@@ -68,6 +69,9 @@ module _ (alone : Bool) (s t v : Seen) (es : List EndpointParts) (u : unit.Unit)
       (sym (flat_map-append (unit_sent es u) h.batches (chunk ∷ []) ∙ ap (λ (w : List Sent). batches_sent es u h.batches ++ w) (append-nil (unit_sent es u chunk))))
       (sent_laws.together (batches_sent es u h.batches) h.left (unit_sent es u chunk) left h.exchanges ys h.sent k)
 
+  all_read : (xs : List Exchange) → All (IsReadFor (record { unit = u; rows = chunk })) xs → All (IsBatchRead (λ v. v ≡ u)) xs
+  all_read xs k = All-weaker (IsReadFor (record { unit = u; rows = chunk })) (IsBatchRead (λ v. v ≡ u)) (λ x r. record { unit = u; of_these = refl; batch = chunk; read = r }) xs k
+
   -- one batch more, which is full or the last
   pub batch_more : (more : List Row) → (length (front ++ chunk) < length rows → length chunk ≡ block) → AskedBatch alone t v es (record { unit = u; rows = chunk }) (Ok more) → AskedSoFar alone s v es u block (length rows) (front ++ chunk) (next ++ more)
   batch_more more whole k = record {
@@ -78,6 +82,7 @@ module _ (alone : Bool) (s t v : Seen) (es : List EndpointParts) (u : unit.Unit)
     full = λ less. let long : length (front ++ chunk) ≡ length front + length chunk = length-append front chunk in let same : length chunk ≡ block = whole less in omega (arith, count, long, same);
     left = h.left ++ k.left;
     sent = both_sent k.left k.exchanges k.sent;
+    faultless = All-append (IsBatchRead (λ v. v ≡ u)) h.exchanges k.exchanges h.faultless (all_read k.exchanges k.faultless);
     done = λ graphs told sound.
         subst (IsPermutation (next ++ more)) (sym (flat_map-append (row_step (union graphs) u) front chunk))
         (IsPermutation-append next (step (union graphs) u front) more (step (union graphs) u chunk) (h.done graphs told sound) (k.done graphs (same_told s.graph t.graph h.passed.same es graphs told) sound));
@@ -112,6 +117,7 @@ module _ (alone : Bool) (s t v : Seen) (es : List EndpointParts) (u : unit.Unit)
       cut = of_some;
       left = h.left ++ k.left;
       sent = both_sent k.left k.exchanges k.sent;
+      faultless = tt;
       done = tt;
       cause = record { batch = chunk; among = its_batch; cause = has_cause_behind s t v es (record { unit = u; rows = chunk }) u.members h.exchanges k.exchanges why alone 0 h.passed k.cause };
     }
@@ -127,6 +133,7 @@ module _ (alone : Bool) (s t v : Seen) (es : List EndpointParts) (u : unit.Unit)
       cut = of_some;
       left = h.left ++ k.left;
       sent = both_sent k.left k.exchanges k.sent;
+      faultless = tt;
       done = tt;
       cause = record { batch = chunk; among = its_batch; cause = tt };
     }
@@ -143,6 +150,7 @@ step_done alone s t es u block rows next positive h = record {
   cut = batch_laws.cut rows block h.batches positive h.cut;
   left = h.left;
   sent = h.sent;
+  faultless = h.faultless;
   done = h.done;
   cause = tt;
 }

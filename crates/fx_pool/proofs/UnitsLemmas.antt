@@ -1,7 +1,7 @@
 -- What asking for the units of a run, one after another, leaves of a wire.
 use Rattle.std.proofs.Common.{◌≡◌, ◌∙◌, ap, sym, subst, refl, Bool, ◌+◌, ◌/◌, ◌≤◌, ℕ, List, [], ◌∷◌, ◌++◌, Ok, Err, All, Contains, IsPermutation, length, arith, append-nil, append_assoc}
 use Rattle.std.proofs.lemmas.List.Sorted.{IsPermutation-refl, IsPermutation-trans, length_permutation}
-use Rattle.std.proofs.lemmas.List.Elements.{All-append, All-contains, All-nil}
+use Rattle.std.proofs.lemmas.List.Elements.{All-append, All-contains, All-nil, All-weaker}
 use Rattle.fx_terms.specs.declared.triples.Triple.{Triple}
 use Rattle.fx_terms.proofs.SetLemmas.{among_from, contains_from}
 use Rattle.fx_algebra.proofs.MemberLemmas.{among_flat_map, among_right}
@@ -17,11 +17,15 @@ use Rattle.fx_traffic.specs.Sent.{Sent}
 use Rattle.fx_traffic.proofs.CutLemmas.{batch_laws, step_sent_any_order}
 use Rattle.fx_traffic.proofs.SentLemmas.{sent_laws}
 use Rattle.fx_traffic.proofs.TextLemmas.{texts_of_batches}
-use Rattle.fx_wire.specs.Exchanges.{Seen}
-use Rattle.fx_pool.specs.Flows.{AskedStep, AskedUnits, AskedUnitsSoFar, IsOnTheWay, Passed}
+use Rattle.fx_wire.specs.Exchanges.{Exchange, Seen}
+use Rattle.fx_pool.specs.Flows.{AskedStep, AskedUnits, AskedUnitsSoFar, IsBatchRead, IsOnTheWay, Passed}
 use Rattle.fx_pool.specs.declared.flows.FlowError.{FlowError}
 use Rattle.fx_pool.proofs.MembersLemmas.{passed_behind, passed_none, same_told}
 use Rattle.fx_pool.proofs.StepLemmas.{has_cause_behind}
+
+-- replies that are read of batches of some units are so of batches of more
+pub read_of_more : (Of Of_also : unit.Unit → Type 0) → ((u : unit.Unit) → Of u → Of_also u) → (xs : List Exchange) → All (IsBatchRead Of) xs → All (IsBatchRead Of_also) xs
+read_of_more Of Of_also more xs h = All-weaker (IsBatchRead Of) (IsBatchRead Of_also) (λ x r. record { unit = r.unit; of_these = more r.unit r.of_these; batch = r.batch; read = r.read }) xs h
 
 pub none_yet : (alone : Bool) (s : Seen) (es : List EndpointParts) (us : List unit.Unit) (block : ℕ) (rows : List Row) → AskedUnitsSoFar alone s s es us us block rows rows
 none_yet alone s es us block rows = record {
@@ -31,6 +35,7 @@ none_yet alone s es us block rows = record {
   left = [];
   sent = IsPermutation-refl [];
   of_batches = All-nil (IsBatchText es block (Contains us));
+  faultless = All-nil (IsBatchRead (Contains us));
   on_the_way = λ graphs told sound. record { defined = rows; same = IsPermutation-refl rows; most = 1; one = omega arith; goes_on = λ rest h. h; comes_out = refl };
 }
 
@@ -55,6 +60,7 @@ module _ (alone : Bool) (s t : Seen) (es : List EndpointParts) (us behind : List
     left = h.left;
     sent = h.sent;
     of_batches = h.of_batches;
+    faultless = h.faultless;
     of_run = λ graphs told sound.
         let way = h.on_the_way graphs told sound in
         subst (IsRunSent es (union graphs) block 1 us rows) (append-nil h.wanted) (way.goes_on [] (batch_laws.nothing es (union graphs) block way.most behind way.defined));
@@ -80,6 +86,9 @@ module _ (alone : Bool) (s t : Seen) (es : List EndpointParts) (us behind : List
     and_batches : (batches : List (List Row)) → All (IsSized block) batches → All (IsBatchText es block (Contains us)) (h.wanted ++ batches_sent es u batches)
     and_batches batches sized = All-append (IsBatchText es block (Contains us)) h.wanted (batches_sent es u batches) h.of_batches (texts_of_batches es block (Contains us) u its batches sized)
 
+    all_of_these : (xs : List Exchange) → All (IsBatchRead (λ w. w ≡ u)) xs → All (IsBatchRead (Contains us)) xs
+    all_of_these xs k = read_of_more (λ w. w ≡ u) (Contains us) (λ w same. subst (Contains us) (sym same) its) xs k
+
     -- what a step sends behind what was sent before
     goes : (graphs : List (List Triple)) (way : IsOnTheWay es (union graphs) us behind block rows next h.wanted) (batches : List (List Row)) → AreBatchesOf next block (1 + length next / block) batches
         → (rest : List Sent) → IsRunSent es (union graphs) block (way.most + length way.defined / block) others (step (union graphs) u way.defined) rest → IsRunSent es (union graphs) block 1 us rows ((h.wanted ++ batches_sent es u batches) ++ rest)
@@ -103,6 +112,7 @@ module _ (alone : Bool) (s t : Seen) (es : List EndpointParts) (us behind : List
       left = h.left ++ k.left;
       sent = sent_laws.together h.wanted h.left (batches_sent es u k.batches) k.left h.exchanges k.exchanges h.sent k.sent;
       of_batches = and_batches k.batches k.cut.sized;
+      faultless = All-append (IsBatchRead (Contains us)) h.exchanges k.exchanges h.faultless (all_of_these k.exchanges k.faultless);
       on_the_way = λ graphs told sound.
           let way = h.on_the_way graphs told sound in
           record {
@@ -128,6 +138,7 @@ module _ (alone : Bool) (s t : Seen) (es : List EndpointParts) (us behind : List
       left = h.left ++ k.left;
       sent = sent_laws.together h.wanted h.left (batches_sent es u k.batches) k.left h.exchanges k.exchanges h.sent k.sent;
       of_batches = and_batches k.batches k.cut.sized;
+      faultless = tt;
       of_run = λ graphs told sound.
           let way = h.on_the_way graphs told sound in
           subst (IsRunSent es (union graphs) block 1 us rows) (append-nil (h.wanted ++ batches_sent es u k.batches))

@@ -106,6 +106,21 @@ FoundBy p at (posted.Replied request bytes) result = FoundIn p at request bytes 
 FoundBy p at posted.Failed result = result ≡ Err (flow.Member at)
 FoundBy p at (posted.TooLong size) result = result ≡ Err (flow.RequestTooLong at size)
 
+-- the exchange asks for this batch, and its reply tells what was found, without a fault
+pub record IsReadFor (p : Parts) (x : Exchange) : Type 0 where
+  pub text : List ℕ
+  pub of_batch : text_of p ≡ Some text
+  pub posts : x.request ≡ request_of x.at text
+  pub founds : List Found
+  pub tells : HasFound x.reply p founds
+
+-- so it is for a batch of a unit of these
+pub record IsBatchRead (Of : unit.Unit → Type 0) (x : Exchange) : Type 0 where
+  pub unit : unit.Unit
+  pub of_these : Of unit
+  pub batch : List Row
+  pub read : IsReadFor (record { unit = unit; rows = batch }) x
+
 -- ---- one member
 
 -- A member was asked for a batch: its text was sent once at most, where it has one; what is found is what is read of an answer over its
@@ -121,6 +136,7 @@ pub record AskedMember (alone : Bool) (before after : Seen) (endpoints : List En
   pub endpoint : EndpointParts
   pub found : slice_get endpoints at ≡ Some endpoint
   pub numbered : IfOk result (λ founds. All (λ f. Contains (numbers p) f.branch) founds)
+  pub faultless : IfOk result (λ _. All (IsReadFor p) exchanges)
   pub read : IfOk result (λ founds. (g : List Triple) → before.graph endpoint.iri ≡ Some g → IsRead g p founds)
   pub named : IfErr result (Names at)
   pub cause : IfErr result (IsBatchCause before after endpoint p exchanges)
@@ -151,6 +167,7 @@ pub record AskedMembers (alone : Bool) (before after : Seen) (endpoints : List E
   pub left : List Sent
   pub sent : Sends (flat_map (member_sent endpoints p.unit p.rows) members) left exchanges
   pub numbered : IfOk result (λ lists. All (λ list. All (λ f. Contains (numbers p) f.branch) list) lists)
+  pub faultless : IfOk result (λ _. All (IsReadFor p) exchanges)
   pub read : IfOk result (λ lists. (graphs : List (List Triple)) → AreTold before.graph endpoints graphs → AreReadOf graphs p members lists)
   pub cause : IfErr result (HasMemberCause before after endpoints p members exchanges)
 
@@ -170,6 +187,7 @@ pub record AskedBatch (alone : Bool) (before after : Seen) (endpoints : List End
   pub passed : Passed alone failed before after exchanges
   pub left : List Sent
   pub sent : Sends (unit_sent endpoints p.unit p.rows) left exchanges
+  pub faultless : IfOk result (λ _. All (IsReadFor p) exchanges)
   pub done : IfOk result (λ rows. (graphs : List (List Triple)) → AreTold before.graph endpoints graphs → IsSound graphs p.unit → IsPermutation rows (step (union graphs) p.unit p.rows))
   pub cause : IfErr result (HasMemberCause before after endpoints p p.unit.members exchanges)
 
@@ -197,6 +215,7 @@ pub record AskedStep (alone : Bool) (before after : Seen) (endpoints : List Endp
   pub cut : AreBatchesOf rows block (1 + length rows / block) batches
   pub left : List Sent
   pub sent : Sends (batches_sent endpoints u batches) left exchanges
+  pub faultless : IfOk result (λ _. All (IsBatchRead (λ v. v ≡ u)) exchanges)
   pub done : IfOk result (λ next. (graphs : List (List Triple)) → AreTold before.graph endpoints graphs → IsSound graphs u → IsPermutation next (step (union graphs) u rows))
   pub cause : IfErr result (IsStepCause before after endpoints u batches exchanges)
 
@@ -209,6 +228,7 @@ pub record AskedSoFar (alone : Bool) (before after : Seen) (endpoints : List End
   pub full : length rows < all → length batches * block ≡ length rows
   pub left : List Sent
   pub sent : Sends (batches_sent endpoints u batches) left exchanges
+  pub faultless : All (IsBatchRead (λ v. v ≡ u)) exchanges
   pub done : (graphs : List (List Triple)) → AreTold before.graph endpoints graphs → IsSound graphs u → IsPermutation next (step (union graphs) u rows)
 
 -- ---- the units of a run
@@ -233,6 +253,7 @@ pub record AskedUnits (alone : Bool) (before after : Seen) (endpoints : List End
   pub left : List Sent
   pub sent : Sends wanted left exchanges
   pub of_batches : All (IsBatchText endpoints block (Contains us)) wanted
+  pub faultless : IfOk result (λ _. All (IsBatchRead (Contains us)) exchanges)
   pub of_run : (graphs : List (List Triple)) → AreTold before.graph endpoints graphs → All (IsSound graphs) us → IsRunSent endpoints (union graphs) block 1 us rows wanted
   pub done : IfOk result (λ next. (graphs : List (List Triple)) → AreTold before.graph endpoints graphs → All (IsSound graphs) us → IsPermutation next (stepped (union graphs) us rows))
   pub cause : IfErr result (IsRunCause before after endpoints us block wanted exchanges)
@@ -253,4 +274,5 @@ pub record AskedUnitsSoFar (alone : Bool) (before after : Seen) (endpoints : Lis
   pub left : List Sent
   pub sent : Sends wanted left exchanges
   pub of_batches : All (IsBatchText endpoints block (Contains us)) wanted
+  pub faultless : All (IsBatchRead (Contains us)) exchanges
   pub on_the_way : (graphs : List (List Triple)) → AreTold before.graph endpoints graphs → All (IsSound graphs) us → IsOnTheWay endpoints (union graphs) us behind block rows next wanted

@@ -11,7 +11,7 @@ use Rattle.fx_traffic.specs.Batches.{IsBatchText, IsRunSent, IsSized, unit_sent}
 use Rattle.fx_traffic.specs.Gains.{AreAfter, HaveGained, Tell, TellAll, faults_at}
 use Rattle.fx_traffic.specs.Sent.{Sent, Sends}
 use Rattle.fx_wire.specs.Exchanges.{Exchange, Seen}
-use Rattle.fx_pool.specs.Flows.{IsCause, Names}
+use Rattle.fx_pool.specs.Flows.{IsBatchRead, IsCause, Names}
 use Rattle.fx_pool.specs.Runs.{IsHonestOver}
 use Rattle.fx_pool.specs.declared.flows.FlowError.{FlowError}
 use Rattle.fx_pool.specs.declared.flows.FlowError.TheVariants as flow
@@ -37,7 +37,8 @@ HasFlowCause before after endpoints us block wanted xs flow.Memory = Unit {0}
 HasFlowCause before after endpoints us block wanted xs e = IsFlowCause before after endpoints us block wanted xs e
 
 -- The units of a run were asked for over wires, from these rows on: what these exchanged, one wire's part behind the other's, what was
--- wanted of it, texts of batches of these units, and the rows behind the last unit. If wires count each address alone, at most one fault was counted, and none with rows.
+-- wanted of it, texts of batches of these units, and the rows behind the last unit: with rows each reply was read, without a fault. If wires count each
+-- address alone, at most one fault was counted, and none with rows.
 pub record RunFlowed (tells alone : Bool) (before after : List Seen) (endpoints : List EndpointParts) (us : List unit.Unit) (block : ℕ) (rows : List Row) (result : Result (List Row) FlowError) : Type 0 where
   pub exchanges : List Exchange
   pub gained : IsTrue tells → HaveGained before after exchanges
@@ -51,6 +52,7 @@ pub record RunFlowed (tells alone : Bool) (before after : List Seen) (endpoints 
   pub left : List Sent
   pub sent : Sends wanted left exchanges
   pub of_batches : All (IsBatchText endpoints block (Contains us)) wanted
+  pub faultless : IfOk result (λ _. All (IsBatchRead (Contains us)) exchanges)
   pub of_run : (graphs : List (List Triple)) → TellAll before endpoints graphs → All (IsSound graphs) us → IsRunSent endpoints (union graphs) block 1 us rows wanted
   pub done : IfOk result (λ next. (graphs : List (List Triple)) → TellAll before endpoints graphs → All (IsSound graphs) us → IsPermutation next (stepped (union graphs) us rows))
   pub cause : IfErr result (HasFlowCause before after endpoints us block wanted exchanges)

@@ -24,7 +24,7 @@ returns-in-Err-clause-reported g c =
     let query = read c.args.query.now in
     let text = registry_line c.in-Err.refusal c.args.registry.now in (
       text,
-      subst (λ (s : Status). IsExplainReported w registry query s text) (sym c.status.ensures) (inl (refl, inl (registry_refused_before registry query c.in-Err.refusal c.in-Err.ensures.outcome))),
+      subst (λ (s : Status). IsExplainReported w registry query s text) (sym c.status.ensures) (inl (refl, registry_refused_before registry query c.in-Err.refusal c.in-Err.ensures.outcome)),
       c.write_registry_refusal.ensures,
     )
 
@@ -37,20 +37,20 @@ returns-in-Err-load_query-clause-reported g c =
     let text = query_line c.in-Err-load_query.refusal c.args.query.now in
     let since = query_since c.args.query.now _ _ ((g.F.Files.seen c.args.files.now).faults c.args.query.now) ((g.F.Files.seen c.load_registry.new.files).faults c.args.query.now) ((g.F.Files.seen c.load_query.new.files).faults c.args.query.now) (Err c.in-Err-load_query.refusal) (c.load_registry.ensures.same c.args.query.now) (c.load_registry.ensures.kept c.args.query.now) c.in-Err-load_query.ensures.outcome in (
       text,
-      subst (λ (s : Status). IsExplainReported w registry query s text) (sym c.status-in-Err-load_query.ensures) (inl (refl, inl (query_refused_before registry query _ c.in-Err-load_query.refusal c.in-Ok.ensures.outcome since))),
+      subst (λ (s : Status). IsExplainReported w registry query s text) (sym c.status-in-Err-load_query.ensures) (inl (refl, query_refused_before registry query _ c.in-Err-load_query.refusal c.in-Ok.ensures.outcome since)),
       c.write_query_refusal.ensures,
     )
 
 pub returns-clause-reported : goal.returns-clause-reported
 returns-clause-reported g c =
-    let w = wires_seen g.W.Wire.tells_log g.W.Wire.counts_alone g.W.Wire.seen c.args.wires.now c.explain_over.new.wires in
+    let w = wires_seen g.W.Wire.tells_log g.W.Wire.counts_alone g.W.Wire.seen c.args.wires.now c.explain_members.new.wires in
     let read = file_read (g.F.Files.seen c.args.files.now) (g.F.Files.seen c.load_query.new.files) in
     let registry = read c.args.registry.now in
     let query = read c.args.query.now in
-    let told = c.explain_over.ensures.reported in
+    let told = c.explain_members.ensures.reported in
     let since = query_since c.args.query.now _ _ ((g.F.Files.seen c.args.files.now).faults c.args.query.now) ((g.F.Files.seen c.load_registry.new.files).faults c.args.query.now) ((g.F.Files.seen c.load_query.new.files).faults c.args.query.now) (Ok c.in-Ok-load_query.asked) (c.load_registry.ensures.same c.args.query.now) (c.load_registry.ensures.kept c.args.query.now) c.in-Ok-load_query.ensures.outcome in (
       told.0,
-      plan_explained w registry query _ c.get.result.now c.explain_over.result told.0 c.in-Ok.ensures.outcome (subst (λ (q : Query). GivesQuery query (Ok q)) (sym c.get.ensures) since) told.1,
+      plan_explained w registry query _ c.get.result.now c.explain_members.result told.0 c.in-Ok.ensures.outcome (subst (λ (q : Query). GivesQuery query (Ok q)) (sym c.get.ensures) since) told.1,
       told.2,
     )
 
@@ -70,7 +70,7 @@ returns-clause-written g c = λ told.
     let registry = read c.args.registry.now in
     let query = read c.args.query.now in
     let since = query_since c.args.query.now _ _ ((g.F.Files.seen c.args.files.now).faults c.args.query.now) ((g.F.Files.seen c.load_registry.new.files).faults c.args.query.now) ((g.F.Files.seen c.load_query.new.files).faults c.args.query.now) (Ok c.in-Ok-load_query.asked) (c.load_registry.ensures.same c.args.query.now) (c.load_registry.ensures.kept c.args.query.now) c.in-Ok-load_query.ensures.outcome in
-    wrote_so _ _ (λ text k. an_explanation (map g.W.Wire.seen c.args.wires.now) registry query _ c.get.result.now text c.in-Ok.ensures.outcome (subst (λ (q : Query). GivesQuery query (Ok q)) (sym c.get.ensures) since) k) c.explain_over.result _ _ (c.explain_over.ensures.written told)
+    wrote_so _ _ (λ text k. an_explanation (map g.W.Wire.seen c.args.wires.now) registry query _ c.get.result.now text c.in-Ok.ensures.outcome (subst (λ (q : Query). GivesQuery query (Ok q)) (sym c.get.ensures) since) k) c.explain_members.result _ _ (c.explain_members.ensures.written told)
 
 pub returns-in-Err-clause-read_faults : goal.returns-in-Err-clause-read_faults
 returns-in-Err-clause-read_faults g c =

@@ -24,13 +24,14 @@ use Rattle.fx_commands.proofs.running.run.Goals as goal
 
 pub returns-in-Err-Usage-clause-reported : goal.returns-in-Err-Usage-clause-reported
 returns-in-Err-Usage-clause-reported g c =
+    let err = sink_written g.E.Ends.tells_held g.E.Ends.held g.E.Ends.write_faults c.args.err.now c.write_usage.new.err in
     let a = asked (map (λ w. string_bytes w) c.args.words.now) in
     let read = file_read (g.F.Files.seen c.args.files.now) (g.F.Files.seen c.args.files.now) in
     let door = g.D.Door.seen c.args.door.now in
     on_same g.W.Wire.seen g.W.Wire.tells_log g.W.Wire.counts_alone
-    (λ (w : WiresSeen). (lines : List ℕ) × (text : List ℕ) × Reports read w door door a status.Usage lines text × (IsTrue g.E.Ends.tells_held → Gains (g.E.Ends.held c.args.err.now ++ lines) (g.E.Ends.held c.write_usage.new.err) (g.E.Ends.write_faults c.args.err.now) (g.E.Ends.write_faults c.write_usage.new.err) text))
+    (λ (w : WiresSeen). (lines : List ℕ) × (text : List ℕ) × Reports read w door door a status.Usage lines text err × (IsTrue g.E.Ends.tells_held → Gains (g.E.Ends.held c.args.err.now ++ lines) (g.E.Ends.held c.write_usage.new.err) (g.E.Ends.write_faults c.args.err.now) (g.E.Ends.write_faults c.write_usage.new.err) text))
     (wires_used a) c.args.wires.now
-    ([], usage_line, usage_reported read _ door a (rw c.in-Err-Usage.field-0-is at c.in-Err-Usage.ensures.asked) refl, λ tells. gains_alone _ _ _ _ usage_line (c.write_usage.ensures tells))
+    ([], usage_line, usage_reported read _ door a err (rw c.in-Err-Usage.field-0-is at c.in-Err-Usage.ensures.asked) refl, λ tells. gains_alone _ _ _ _ usage_line (c.write_usage.ensures tells))
 
 pub returns-in-Err-Usage-clause-wired : goal.returns-in-Err-Usage-clause-wired
 returns-in-Err-Usage-clause-wired g c = after_itself (map g.W.Wire.seen c.args.wires.now)
@@ -54,13 +55,14 @@ returns-in-Err-Memory-clause-completes g c =
 
 pub returns-in-Err-Memory-clause-reported : goal.returns-in-Err-Memory-clause-reported
 returns-in-Err-Memory-clause-reported g c =
+    let err = sink_written g.E.Ends.tells_held g.E.Ends.held g.E.Ends.write_faults c.args.err.now c.write_refusal.new.err in
     let a = asked (map (λ w. string_bytes w) c.args.words.now) in
     let read = file_read (g.F.Files.seen c.args.files.now) (g.F.Files.seen c.args.files.now) in
     let door = g.D.Door.seen c.args.door.now in
     on_same g.W.Wire.seen g.W.Wire.tells_log g.W.Wire.counts_alone
-    (λ (w : WiresSeen). (lines : List ℕ) × (text : List ℕ) × Reports read w door door a status.NoMemory lines text × (IsTrue g.E.Ends.tells_held → Gains (g.E.Ends.held c.args.err.now ++ lines) (g.E.Ends.held c.write_refusal.new.err) (g.E.Ends.write_faults c.args.err.now) (g.E.Ends.write_faults c.write_refusal.new.err) text))
+    (λ (w : WiresSeen). (lines : List ℕ) × (text : List ℕ) × Reports read w door door a status.NoMemory lines text err × (IsTrue g.E.Ends.tells_held → Gains (g.E.Ends.held c.args.err.now ++ lines) (g.E.Ends.held c.write_refusal.new.err) (g.E.Ends.write_faults c.args.err.now) (g.E.Ends.write_faults c.write_refusal.new.err) text))
     (wires_used a) c.args.wires.now
-    ([], no_memory, memory_reported read _ door a refl, λ tells. gains_alone _ _ _ _ no_memory (c.write_refusal.ensures tells))
+    ([], no_memory, memory_reported read _ door a err refl, λ tells. gains_alone _ _ _ _ no_memory (c.write_refusal.ensures tells))
 
 pub returns-in-Err-Memory-clause-wired : goal.returns-in-Err-Memory-clause-wired
 returns-in-Err-Memory-clause-wired g c = after_itself (map g.W.Wire.seen c.args.wires.now)
@@ -96,14 +98,15 @@ returns-in-Ok-Local-clause-completes g c =
 
 pub returns-in-Ok-Local-clause-reported : goal.returns-in-Ok-Local-clause-reported
 returns-in-Ok-Local-clause-reported g c =
+    let err = sink_written g.E.Ends.tells_held g.E.Ends.held g.E.Ends.write_faults c.args.err.now c.run_local.new.err in
     let a = asked (map (λ w. string_bytes w) c.args.words.now) in
     let read = file_read (g.F.Files.seen c.args.files.now) (g.F.Files.seen c.run_local.new.files) in
     let door = g.D.Door.seen c.args.door.now in
     let told = c.run_local.ensures.reported in
     on_same g.W.Wire.seen g.W.Wire.tells_log g.W.Wire.counts_alone
-    (λ (w : WiresSeen). (lines : List ℕ) × (text : List ℕ) × Reports read w door door a c.run_local.result lines text × (IsTrue g.E.Ends.tells_held → Gains (g.E.Ends.held c.args.err.now ++ lines) (g.E.Ends.held c.run_local.new.err) (g.E.Ends.write_faults c.args.err.now) (g.E.Ends.write_faults c.run_local.new.err) text))
+    (λ (w : WiresSeen). (lines : List ℕ) × (text : List ℕ) × Reports read w door door a c.run_local.result lines text err × (IsTrue g.E.Ends.tells_held → Gains (g.E.Ends.held c.args.err.now ++ lines) (g.E.Ends.held c.run_local.new.err) (g.E.Ends.write_faults c.args.err.now) (g.E.Ends.write_faults c.run_local.new.err) text))
     (wires_used a) c.args.wires.now
-    ([], told.0, file_reported read _ door a c.in-Ok-Local.graph.now c.in-Ok-Local.query.now c.run_local.result told.0 (rw c.in-Ok-Local.field-0-is at c.in-Ok-Local.ensures.asked) told.1 refl, λ tells. gains_alone _ _ _ _ told.0 (told.2 tells))
+    ([], told.0, file_reported read _ door a err c.in-Ok-Local.graph.now c.in-Ok-Local.query.now c.run_local.result told.0 (rw c.in-Ok-Local.field-0-is at c.in-Ok-Local.ensures.asked) told.1 refl, λ tells. gains_alone _ _ _ _ told.0 (told.2 tells))
 
 pub returns-in-Ok-Local-clause-wired : goal.returns-in-Ok-Local-clause-wired
 returns-in-Ok-Local-clause-wired g c = after_itself (map g.W.Wire.seen c.args.wires.now)
@@ -141,6 +144,7 @@ returns-in-Ok-Query-clause-completes g c =
 
 pub returns-in-Ok-Query-clause-reported : goal.returns-in-Ok-Query-clause-reported
 returns-in-Ok-Query-clause-reported g c =
+    let err = sink_written g.E.Ends.tells_held g.E.Ends.held g.E.Ends.write_faults c.args.err.now c.run_query.new.err in
     let a = asked (map (λ w. string_bytes w) c.args.words.now) in
     let is : a ≡ Some (over_members c.in-Ok-Query.registry.now c.in-Ok-Query.query.now c.in-Ok-Query.workers c.in-Ok-Query.block) = rw c.in-Ok-Query.field-0-is at c.in-Ok-Query.ensures.asked in
     let w : WiresSeen = wires_seen g.W.Wire.tells_log g.W.Wire.counts_alone g.W.Wire.seen c.split_at_mut-used.result.0.now c.run_query.new.wires in
@@ -148,10 +152,10 @@ returns-in-Ok-Query-clause-reported g c =
     let door = g.D.Door.seen c.args.door.now in
     let told = c.run_query.ensures.reported in
     on_used g.W.Wire.seen g.W.Wire.tells_log g.W.Wire.counts_alone
-    (λ (w : WiresSeen). (lines : List ℕ) × (text : List ℕ) × Reports read w door door a c.run_query.result lines text × (IsTrue g.E.Ends.tells_held → Gains (g.E.Ends.held c.args.err.now ++ lines) (g.E.Ends.held c.run_query.new.err) (g.E.Ends.write_faults c.args.err.now) (g.E.Ends.write_faults c.run_query.new.err) text))
+    (λ (w : WiresSeen). (lines : List ℕ) × (text : List ℕ) × Reports read w door door a c.run_query.result lines text err × (IsTrue g.E.Ends.tells_held → Gains (g.E.Ends.held c.args.err.now ++ lines) (g.E.Ends.held c.run_query.new.err) (g.E.Ends.write_faults c.args.err.now) (g.E.Ends.write_faults c.run_query.new.err) text))
     (wires_used a) c.in-Ok-Query.workers c.min.result c.args.wires.now c.split_at_mut-used.result.0.now c.split_at_mut-used.result.1.now c.run_query.new.wires
     (ap wires_used is) c.min.ensures c.split_at_mut-used.ensures.front c.split_at_mut-used.ensures.back
-    ([], told.0, members_reported read w door a c.in-Ok-Query.registry.now c.in-Ok-Query.query.now c.in-Ok-Query.workers c.in-Ok-Query.block c.run_query.result told.0 is told.1, λ tells. gains_alone _ _ _ _ told.0 (told.2 tells))
+    ([], told.0, members_reported read w door a err c.in-Ok-Query.registry.now c.in-Ok-Query.query.now c.in-Ok-Query.workers c.in-Ok-Query.block c.run_query.result told.0 is told.1, λ tells. gains_alone _ _ _ _ told.0 (told.2 tells))
 
 pub returns-in-Ok-Query-clause-wired : goal.returns-in-Ok-Query-clause-wired
 returns-in-Ok-Query-clause-wired g c = used_after g.W.Wire.seen c.args.wires.now c.split_at_mut-used.result.0.now c.split_at_mut-used.result.1.now c.run_query.new.wires c.split_at_mut-used.ensures.value c.run_query.ensures.wired
@@ -211,6 +215,7 @@ returns-in-Ok-Explain-clause-completes g c =
 
 pub returns-in-Ok-Explain-clause-reported : goal.returns-in-Ok-Explain-clause-reported
 returns-in-Ok-Explain-clause-reported g c =
+    let err = sink_written g.E.Ends.tells_held g.E.Ends.held g.E.Ends.write_faults c.args.err.now c.run_explain.new.err in
     let a = asked (map (λ w. string_bytes w) c.args.words.now) in
     let is : a ≡ Some (planned c.in-Ok-Explain.registry.now c.in-Ok-Explain.query.now) = rw c.in-Ok-Explain.field-0-is at c.in-Ok-Explain.ensures.asked in
     let w : WiresSeen = wires_seen g.W.Wire.tells_log g.W.Wire.counts_alone g.W.Wire.seen c.split_at_mut-used-in-Ok-Explain.result.0.now c.run_explain.new.wires in
@@ -218,10 +223,10 @@ returns-in-Ok-Explain-clause-reported g c =
     let door = g.D.Door.seen c.args.door.now in
     let told = c.run_explain.ensures.reported in
     on_used g.W.Wire.seen g.W.Wire.tells_log g.W.Wire.counts_alone
-    (λ (w : WiresSeen). (lines : List ℕ) × (text : List ℕ) × Reports read w door door a c.run_explain.result lines text × (IsTrue g.E.Ends.tells_held → Gains (g.E.Ends.held c.args.err.now ++ lines) (g.E.Ends.held c.run_explain.new.err) (g.E.Ends.write_faults c.args.err.now) (g.E.Ends.write_faults c.run_explain.new.err) text))
+    (λ (w : WiresSeen). (lines : List ℕ) × (text : List ℕ) × Reports read w door door a c.run_explain.result lines text err × (IsTrue g.E.Ends.tells_held → Gains (g.E.Ends.held c.args.err.now ++ lines) (g.E.Ends.held c.run_explain.new.err) (g.E.Ends.write_faults c.args.err.now) (g.E.Ends.write_faults c.run_explain.new.err) text))
     (wires_used a) 4 c.min-in-Ok-Explain.result c.args.wires.now c.split_at_mut-used-in-Ok-Explain.result.0.now c.split_at_mut-used-in-Ok-Explain.result.1.now c.run_explain.new.wires
     (ap wires_used is) c.min-in-Ok-Explain.ensures c.split_at_mut-used-in-Ok-Explain.ensures.front c.split_at_mut-used-in-Ok-Explain.ensures.back
-    ([], told.0, plan_reported read w door a c.in-Ok-Explain.registry.now c.in-Ok-Explain.query.now c.run_explain.result told.0 is told.1, λ tells. gains_alone _ _ _ _ told.0 (told.2 tells))
+    ([], told.0, plan_reported read w door a err c.in-Ok-Explain.registry.now c.in-Ok-Explain.query.now c.run_explain.result told.0 is told.1, λ tells. gains_alone _ _ _ _ told.0 (told.2 tells))
 
 pub returns-in-Ok-Explain-clause-wired : goal.returns-in-Ok-Explain-clause-wired
 returns-in-Ok-Explain-clause-wired g c = used_after g.W.Wire.seen c.args.wires.now c.split_at_mut-used-in-Ok-Explain.result.0.now c.split_at_mut-used-in-Ok-Explain.result.1.now c.run_explain.new.wires c.split_at_mut-used-in-Ok-Explain.ensures.value c.run_explain.ensures.wired
@@ -244,15 +249,16 @@ returns-in-Ok-Member-clause-completes g c =
 
 pub returns-in-Ok-Member-clause-reported : goal.returns-in-Ok-Member-clause-reported
 returns-in-Ok-Member-clause-reported g c =
+    let err = sink_written g.E.Ends.tells_held g.E.Ends.held g.E.Ends.write_faults c.args.err.now c.run_member.new.err in
     let a = asked (map (λ w. string_bytes w) c.args.words.now) in
     let read = file_read (g.F.Files.seen c.args.files.now) (g.F.Files.seen c.run_member.new.files) in
     let door = g.D.Door.seen c.args.door.now in
     let later = g.D.Door.seen c.run_member.new.door in
     let told = c.run_member.ensures.reported in
     on_same g.W.Wire.seen g.W.Wire.tells_log g.W.Wire.counts_alone
-    (λ (w : WiresSeen). (lines : List ℕ) × (text : List ℕ) × Reports read w door later a c.run_member.result lines text × (IsTrue g.E.Ends.tells_held → Gains (g.E.Ends.held c.args.err.now ++ lines) (g.E.Ends.held c.run_member.new.err) (g.E.Ends.write_faults c.args.err.now) (g.E.Ends.write_faults c.run_member.new.err) text))
+    (λ (w : WiresSeen). (lines : List ℕ) × (text : List ℕ) × Reports read w door later a c.run_member.result lines text err × (IsTrue g.E.Ends.tells_held → Gains (g.E.Ends.held c.args.err.now ++ lines) (g.E.Ends.held c.run_member.new.err) (g.E.Ends.write_faults c.args.err.now) (g.E.Ends.write_faults c.run_member.new.err) text))
     (wires_used a) c.args.wires.now
-    (told.0, told.1, serving_reported read _ door later a c.in-Ok-Member.graph.now c.in-Ok-Member.address.now c.in-Ok-Member.count c.run_member.result told.0 told.1 (rw c.in-Ok-Member.field-0-is at c.in-Ok-Member.ensures.asked) told.2 refl, told.3)
+    (told.0, told.1, serving_reported read _ door later a err c.in-Ok-Member.graph.now c.in-Ok-Member.address.now c.in-Ok-Member.count c.run_member.result told.0 told.1 (rw c.in-Ok-Member.field-0-is at c.in-Ok-Member.ensures.asked) told.2 refl told.4, told.3)
 
 pub returns-in-Ok-Member-clause-wired : goal.returns-in-Ok-Member-clause-wired
 returns-in-Ok-Member-clause-wired g c = after_itself (map g.W.Wire.seen c.args.wires.now)

@@ -1,4 +1,4 @@
-use Rattle.std.proofs.Common.{sym, subst, [], inl}
+use Rattle.std.proofs.Common.{◌∙◌, sym, subst, [], inl}
 use Rattle.fx_commands.specs.Counts.{CountsOnly}
 use Rattle.fx_commands.specs.Files.{file_read}
 use Rattle.fx_commands.specs.LocalSteps.{graph_line}
@@ -8,7 +8,7 @@ use Rattle.fx_commands.specs.RefusalStatuses.{graph_status}
 use Rattle.fx_commands.specs.declared.statuses.Status.TheVariants as status
 use Rattle.fx_commands.proofs.CountLemmas.{only_read}
 use Rattle.fx_commands.proofs.GainLemmas.{gains_alone}
-use Rattle.fx_commands.proofs.ServingLemmas.{graph_reported, no_graph_reported}
+use Rattle.fx_commands.proofs.ServingLemmas.{graph_reported, no_graph_reported, refused_otherwise}
 use Rattle.fx_commands.proofs.serving.run_member.Goals as goal
 
 pub returns-in-Err-clause-reported : goal.returns-in-Err-clause-reported
@@ -20,6 +20,7 @@ returns-in-Err-clause-reported g c =
       last,
       subst (λ (s : Status). IsMemberReported read seen seen c.args.address.now c.args.count s [] last) (sym c.status.ensures) (no_graph_reported read seen c.args.address.now c.args.count c.in-Err.refusal c.in-Err.ensures.outcome),
       λ told. gains_alone _ _ _ _ last (c.write_graph_refusal.ensures told),
+      λ is. absurd (refused_otherwise c.in-Err.refusal (sym c.status.ensures ∙ is)),
     )
 
 pub returns-in-Ok-clause-reported : goal.returns-in-Ok-clause-reported
@@ -30,6 +31,7 @@ returns-in-Ok-clause-reported g c =
       given.1,
       graph_reported read (g.D.Door.seen c.args.door.now) (g.D.Door.seen c.serve_store.new.door) c.args.address.now c.args.count _ c.serve_store.result given.0 given.1 c.in-Ok.ensures.outcome given.2,
       given.3,
+      given.4,
     )
 
 pub returns-in-Err-clause-read_faults : goal.returns-in-Err-clause-read_faults

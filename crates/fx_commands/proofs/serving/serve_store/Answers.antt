@@ -1,4 +1,4 @@
-use Rattle.std.proofs.Common.{◌≡◌, ap, sym, subst, refl, [], Err, arith}
+use Rattle.std.proofs.Common.{◌≡◌, ◌∙◌, ap, sym, subst, refl, [], Err, arith}
 use Rattle.fx_outside.specs.declared.doors.DoorError.TheVariants as door
 use Rattle.std.specs.Prelude.{IsTrue}
 use Rattle.fx_outside.proofs.AlikeLemmas.{alike}
@@ -8,7 +8,7 @@ use Rattle.fx_commands.specs.ServingSteps.{end_line}
 use Rattle.fx_commands.specs.declared.statuses.Status.{Status}
 use Rattle.fx_commands.proofs.CountLemmas.{door_later, end_counts}
 use Rattle.fx_commands.proofs.GainLemmas.{gains_alone}
-use Rattle.fx_commands.proofs.ServingLemmas.{not_opened, ended, opened_reported}
+use Rattle.fx_commands.proofs.ServingLemmas.{not_opened, ended, ends_otherwise, opened_reported}
 use Rattle.fx_commands.proofs.serving.serve_store.Goals as goal
 
 pub serve-requires : goal.serve-requires
@@ -24,6 +24,7 @@ returns-in-Err-clause-reported g c =
       subst (λ (s : Status). IsServingReported before after c.args.address.now c.args.count c.args.store.now s [] (end_line e)) (sym c.end.ensures.status)
           (ended before after c.args.address.now c.args.count c.args.store.now e [] (end_line e) (λ is. let more = c.in-Err.ensures.counted (ap Err is) in omega (arith, more)) (not_opened c.args.store.now before after c.args.address.now c.args.count (end_line e) (λ tells. c.in-Err.ensures.unstarted tells) c.in-Err.ensures.outputs c.in-Err.ensures.inputs)),
       λ told. gains_alone _ _ _ _ (end_line e) (c.end.ensures.line told),
+      λ is. absurd (ends_otherwise e (sym c.end.ensures.status ∙ is)),
     )
 
 pub returns-in-Ok-clause-reported : goal.returns-in-Ok-clause-reported
@@ -34,6 +35,7 @@ returns-in-Ok-clause-reported g c =
       given.1,
       opened_reported c.args.store.now (see c.args.door.now) (see c.start.new.self) (see c.serve.new.door) c.args.address.now (λ tells. subst IsTrue (alike g.met.D.Door.told c.args.door.now c.start.new.self) tells) c.in-Ok.ensures.started c.in-Ok.ensures.outputs c.in-Ok.ensures.inputs c.in-Ok.ensures.kept c.args.count c.serve.result given.0 given.1 given.2,
       given.3,
+      given.4,
     )
 
 pub returns-in-Err-clause-door_faults : goal.returns-in-Err-clause-door_faults

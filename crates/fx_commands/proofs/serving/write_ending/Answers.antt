@@ -5,3 +5,6 @@ returns-clause-whole g c = λ told. rw (c.as_bytes.ensures.value, c.as_bytes-2.e
 
 pub returns-clause-front : goal.returns-clause-front
 returns-clause-front g c = λ told. rw (c.as_bytes.ensures.value, c.as_bytes-2.ensures.value, c.format-number.ensures.text, c.ending_text-ending.ensures) at (c.write_pieces.ensures.front told)
+
+pub returns-clause-part : goal.returns-clause-part
+returns-clause-part g c = λ told. rw (c.as_bytes.ensures.value, c.as_bytes-2.ensures.value, c.format-number.ensures.text, c.ending_text-ending.ensures) at (c.write_pieces.ensures.part told)

@@ -1,4 +1,4 @@
-use Rattle.std.proofs.Common.{◌≡◌, ◌∙◌, ◌++◌, ◌⊎◌, ap, sym, subst, refl, List, Bool, length, map, Ok, Err}
+use Rattle.std.proofs.Common.{◌≡◌, ◌∙◌, ◌++◌, ◌⊎◌, ap, sym, subst, refl, List, Bool, length, map, None, Ok, Err}
 use Rattle.std.specs.Prelude.{All, Contains}
 use Rattle.std.specs.List.{zip}
 use Rattle.fx_outside.specs.Endpoints.{EndpointParts}
@@ -9,12 +9,13 @@ use Rattle.fx_engine.specs.AnswersAsked.{AnswerDue, AnswerGiven}
 use Rattle.fx_engine.specs.Asked.{Asked}
 use Rattle.fx_engine.specs.GroupsAsked.{CanBeAsked, units_in}
 use Rattle.fx_engine.specs.Mediation.{IsNamed, IsPlaced}
+use Rattle.fx_engine.specs.Unknown.{unknown_of}
 use Rattle.fx_engine.specs.declared.mediator.FedError.TheVariants as fed
 use Rattle.fx_engine.specs.declared.mediator.Outcome.{Outcome}
 use Rattle.fx_engine.proofs.AskableLemmas.{parts_can_be_asked}
-use Rattle.fx_engine.proofs.BatchCauseLemmas.{batch_cause_behind, flow_placed, texts_of_query}
+use Rattle.fx_engine.proofs.BatchCauseLemmas.{batch_cause_behind, flow_placed, read_of_query, texts_of_query}
 use Rattle.fx_engine.proofs.ChoiceLemmas.{probe_placed}
-use Rattle.fx_engine.proofs.MediationLemmas.{federated, federated_refused, its_answer, kept_true, keeps_behind, learned_true, learns_behind, stays, stays_as_known}
+use Rattle.fx_engine.proofs.MediationLemmas.{federated, federated_refused, its_answer, kept_true, known_named, none_unknown, keeps_behind, learned_true, learns_behind, stays, stays_as_known}
 use Rattle.fx_engine.proofs.WiresLemmas.{all_tell}
 use Rattle.fx_engine.proofs.mediator.federate.Goals as goal
 
@@ -27,7 +28,7 @@ named-requires g c =
 pub returns-in-Err : goal.returns-in-Err
 returns-in-Err g c =
     let see = g.W.Wire.seen in
-    federated_refused g.W.Wire.tells_log g.W.Wire.counts_alone (map see c.args.wires.now) (map see c.choose_parts.new.wires) c.args.registry.now c.args.query.now c.args.cache.now c.args.options.block c.in-Err.error c.named.result c.in-Err.ensures.asked
+    federated_refused g.W.Wire.tells_log g.W.Wire.counts_alone (map see c.args.wires.now) (map see c.choose_parts.new.wires) c.args.registry.now c.args.query.now c.args.cache.now (none_unknown c.args.registry.now c.args.query.now c.requires.alone) c.args.options.block c.in-Err.error c.named.result c.in-Err.ensures.asked
     (subst (λ (es : List EndpointParts). IsNamed es c.in-Err.error c.named.result) c.endpoints.ensures.value c.named.ensures)
 
 pub answer_by_plan-requires-clause-asked : goal.answer_by_plan-requires-clause-asked
@@ -58,6 +59,7 @@ returns-in-Err-answer_by_plan g c =
     let q = c.args.query.now in
     let n = length es in
     let old = c.args.cache.now in
+    let known : unknown_of es q ≡ None = none_unknown es q c.requires.alone in
     let block = c.args.options.block in
     let parts = c.as_slice.result.now in
     let truths = c.in-Ok.field-0.truths.items in
@@ -69,10 +71,10 @@ returns-in-Err-answer_by_plan g c =
     let entries = told (missing q n old) truths ++ old in
     let can : All (CanBeAsked n) parts = subst (All (CanBeAsked n)) (sym are) (parts_can_be_asked c.requires.spellable.0 q c.requires.spellable.1 n entries) in
     let name : IsNamed es why e = subst (λ (v : List EndpointParts). IsNamed v why e) c.endpoints-in-Err-answer_by_plan.ensures.value c.named-in-Err-answer_by_plan.ensures in
-    federated tells one s t es q old block u (all_tell see tells (g.met.W.Wire g.world.𝓛 g.world.𝓜 g.world.𝓡 ((λ s x. x), (λ x. x), (λ x. x), λ x. x)).told c.args.wires.now) (all_tell see tells (g.met.W.Wire g.world.𝓛 g.world.𝓜 g.world.𝓡 ((λ s x. x), (λ x. x), (λ x. x), λ x. x)).told c.choose_parts.new.wires) (units_in parts) truths c.in-Ok.ensures.asked parts are (Err why) k (Err e) old tt tt tt
+    federated tells one s t es q old known block u (all_tell see tells (g.met.W.Wire g.world.𝓛 g.world.𝓜 g.world.𝓡 ((λ s x. x), (λ x. x), (λ x. x), λ x. x)).told c.args.wires.now) (all_tell see tells (g.met.W.Wire g.world.𝓛 g.world.𝓜 g.world.𝓡 ((λ s x. x), (λ x. x), (λ x. x), λ x. x)).told c.choose_parts.new.wires) (units_in parts) truths c.in-Ok.ensures.asked parts are (Err why) k (Err e) old tt tt tt
     (λ all among. batch_cause_behind es q old n entries parts are can block s t u c.in-Ok.ensures.asked.after_all k.exchanges all among k.wanted why e k.cause name)
     (λ all among. stays Outcome es q old all e)
-    (texts_of_query es q n entries parts are can block k.wanted k.of_batches) (stays_as_known tells one s t es q old)
+    (texts_of_query es q n entries parts are can block k.wanted k.of_batches) tt (known_named Outcome es q why e name known) (stays_as_known tells one s t es q old known)
 
 pub returns-in-Err-learn : goal.returns-in-Err-learn
 returns-in-Err-learn g c =
@@ -87,6 +89,7 @@ returns-in-Err-learn g c =
     let n = length es in
     let old = c.args.cache.now in
     let new = c.learn.new.self in
+    let known : unknown_of es q ≡ None = none_unknown es q c.requires.alone in
     let block = c.args.options.block in
     let parts = c.as_slice.result.now in
     let truths = c.in-Ok.field-0.truths.items in
@@ -101,9 +104,9 @@ returns-in-Err-learn g c =
     let kept : All (λ (x : Entry). Contains old x ⊎ Contains (zip (missing q n old) truths) x) new =
     subst (λ (v : List Probe). All (λ (x : Entry). Contains old x ⊎ Contains (zip v truths) x) new) c.in-Ok.ensures.chosen.probes_are
     (subst (λ (v : List Bool). All (λ (x : Entry). Contains old x ⊎ Contains (zip c.in-Ok.field-0.probes.items v) x) new) c.as_slice-in-Ok-answer_by_plan.ensures.value c.in-Err-learn.ensures.kept) in
-    federated tells one s t es q old block u a b (units_in parts) truths c.in-Ok.ensures.asked parts are (Ok answer) k (Err fed.Memory) new tt tt tt (λ all among. tt)
-    (λ all among. keeps_behind tells one s t es q old block u a b (units_in parts) truths c.in-Ok.ensures.asked parts are (Ok answer) k new kept all among)
-    (texts_of_query es q n entries parts are can block k.wanted k.of_batches) (kept_true tells one s t es q old truths c.in-Ok.ensures.asked new kept)
+    federated tells one s t es q old known block u a b (units_in parts) truths c.in-Ok.ensures.asked parts are (Ok answer) k (Err fed.Memory) new tt tt tt (λ all among. tt)
+    (λ all among. keeps_behind tells one s t es q old known block u a b (units_in parts) truths c.in-Ok.ensures.asked parts are (Ok answer) k new kept all among)
+    (texts_of_query es q n entries parts are can block k.wanted k.of_batches) tt tt (kept_true tells one s t es q old known truths c.in-Ok.ensures.asked new kept)
 
 pub returns : goal.returns
 returns g c =
@@ -118,6 +121,7 @@ returns g c =
     let n = length es in
     let old = c.args.cache.now in
     let new = c.learn.new.self in
+    let known : unknown_of es q ≡ None = none_unknown es q c.requires.alone in
     let block = c.args.options.block in
     let parts = c.as_slice.result.now in
     let truths = c.in-Ok.field-0.truths.items in
@@ -133,7 +137,7 @@ returns g c =
     c.in-Ok-learn.ensures.learned
     ∙ ap (λ (v : List Probe). learned old v c.as_slice-in-Ok-answer_by_plan.result.now) c.in-Ok.ensures.chosen.probes_are
     ∙ ap (learned old (missing q n old)) c.as_slice-in-Ok-answer_by_plan.ensures.value in
-    federated tells one s t es q old block u a b (units_in parts) truths c.in-Ok.ensures.asked parts are (Ok answer) k (Ok (record { answer = answer; down = c.new.result })) new k.unfailed
-    (λ graphs known. its_answer tells one s t es q old block u a b (units_in parts) truths c.in-Ok.ensures.asked parts are (Ok answer) k answer refl graphs known) c.new.ensures (λ all among. tt)
-    (λ all among. learns_behind tells one s t es q old block u a b (units_in parts) truths c.in-Ok.ensures.asked parts are (Ok answer) k new so all among)
-    (texts_of_query es q n entries parts are can block k.wanted k.of_batches) (learned_true tells one s t es q old truths c.in-Ok.ensures.asked new so)
+    federated tells one s t es q old known block u a b (units_in parts) truths c.in-Ok.ensures.asked parts are (Ok answer) k (Ok (record { answer = answer; down = c.new.result })) new k.unfailed
+    (λ graphs are_known. its_answer tells one s t es q old known block u a b (units_in parts) truths c.in-Ok.ensures.asked parts are (Ok answer) k answer refl graphs are_known) c.new.ensures (λ all among. tt)
+    (λ all among. learns_behind tells one s t es q old known block u a b (units_in parts) truths c.in-Ok.ensures.asked parts are (Ok answer) k new so all among)
+    (texts_of_query es q n entries parts are can block k.wanted k.of_batches) (read_of_query es q n entries parts are can k.exchanges k.faultless) known (learned_true tells one s t es q old known truths c.in-Ok.ensures.asked new so)
