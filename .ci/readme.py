@@ -1,14 +1,19 @@
-"""Runs the commands that README.md shows and compares what they print and how they end.
+"""Runs the commands that README.md and docs/TUTORIAL.md show and compares what they print and how they end.
 
-A block of README.md that begins with ```console has lines "$ COMMAND", each with what the command prints on standard output
-and standard error below it, and perhaps "[status N]" as its last line; without that the status is 0."""
+A block that begins with ```console has lines "$ COMMAND", each with what the command prints on standard output and standard
+error below it, and perhaps "[status N]" as its last line; without that the status is 0. A command that ends with "&" goes on
+beside those below it, up to "kill %1 %2" or the end of its page. One of a program that isn't on every machine is passed over where
+that isn't there."""
 import os
 import re
 import shutil
 import subprocess
 import sys
+import time
 
 top = os.path.join(os.path.dirname(os.path.abspath(__file__)), "..")
+# The programs that aren't on every machine, by the first word of a command that calls them.
+OPTIONAL = {"examples/ask.sh": "curl", "jq": "jq"}
 
 
 def steps(text):
@@ -26,26 +31,60 @@ def steps(text):
             yield command, lines
 
 
+def is_there(page, command):
+    """Whether what the command calls is there, or a line that it isn't."""
+    lacking = OPTIONAL.get(command.split()[0])
+    if lacking is None or shutil.which(lacking):
+        return True
+    print(f"{page}: {command} isn't run, since {lacking} isn't there")
+    return False
+
+
+def stop(beside):
+    """Ends what goes on beside the commands."""
+    while beside:
+        one = beside.pop()
+        one.terminate()
+        one.wait()
+
+
+def is_as_shown(page, command, lines, beside):
+    """Whether a command prints and ends as it is shown."""
+    if command.endswith(" &"):
+        beside.append(subprocess.Popen("exec " + command[:-2], shell=True, cwd=top, stdout=subprocess.DEVNULL, stdin=subprocess.DEVNULL))
+        time.sleep(2)
+        return not lines
+    if command.startswith("kill %"):
+        stop(beside)
+        return not lines
+    status = 0
+    if lines and (ended := re.fullmatch(r"\[status (\d+)\]", lines[-1])):
+        status, lines = int(ended[1]), lines[:-1]
+    done = subprocess.run(command, shell=True, cwd=top, stdout=subprocess.PIPE, stderr=subprocess.STDOUT, stdin=subprocess.DEVNULL)
+    printed = done.stdout.decode("utf-8", "replace").splitlines()
+    if printed == lines and done.returncode == status:
+        return True
+    print(f"{page}: {command}\n  wanted {lines} and {status}\n  got    {printed} and {done.returncode}")
+    return False
+
+
+def is_right(page):
+    """Whether all commands of a page are as shown."""
+    with open(os.path.join(top, page), encoding="utf-8") as text:
+        wanted = [(command, lines) for command, lines in steps(text.read()) if is_there(page, command)]
+    beside = []
+    try:
+        right = sum(is_as_shown(page, command, lines, beside) for command, lines in wanted)
+    finally:
+        stop(beside)
+    print(f"{page}: {right} commands as shown, {len(wanted) - right} not")
+    return 0 < right == len(wanted)
+
+
 def main():
-    with open(os.path.join(top, "README.md"), encoding="utf-8") as readme:
-        wanted = list(steps(readme.read()))
     # The program is built first, so that no command prints that it is being built.
     subprocess.run(["./fedx"], cwd=top, capture_output=True)
-    failed = 0
-    if shutil.which("curl") is None:
-        print("README.md: examples/ask.sh isn't run, since curl isn't there")
-        wanted = [(command, lines) for command, lines in wanted if command != "examples/ask.sh"]
-    for command, lines in wanted:
-        status = 0
-        if lines and (ended := re.fullmatch(r"\[status (\d+)\]", lines[-1])):
-            status, lines = int(ended[1]), lines[:-1]
-        done = subprocess.run(command, shell=True, cwd=top, stdout=subprocess.PIPE, stderr=subprocess.STDOUT, stdin=subprocess.DEVNULL)
-        printed = done.stdout.decode("utf-8", "replace").splitlines()
-        if printed != lines or done.returncode != status:
-            failed += 1
-            print(f"README.md: {command}\n  wanted {lines} and {status}\n  got    {printed} and {done.returncode}")
-    print(f"README.md: {len(wanted) - failed} commands as shown, {failed} not")
-    return 1 if failed or not wanted else 0
+    return 0 if all([is_right(page) for page in ("README.md", "docs/TUTORIAL.md")]) else 1
 
 
 sys.exit(main())

@@ -1,0 +1,116 @@
+#!/bin/sh
+# Starts a member on this machine and asks it the same query with each client that is installed, passing over the others by name. Ends with
+# 1 where one of them gets anything but the answer.
+set -u
+here=$(cd "$(dirname "$0")" && pwd)
+address=127.0.0.1:8004
+url=http://$address/sparql
+query='SELECT ?friend WHERE { <http://example.org/ann> <http://xmlns.com/foaf/0.1/knows> ?friend }'
+wanted='http://example.org/bob http://example.org/cem'
+failed=0
+
+"$here/../fedx" member "$here/people.nt" $address 2>/dev/null &
+member=$!
+trap 'kill $member 2>/dev/null' EXIT
+
+# The values of a results document, one behind the other.
+values() {
+    grep -o '"value":"[^"]*"' | cut -d '"' -f 4 | sort | tr '\n' ' ' | sed 's/ $//'
+}
+
+# What a client got, by its name.
+got() {
+    if [ "$2" = "$wanted" ]; then
+        echo "$1: $2"
+    else
+        echo "$1: wanted $wanted, got $2"
+        failed=1
+    fi
+}
+
+# Whether a command is there, or a line that it isn't.
+has() {
+    command -v "$1" >/dev/null 2>&1 || { echo "$1: not here"; return 1; }
+}
+
+# Whether a module of Python is there, or a line that it isn't.
+has_module() {
+    python3 -c "import $1" 2>/dev/null || { echo "$1: not here"; return 1; }
+}
+
+# A member that isn't ready yet refuses connections.
+tries=0
+until python3 -c "import socket; socket.create_connection(('127.0.0.1', 8004)).close()" 2>/dev/null; do
+    tries=$((tries + 1))
+    [ $tries -lt 50 ] || { echo "clients.sh: no member at $address" >&2; exit 1; }
+    sleep 0.1
+done
+
+if has curl; then
+    got "curl, POST of the query" "$(curl --silent --header 'Content-Type: application/sparql-query' --data "$query" "$url" | values)"
+    got "curl, POST of a form" "$(curl --silent --data-urlencode "query=$query" "$url" | values)"
+    got "curl, GET" "$(curl --silent --get --data-urlencode "query=$query" "$url" | values)"
+fi
+
+if has wget; then
+    got "wget" "$(wget --quiet --output-document - --header 'Content-Type: application/sparql-query' --post-data "$query" "$url" | values)"
+fi
+
+got "python3, urllib" "$(python3 - "$url" "$query" <<'END'
+import json, sys, urllib.parse, urllib.request
+
+url, query = sys.argv[1:]
+with urllib.request.urlopen(url, urllib.parse.urlencode({"query": query}).encode()) as reply:
+    rows = json.load(reply)["results"]["bindings"]
+print(*sorted(row["friend"]["value"] for row in rows))
+END
+)"
+
+if has node; then
+    got "node, fetch" "$(node - "$url" "$query" <<'END'
+const [url, query] = process.argv.slice(2);
+fetch(url, { method: "POST", headers: { "Content-Type": "application/sparql-query" }, body: query })
+    .then(reply => reply.json())
+    .then(document => console.log(document.results.bindings.map(row => row.friend.value).sort().join(" ")));
+END
+)"
+fi
+
+if has perl; then
+    if perl -MLWP::UserAgent -e 1 2>/dev/null; then
+        got "perl, LWP" "$(perl -MLWP::UserAgent -e 'print LWP::UserAgent->new->post($ARGV[0], { query => $ARGV[1] })->content' "$url" "$query" | values)"
+    else
+        echo "LWP: not here"
+    fi
+fi
+
+if has_module SPARQLWrapper; then
+    got "SPARQLWrapper" "$(python3 - "$url" "$query" <<'END'
+import sys
+from SPARQLWrapper import JSON, SPARQLWrapper
+
+asked = SPARQLWrapper(sys.argv[1])
+asked.setQuery(sys.argv[2])
+asked.setReturnFormat(JSON)
+print(*sorted(row["friend"]["value"] for row in asked.query().convert()["results"]["bindings"]))
+END
+)"
+fi
+
+if has_module rdflib; then
+    got "rdflib, SPARQLStore" "$(python3 - "$url" "$query" <<'END'
+import sys
+from rdflib import Graph
+from rdflib.plugins.stores.sparqlstore import SPARQLStore
+
+graph = Graph(SPARQLStore(sys.argv[1], returnFormat="json"))
+print(*sorted(str(row.friend) for row in graph.query(sys.argv[2])))
+END
+)"
+fi
+
+if has rsparql; then
+    got "Jena, rsparql" "$(rsparql --service "$url" --results json "$query" | tr -d ' \n' | values)"
+fi
+
+exit $failed
