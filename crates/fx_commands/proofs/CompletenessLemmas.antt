@@ -1,11 +1,10 @@
 -- That runs come to their ends, from what their commands report.
-use Rattle.std.proofs.Common.{◌≡◌, ◌∙◌, ap, sym, subst, refl, ℕ, zero, suc, ◌≤◌, ◌<◌, ◌⊎◌, List, [], ◌∷◌, Option, Some, None, Ok, Err, length, inl, inr, arith}
+use Rattle.std.proofs.Common.{◌≡◌, ◌∙◌, ap, sym, subst, refl, ℕ, zero, suc, ◌≤◌, ◌<◌, ◌⊎◌, List, [], ◌∷◌, All, Option, Some, None, Ok, Err, length, inl, inr, arith}
 use Rattle.std.specs.Prelude.{Contains, slice_get}
 use Rattle.std.proofs.lemmas.List.Elements.{All-contains}
 use Rattle.fx_terms.specs.declared.triples.Triple.{Triple}
 use Rattle.fx_outside.specs.Doors.{DoorSeen}
 use Rattle.fx_outside.specs.Endpoints.{EndpointParts}
-use Rattle.fx_algebra.specs.Answers.{no_graphs}
 use Rattle.fx_algebra.specs.Occurrences.{services}
 use Rattle.fx_algebra.specs.declared.queries.Query.{Query}
 use Rattle.fx_grammar.specs.Accepted.{Accepted}
@@ -20,12 +19,12 @@ use Rattle.fx_sources.specs.Registries.{read_registry}
 use Rattle.fx_sources.specs.declared.errors.RegistryError.{RegistryError}
 use Rattle.fx_traffic.specs.Gains.{Tell, TellAll, faults_at}
 use Rattle.fx_wire.specs.Exchanges.{Seen}
+use Rattle.fx_engine.specs.Calls.{Call}
 use Rattle.fx_engine.specs.Unknown.{unknown_of}
+use Rattle.fx_engine.specs.declared.mediator.DownCause.TheVariants as cause
 use Rattle.fx_engine.specs.declared.mediator.FedError.{FedError}
 use Rattle.fx_engine.specs.declared.mediator.FedError.TheVariants as fed
 use Rattle.fx_terms.proofs.SetLemmas.{Among, among_from, contains_from}
-use Rattle.fx_algebra.specs.Cuts.{seeds, stations}
-use Rattle.fx_algebra.specs.Graphs.{union}
 use Rattle.fx_algebra.specs.Printed.{printed_query}
 use Rattle.fx_algebra.specs.declared.units.Row.{Row}
 use Rattle.fx_algebra.specs.declared.units.Unit as unit
@@ -40,15 +39,12 @@ use Rattle.fx_sources.specs.declared.probes.Probe.{Probe}
 use Rattle.fx_traffic.specs.Batches.{member_sent, text_sent, to_endpoint, unit_sent}
 use Rattle.fx_traffic.specs.Gains.{HaveGained}
 use Rattle.fx_traffic.specs.Sent.{Sent}
-use Rattle.fx_traffic.specs.Traffic.{AreStationsSent}
 use Rattle.fx_wire.specs.Exchanges.{Exchange, exchanged}
 use Rattle.fx_pool.specs.Flows.{IsLongBatch}
 use Rattle.fx_engine.specs.Asks.{IsLongAsk}
 use Rattle.fx_pool.specs.declared.jobs.BadReply.{BadReply}
-use Rattle.fx_engine.specs.Mediation.{Federated, HasBadAsk, HasBadBatch, HasLongAsk, HasLongBatch, Planned}
-use Rattle.fx_engine.proofs.MediationLemmas.{none_unknown}
+use Rattle.fx_engine.specs.Mediation.{Federated, HasBadAsk, HasBadBatch, HasLongAsk, HasLongBatch, HasPlain as HasPlainCall, Planned, Serve}
 use Rattle.fx_commands.specs.FedRefusals.{fed_status_of}
-use Rattle.fx_commands.proofs.QueryLemmas.{known_from_nothing}
 use Rattle.fx_commands.specs.declared.limits.TheConstants.{GRAPH_LIMIT, QUERY_LIMIT, REGISTRY_LIMIT}
 use Rattle.fx_commands.specs.declared.statuses.Status.{Status}
 use Rattle.fx_commands.specs.declared.statuses.Status.TheVariants as status
@@ -57,14 +53,16 @@ use Rattle.fx_commands.specs.Completeness.{Completes, AreAsksShort, AreRepliesSh
 use Rattle.fx_commands.specs.Commands.{Asked, over_file, over_members, planned, served}
 use Rattle.fx_commands.specs.Explain.{IsExplainReported}
 use Rattle.fx_commands.specs.FedRefusals.{IsGivenEnd}
-use Rattle.fx_commands.specs.Files.{FileRead, IsNoGraph, IsNoQuery, IsNoRegistry, IsQueryThat, IsTooLong}
-use Rattle.fx_commands.specs.Headline.{Holds, IsTold}
+use Rattle.fx_commands.specs.Files.{FileRead, Holds, IsNoGraph, IsNoQuery, IsNoRegistry, IsQueryThat, IsTooLong}
+use Rattle.fx_commands.specs.Headline.{IsTold}
+use Rattle.fx_commands.specs.Lines.{down_lines}
 use Rattle.fx_commands.specs.Local.{HasPlain, IsReported}
-use Rattle.fx_commands.specs.Query.{HasServices, IsQueryReported}
+use Rattle.fx_commands.specs.Query.{IsQueryReported}
 use Rattle.fx_commands.specs.Serving.{IsMemberReported}
 use Rattle.fx_commands.specs.Services.{first_plain}
-use Rattle.fx_commands.specs.Sinks.{IsCutOff, IsCutShort, IsUntouched, SinkWritten}
+use Rattle.fx_commands.specs.Sinks.{IsCutShort, SinkWritten}
 use Rattle.fx_commands.specs.Sinks as sink
+use Rattle.fx_commands.proofs.HarmlessLemmas.{AllIsWell, IsShort, all_is_well, no_plain}
 use Rattle.fx_commands.proofs.HeadlineLemmas.{of_told, query_told, registry_told}
 
 -- ---- files that hold what they are to hold
@@ -121,21 +119,26 @@ before_asking r q es asked status.GraphRefused text h k a b c = absurd c
 before_asking r q es asked status.DoorFault text h k a b c = absurd c
 
 -- what ends a run where the members gave something is a failed write, or want of memory
-given_ends : (s : Status) (text : List ℕ) (out : SinkWritten) → (s ≡ status.WriteFault → sink.HasFailed out) → IsWrittenWell out → IsGivenEnd s text → IsDoneOrWant s
-given_ends status.Done text out cut well k = inl refl
-given_ends status.NoMemory text out cut well k = inr refl
-given_ends status.WriteFault text out cut well k = absurd (well (cut refl))
-given_ends status.Usage text out cut well k = absurd k
-given_ends status.QueryRefused text out cut well k = absurd k
-given_ends status.RegistryRefused text out cut well k = absurd k
-given_ends status.EndpointFault text out cut well k = absurd k
-given_ends status.BadReply text out cut well k = absurd k
-given_ends status.UnknownService text out cut well k = absurd k
-given_ends status.ReadFault text out cut well k = absurd k
-given_ends status.RequestTooLong text out cut well k = absurd k
-given_ends status.GraphRefused text out cut well k = absurd k
-given_ends status.DoorFault text out cut well k = absurd k
-given_ends status.FileTooLong text out cut well k = absurd k
+given_ends : (lines : List ℕ) (s : Status) (text : List ℕ) → (s ≡ status.WriteFault → ⊥) → IsGivenEnd lines s text → IsDoneOrWant s
+given_ends lines status.Done text uncut k = inl refl
+given_ends lines status.NoMemory text uncut k = inr refl
+given_ends lines status.WriteFault text uncut k = absurd (uncut refl)
+given_ends lines status.Usage text uncut k = absurd k
+given_ends lines status.QueryRefused text uncut k = absurd k
+given_ends lines status.RegistryRefused text uncut k = absurd k
+given_ends lines status.EndpointFault text uncut k = absurd k
+given_ends lines status.BadReply text uncut k = absurd k
+given_ends lines status.UnknownService text uncut k = absurd k
+given_ends lines status.ReadFault text uncut k = absurd k
+given_ends lines status.RequestTooLong text uncut k = absurd k
+given_ends lines status.GraphRefused text uncut k = absurd k
+given_ends lines status.DoorFault text uncut k = absurd k
+given_ends lines status.FileTooLong text uncut k = absurd k
+
+-- no write of a document or of the lines behind it failed
+none_cut : (P : List ℕ → Type 0) (out err : SinkWritten) → IsWrittenWell out → IsWrittenWell err → IsCutShort P out err → ⊥
+none_cut P out err well lines (inl c) = well c.0
+none_cut P out err well lines (inr c) = lines c.1
 
 -- ---- endpoints
 
@@ -181,13 +184,13 @@ sent_among es u rows at e text member found is =
     contains_from (unit_sent es u rows) sent (among_flat_map (member_sent es u rows) at sent u.members (among_from u.members at member) (subst (λ (l : List Sent). Among sent l) (sym all) (inl refl)))
 
 -- a batch whose text is longer than it may be isn't one of the query's
-no_long_batch : (es : List EndpointParts) (graphs : List (List Triple)) (block : ℕ) (asked : Query) (texts : List Sent) (u : unit.Unit) (rows : List Row) (at : ℕ) (e : EndpointParts) (size : ℕ)
-    → AreTextsShort es graphs block asked → AreStationsSent es graphs block (stations asked) (seeds asked (union graphs) no_graphs []) texts
+no_long_batch : (es : List EndpointParts) (texts : List Sent) (u : unit.Unit) (rows : List Row) (at : ℕ) (e : EndpointParts) (size : ℕ)
+    → All IsShort texts
     → Contains u.members at → slice_get es at ≡ Some e → ((x : Sent) → Contains (unit_sent es u rows) x → Contains texts x) → IsLongBatch (record { unit = u; rows = rows }) size → ⊥
-no_long_batch es graphs block asked texts u rows at e size short sent member found allowed long =
+no_long_batch es texts u rows at e size short member found allowed long =
     let x : Sent = record { at = e; request = request_of e long.text } in
     let among = allowed x (sent_among es u rows at e long.text member found long.of_batch) in
-    let fits : length long.text ≤ 67108864 = All-contains (λ (y : Sent). (text : List ℕ) → y.request ≡ request_of y.at text → length text ≤ 67108864) texts x (short texts sent) among long.text refl in
+    let fits : length long.text ≤ 67108864 = All-contains IsShort texts x short among long.text refl in
     let same : size ≡ length long.text = long.size_is in
     let more : 67108864 < size = long.long in
     omega (arith, fits, same, more)
@@ -205,50 +208,58 @@ no_bad_batch w es asked graphs block e xs bad told gained short is =
     let g = graph_told w.before es graphs is.asked.at e told is.asked.found in
     no_long_reply w xs (exchanged e bad.request bad.reply) gained short is.is_bad.exchanged_so (is.is_bad.long g.0 g.1).1
 
-no_bad_reply : (w : WiresSeen) (es : List EndpointParts) (asked : Query) (graphs : List (List Triple)) (block : ℕ) (e : EndpointParts) (xs : List Exchange) (bad : BadReply) → TellAll w.before es graphs → HaveGained w.before w.after xs → AreRepliesShort w
-    → HasBadAsk w.before es asked [] e xs bad ⊎ HasBadBatch w.before es asked block e xs bad → ⊥
-no_bad_reply w es asked graphs block e xs bad told gained short (inl h) = no_bad_ask w es asked graphs e xs bad told gained short h
-no_bad_reply w es asked graphs block e xs bad told gained short (inr h) = no_bad_batch w es asked graphs block e xs bad told gained short h
+no_bad_reply : (w : WiresSeen) (es : List EndpointParts) (asked : Query) (graphs : List (List Triple)) (block : ℕ) (e : EndpointParts) (calls : List Call) (texts : List Sent) (xs : List Exchange) (bad : BadReply) → TellAll w.before es graphs → HaveGained w.before w.after xs → AreRepliesShort w → AllIsWell es calls texts
+    → HasBadAsk w.before es asked [] e xs bad ⊎ (HasBadBatch w.before es asked block e xs bad ⊎ HasPlainCall calls (cause.Bad bad) (λ i. i ≡ e.iri)) → ⊥
+no_bad_reply w es asked graphs block e calls texts xs bad are_told gained short well (inl h) = no_bad_ask w es asked graphs e xs bad are_told gained short h
+no_bad_reply w es asked graphs block e calls texts xs bad are_told gained short well (inr (inl h)) = no_bad_batch w es asked graphs block e xs bad are_told gained short h
+no_bad_reply w es asked graphs block e calls texts xs bad are_told gained short well (inr (inr h)) = no_plain es calls (cause.Bad bad) (λ i. i ≡ e.iri) (λ iri is. is) well.each_harmless h
 
-no_long_text : (w : WiresSeen) (es : List EndpointParts) (asked : Query) (graphs : List (List Triple)) (block : ℕ) (texts : List Sent) (e : EndpointParts) (size : ℕ) → AreAsksShort es asked → AreTextsShort es graphs block asked
-    → AreStationsSent es graphs block (stations asked) (seeds asked (union graphs) no_graphs []) texts → HasLongAsk es asked [] e size ⊎ HasLongBatch es asked block e texts size → ⊥
-no_long_text w es asked graphs block texts e size asks short sent (inl (p, lacked, long)) = no_long_ask es asked p size asks lacked.lacked long
-no_long_text w es asked graphs block texts e size asks short sent (inr long) = no_long_batch es graphs block asked texts long.unit long.batch long.asked.at e size short sent long.asked.member long.asked.found long.allowed long.is_long
+no_long_text : (w : WiresSeen) (es : List EndpointParts) (asked : Query) (block : ℕ) (calls : List Call) (texts : List Sent) (e : EndpointParts) (size : ℕ) → AreAsksShort es asked → AllIsWell es calls texts
+    → HasLongAsk es asked [] e size ⊎ (HasLongBatch es asked block e texts size ⊎ HasPlainCall calls (cause.TooLong size) (λ i. i ≡ e.iri)) → ⊥
+no_long_text w es asked block calls texts e size asks well (inl (p, lacked, long)) = no_long_ask es asked p size asks lacked.lacked long
+no_long_text w es asked block calls texts e size asks well (inr (inl long)) = no_long_batch es texts long.unit long.batch long.asked.at e size well.texts_short long.asked.member long.asked.found long.allowed long.is_long
+no_long_text w es asked block calls texts e size asks well (inr (inr h)) = no_plain es calls (cause.TooLong size) (λ i. i ≡ e.iri) (λ iri is. is) well.each_harmless h
 
 no_unknown : (iri : List ℕ) → Some iri ≡ None → ⊥
 no_unknown iri h = cc
 
 -- the cause of a refusal by the members is one that there isn't
-query_refused : (w : WiresSeen) (es : List EndpointParts) (asked : Query) (graphs : List (List Triple)) (entries : List Entry) (block : ℕ) (e : FedError) (s : Status) → s ≡ fed_status_of e → unknown_of es asked ≡ None → TellAll w.before es graphs
-    → Federated w.tells w.alone w.before w.after es asked [] entries block (Err e) → AreWell w es → AreRepliesShort w → AreAsksShort es asked → AreTextsShort es graphs block asked → IsDoneOrWant s
-query_refused w es asked graphs entries block (fed.Member name) s is known told fed well replies asks texts = absurd (none_rose w es fed.cause.1.0 well fed.cause.1.1 fed.cause.1.3)
-query_refused w es asked graphs entries block (fed.BadReply name bad) s is known told fed well replies asks texts = absurd (no_bad_reply w es asked graphs block fed.cause.0 fed.exchanges bad told (fed.gained well.0) replies fed.cause.3)
-query_refused w es asked graphs entries block (fed.RequestTooLong name size) s is known told fed well replies asks texts =
-    absurd (no_long_text w es asked graphs block fed.texts fed.cause.0 size asks texts (fed.of_stations graphs (known_from_nothing w.before es graphs told)) fed.cause.3)
-query_refused w es asked graphs entries block (fed.UnknownService iri) s is known told fed well replies asks texts = absurd (no_unknown iri (sym fed.known ∙ known))
-query_refused w es asked graphs entries block fed.Memory s is known told fed well replies asks texts = inr is
+query_refused : (w : WiresSeen) (es : List EndpointParts) (asked : Query) (graphs : List (List Triple)) (graph_at : List ℕ → List Triple) (entries : List Entry) (block : ℕ) (e : FedError) (s : Status) → s ≡ fed_status_of e → unknown_of es asked ≡ None → TellAll w.before es graphs → Serve graph_at es graphs
+    → Federated w.tells w.alone w.before w.after es asked [] entries block (Err e) → AreWell w es → AreRepliesShort w → AreAsksShort es asked → AreTextsShort es graphs graph_at block asked → IsDoneOrWant s
+query_refused w es asked graphs graph_at entries block (fed.Member name) s is known are_told serve given well replies asks texts = absurd (none_rose w es given.cause.1.0 well given.cause.1.1 given.cause.1.3)
+query_refused w es asked graphs graph_at entries block (fed.Service iri) s is known are_told serve given well replies asks texts =
+    absurd (none_rose w es given.cause.1.0 well given.cause.1.1 (subst (λ (a : List ℕ). faults_at w.before a < faults_at w.after a) (sym given.cause.1.2) given.cause.2))
+query_refused w es asked graphs graph_at entries block (fed.BadReply name bad) s is known are_told serve given well replies asks texts =
+    let all = all_is_well w es asked graphs graph_at entries block (Err (fed.BadReply name bad)) are_told serve given well replies texts in
+    absurd (no_bad_reply w es asked graphs block given.cause.0 given.calls given.texts given.exchanges bad are_told (given.gained well.0) replies all given.cause.3)
+query_refused w es asked graphs graph_at entries block (fed.RequestTooLong name size) s is known are_told serve given well replies asks texts =
+    let all = all_is_well w es asked graphs graph_at entries block (Err (fed.RequestTooLong name size)) are_told serve given well replies texts in
+    absurd (no_long_text w es asked block given.calls given.texts given.cause.0 size asks all given.cause.3)
+query_refused w es asked graphs graph_at entries block (fed.UnknownService iri) s is known are_told serve given well replies asks texts = absurd (no_unknown iri (sym given.known ∙ known))
+query_refused w es asked graphs graph_at entries block fed.Memory s is known are_told serve given well replies asks texts = inr is
 
-query_asked : (w : WiresSeen) (es others : List EndpointParts) (asked other : Query) (graphs : List (List Triple)) (entries : List Entry) (block : ℕ) (e : FedError) (s : Status) → others ≡ es → other ≡ asked → s ≡ fed_status_of e → unknown_of es asked ≡ None → TellAll w.before es graphs
-    → Federated w.tells w.alone w.before w.after others other [] entries block (Err e) → AreWell w es → AreRepliesShort w → AreAsksShort es asked → AreTextsShort es graphs block asked → IsDoneOrWant s
-query_asked w es others asked other graphs entries block e s a b is known told fed =
-    query_refused w es asked graphs entries block e s is known told
+query_asked : (w : WiresSeen) (es others : List EndpointParts) (asked other : Query) (graphs : List (List Triple)) (graph_at : List ℕ → List Triple) (entries : List Entry) (block : ℕ) (e : FedError) (s : Status) → others ≡ es → other ≡ asked → s ≡ fed_status_of e → unknown_of es asked ≡ None
+    → TellAll w.before es graphs → Serve graph_at es graphs → Federated w.tells w.alone w.before w.after others other [] entries block (Err e) → AreWell w es → AreRepliesShort w → AreAsksShort es asked → AreTextsShort es graphs graph_at block asked → IsDoneOrWant s
+query_asked w es others asked other graphs graph_at entries block e s a b is known are_told serve fed =
+    query_refused w es asked graphs graph_at entries block e s is known are_told serve
     (subst (λ (v : Query). Federated w.tells w.alone w.before w.after es v [] entries block (Err e)) b (subst (λ (l : List EndpointParts). Federated w.tells w.alone w.before w.after l other [] entries block (Err e)) a fed))
 
-pub query_completes : (w : WiresSeen) (r q : FileRead) (block : ℕ) (s : Status) (text : List ℕ) (out : SinkWritten) → IsQueryReported w r q block s text → (s ≡ status.WriteFault → sink.HasFailed out)
-    → (es : List EndpointParts) (asked : Query) (graphs : List (List Triple)) → IsTold w r q es asked graphs → services asked ≡ []
-    → IsReadWell r → IsReadWell q → AreWell w es → IsWrittenWell out → AreRepliesShort w → AreAsksShort es asked → AreTextsShort es graphs block asked → IsDoneOrWant s
-query_completes w r q block s text out (inl (none, inl before)) cut es asked graphs told alone a b well written replies asks texts = before_asking r q es asked s text told.registry told.query a b before
-query_completes w r q block s text out (inl (none, inr refused)) cut es asked graphs told alone a b well written replies asks texts = absurd (the_query q asked HasServices told.query refused.2 alone)
-query_completes w r q block s text out (inr (Ok outcome, federated, end)) cut es asked graphs told alone a b well written replies asks texts = given_ends s text out cut written end
-query_completes w r q block s text out (inr (Err e, federated, end)) cut es asked graphs told alone a b well written replies asks texts =
-    query_asked w es federated.endpoints asked federated.asked graphs federated.entries block e s (registry_told r es federated.endpoints told.registry federated.registered) (query_told q asked federated.asked told.query federated.accepted)
-    end.0 (none_unknown es asked alone) told.graphs_are federated.federated well replies asks texts
+pub query_completes : (w : WiresSeen) (r q : FileRead) (block : ℕ) (s : Status) (text : List ℕ) (out err : SinkWritten) (P : List ℕ → Type 0) → IsQueryReported w r q block s text → (s ≡ status.WriteFault → IsCutShort P out err)
+    → (es : List EndpointParts) (asked : Query) (graphs : List (List Triple)) (graph_at : List ℕ → List Triple) → IsTold w r q es asked graphs → Serve graph_at es graphs → unknown_of es asked ≡ None
+    → IsReadWell r → IsReadWell q → AreWell w es → IsWrittenWell out → IsWrittenWell err → AreRepliesShort w → AreAsksShort es asked → AreTextsShort es graphs graph_at block asked → IsDoneOrWant s
+query_completes w r q block s text out err P (inl (none, before)) cut es asked graphs graph_at told serve known a b well written lines replies asks texts = before_asking r q es asked s text told.registry told.query a b before
+query_completes w r q block s text out err P (inr (Ok outcome, federated, end)) cut es asked graphs graph_at told serve known a b well written lines replies asks texts =
+    given_ends (down_lines outcome.down) s text (λ is. none_cut P out err written lines (cut is)) end
+query_completes w r q block s text out err P (inr (Err e, federated, end)) cut es asked graphs graph_at told serve known a b well written lines replies asks texts =
+    query_asked w es federated.endpoints asked federated.asked graphs graph_at federated.entries block e s (registry_told r es federated.endpoints told.registry federated.registered) (query_told q asked federated.asked told.query federated.accepted)
+    end.0 known told.graphs_are serve federated.federated well replies asks texts
 
 -- ---- `explain`
 
 plan_refused : (w : WiresSeen) (es : List EndpointParts) (asked : Query) (graphs : List (List Triple)) (entries : List Entry) (e : FedError) (s : Status) → s ≡ fed_status_of e → unknown_of es asked ≡ None → TellAll w.before es graphs
     → Planned w.tells w.alone w.before w.after es asked [] entries (Err e) → AreWell w es → AreRepliesShort w → AreAsksShort es asked → IsDoneOrWant s
 plan_refused w es asked graphs entries (fed.Member name) s is known told fed well replies asks = absurd (none_rose w es fed.cause.1.0 well fed.cause.1.1 fed.cause.1.3)
+plan_refused w es asked graphs entries (fed.Service iri) s is known told fed well replies asks = absurd fed.cause
 plan_refused w es asked graphs entries (fed.BadReply name bad) s is known told fed well replies asks = absurd (no_bad_ask w es asked graphs fed.cause.0 fed.exchanges bad told (fed.gained well.0) replies fed.cause.3)
 plan_refused w es asked graphs entries (fed.RequestTooLong name size) s is known told fed well replies asks = absurd (by_ask fed.cause.3)
   where
@@ -267,7 +278,7 @@ pub explain_completes : (w : WiresSeen) (r q : FileRead) (s : Status) (text : Li
     → (es : List EndpointParts) (asked : Query) (graphs : List (List Triple)) → IsTold w r q es asked graphs → unknown_of es asked ≡ None
     → IsReadWell r → IsReadWell q → AreWell w es → IsWrittenWell out → AreRepliesShort w → AreAsksShort es asked → IsDoneOrWant s
 explain_completes w r q s text out (inl (none, before)) cut es asked graphs told known a b well written replies asks = before_asking r q es asked s text told.registry told.query a b before
-explain_completes w r q s text out (inr (Ok parts, made, end)) cut es asked graphs told known a b well written replies asks = given_ends s text out cut written end
+explain_completes w r q s text out (inr (Ok parts, made, end)) cut es asked graphs told known a b well written replies asks = given_ends [] s text (λ is. written (cut is)) end
 explain_completes w r q s text out (inr (Err e, made, end)) cut es asked graphs told known a b well written replies asks =
     plan_asked w es made.endpoints asked made.asked graphs made.entries e s (registry_told r es made.endpoints told.registry made.registered) (query_told q asked made.asked told.query made.accepted)
     end.0 known told.graphs_are made.planned well replies asks
@@ -279,11 +290,7 @@ pub local_completes : (g q : FileRead) (s : Status) (text : List ℕ) (out err :
     → IsReadWell g → IsReadWell q → IsWrittenWell out → IsWrittenWell err → IsDoneOrWant s
 local_completes g q status.Done text out err P reported cut graph asked h k silent a b well lines = inl refl
 local_completes g q status.NoMemory text out err P reported cut graph asked h k silent a b well lines = inr refl
-local_completes g q status.WriteFault text out err P reported cut graph asked h k silent a b well lines = absurd (by_sink (cut refl))
-  where
-    by_sink : IsCutShort P out err → ⊥
-    by_sink (inl c) = well c.0
-    by_sink (inr c) = lines c.1
+local_completes g q status.WriteFault text out err P reported cut graph asked h k silent a b well lines = absurd (none_cut P out err well lines (cut refl))
 local_completes g q status.GraphRefused text out err P reported cut graph asked h k silent a b well lines = absurd (a_graph_is g graph reported.0 h reported.1)
 local_completes g q status.QueryRefused text out err P reported cut graph asked h k silent a b well lines = absurd (a_query_is q asked reported.1.0 reported.1.1 k reported.1.2)
 local_completes g q status.UnknownService text out err P reported cut graph asked h k silent a b well lines = absurd (clash reported.1.0 (sym (the_query q asked (HasPlain reported.1.0) k reported.1.1) ∙ silent))
@@ -324,7 +331,7 @@ member_completes g door later address count status.RequestTooLong before text er
 
 pub want_completes : (read : List ℕ → FileRead) (w : WiresSeen) (door later : DoorSeen) (asked : Option Asked) (out err : SinkWritten) → Completes read w door later asked status.NoMemory out err
 want_completes read w door later None out err = tt
-want_completes read w door later (Some (over_members r q workers block)) out err = λ es asked graphs told alone a b well written replies asks texts. inr refl
+want_completes read w door later (Some (over_members r q workers block)) out err = λ es asked graphs graph_at told serve known a b well written lines replies asks texts. inr refl
 want_completes read w door later (Some (planned r q)) out err = λ es asked graphs told known a b well written replies asks. inr refl
 want_completes read w door later (Some (over_file g q)) out err = λ graph asked h k silent a b well lines. inr refl
 want_completes read w door later (Some (served g address count)) out err = λ graph h a same lines. inr refl

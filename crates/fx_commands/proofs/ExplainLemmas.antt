@@ -1,5 +1,5 @@
 -- What the steps of `explain` report is what the whole reports.
-use Rattle.std.proofs.Common.{◌≡◌, ◌∙◌, ap, sym, refl, ℕ, ◌≤◌, List, Option, Some, None, Ok, Err, length, inl, inr, IsTrue}
+use Rattle.std.proofs.Common.{◌≡◌, ◌∙◌, ap, refl, ℕ, ◌≤◌, List, [], Option, Some, None, Ok, Err, length, inl, inr, IsTrue}
 use Rattle.std.specs.Prelude.{IfSome, Result}
 use Rattle.fx_outside.specs.Endpoints.{EndpointParts}
 use Rattle.fx_algebra.specs.declared.queries.Query.{Query}
@@ -35,7 +35,7 @@ none_counted w es asked parts (inr given) = λ alone. given.1.quiet alone
 
 -- ---- reports
 
-pub plan_given : (w : WiresSeen) (es : List EndpointParts) (asked : Query) (parts : List Part) (s : Status) (text : List ℕ) → IsLaidOut w es asked (Ok parts) → IsGivenEnd s text → IsLayoutReported w es asked s text
+pub plan_given : (w : WiresSeen) (es : List EndpointParts) (asked : Query) (parts : List Part) (s : Status) (text : List ℕ) → IsLaidOut w es asked (Ok parts) → IsGivenEnd [] s text → IsLayoutReported w es asked s text
 plan_given w es asked parts s text (inl none) end = absurd (none_planned parts none.1)
 plan_given w es asked parts s text (inr given) end = inr (Ok parts, given, end)
 

@@ -1,40 +1,51 @@
 -- The theorem of `run` from what its commands report and write.
-use Rattle.std.proofs.Common.{◌≡◌, ◌∙◌, ap, sym, subst, ℕ, ◌≤◌, ◌<◌, List, [], ◌++◌, Option, Some, None, Ok, Err, length, inl, inr, arith, take, IsTrue}
+use Rattle.std.proofs.Common.{◌≡◌, ◌∙◌, ap, sym, subst, ℕ, ◌≤◌, ◌<◌, ◌⊎◌, List, [], ◌++◌, map, Option, Some, None, Ok, Err, length, inl, inr, arith, take, IsTrue}
 use Rattle.std.specs.Prelude.{Contains, IfSome}
 use Rattle.std.proofs.lemmas.List.{take_all}
+use Rattle.std.proofs.lemmas.List.Elements.{Contains-append_left}
 use Rattle.fx_terms.specs.declared.triples.Triple.{Triple}
+use Rattle.fx_terms.proofs.SetLemmas.{among_from, contains_from}
 use Rattle.fx_outside.specs.Endpoints.{EndpointParts}
 use Rattle.fx_outside.specs.Streams.{AppendsFront}
-use Rattle.fx_algebra.specs.Answers.{answer, answer_alone, no_graphs}
+use Rattle.fx_algebra.specs.Answers.{answer, no_graphs}
 use Rattle.fx_algebra.specs.Graphs.{union}
 use Rattle.fx_algebra.specs.Occurrences.{services}
 use Rattle.fx_algebra.specs.Units.{sources}
+use Rattle.fx_algebra.specs.declared.answers.Answer.{Answer}
 use Rattle.fx_algebra.specs.declared.queries.Query.{Query}
+use Rattle.fx_algebra.proofs.MemberLemmas.{among_map}
 use Rattle.fx_grammar.specs.Accepted.{Accepted}
 use Rattle.fx_grammar.proofs.OneQuery.{one_query_holds}
 use Rattle.fx_ntriples.specs.Forms.{IsDocument}
 use Rattle.fx_ntriples.proofs.Complete.{document_reads}
 use Rattle.fx_results.specs.Documents.{document}
 use Rattle.fx_plan.specs.Explained.{explained}
+use Rattle.fx_sources.specs.Probes.{Entry}
 use Rattle.fx_sources.specs.Registries.{read_registry}
 use Rattle.fx_traffic.specs.Gains.{TellAll, faults_at}
+use Rattle.fx_engine.specs.Calls.{AreFirst, Call, Occurrence, occurrences}
+use Rattle.fx_engine.specs.Mediation.{Federated, HasPlain, Serve}
 use Rattle.fx_engine.specs.Sections.{parts_with}
+use Rattle.fx_engine.specs.declared.mediator.Down.{Down}
+use Rattle.fx_engine.specs.declared.mediator.DownCause.{DownCause}
 use Rattle.fx_engine.specs.declared.mediator.FedError.TheVariants as fed
+use Rattle.fx_engine.specs.declared.mediator.Outcome.{Outcome}
 use Rattle.fx_commands.specs.declared.limits.TheConstants.{GRAPH_LIMIT, QUERY_LIMIT, REGISTRY_LIMIT}
 use Rattle.fx_commands.specs.declared.statuses.Status.{Status}
 use Rattle.fx_commands.specs.declared.statuses.Status.TheVariants as status
 use Rattle.fx_commands.specs.Asking.{WiresSeen}
 use Rattle.fx_commands.specs.Commands.{Asked, over_file, over_members, planned, served}
 use Rattle.fx_commands.specs.Explain.{IsExplainReported, IsExplainWritten}
-use Rattle.fx_commands.specs.Files.{FileRead, IsQueryOf, IsRegistryOf}
-use Rattle.fx_commands.specs.Headline.{Headline, Holds, IsTold, NamesFailed, Writes}
-use Rattle.fx_commands.specs.Lines.{Gains, member_failed}
+use Rattle.fx_commands.specs.Files.{FileRead, Holds, IsQueryOf, IsQueryThat, IsRegistryOf}
+use Rattle.fx_commands.specs.Headline.{AreWritten, Headline, IsTold, NamesFailed}
+use Rattle.fx_commands.specs.Lines.{Gains, down_lines, member_failed, service_failed}
 use Rattle.fx_commands.specs.Local.{HasLines, IsWritten}
-use Rattle.fx_commands.specs.Files.{IsQueryThat}
-use Rattle.fx_commands.specs.Query.{IsQueryReported, IsQueryWritten}
+use Rattle.fx_commands.specs.Query.{IsOutcomeWritten, IsQueryDone, IsQueryReported}
 use Rattle.fx_commands.specs.Services.{all_numbers, silent_lines}
+use Rattle.fx_commands.specs.Silent.{AreLicensed, IsPlain}
 use Rattle.fx_commands.specs.Sinks.{SinkWritten}
-use Rattle.fx_commands.proofs.QueryLemmas.{fed_not_done}
+use Rattle.fx_commands.proofs.QueryLemmas.{fed_not_done, known_from_nothing}
+use Rattle.fx_commands.proofs.SilentLemmas.{are_licensed}
 
 -- ---- what is told
 
@@ -55,67 +66,88 @@ nothing_more old new text front is = front.1 ∙ ap (λ (t : List ℕ). old ++ t
 
 -- ---- `query`
 
-query_done : (w : WiresSeen) (r q : FileRead) (block : ℕ) (text : List ℕ) → IsQueryReported w r q block status.Done text → text ≡ []
-query_done w r q block text (inl (none, inl before)) = absurd before
-query_done w r q block text (inl (none, inr refused)) = absurd (other refused.0)
-  where
-    other : status.Done ≡ status.QueryRefused → ⊥
-    other h = cc
-query_done w r q block text (inr (Ok outcome, federated, end)) = end
-query_done w r q block text (inr (Err e, federated, end)) = absurd (fed_not_done e (sym end.0))
+-- an endpoint has the line of a refusal for an exchange that failed
+abbrev pub IsFailureLine : Query → EndpointParts → List ℕ → Type 0
+IsFailureLine asked e line = (line ≡ member_failed e.name) ⊎ (IsPlain asked e.iri × (line ≡ service_failed e.iri))
 
--- the endpoint that a refusal names
-query_failed : (w : WiresSeen) (r q : FileRead) (block : ℕ) (text : List ℕ) (es : List EndpointParts) → Holds r REGISTRY_LIMIT (λ content. read_registry content ≡ Ok es) → IsQueryReported w r q block status.EndpointFault text
-    → (e : EndpointParts) × Contains es e × (faults_at w.before e.iri < faults_at w.after e.iri) × (text ≡ member_failed e.name)
-query_failed w r q block text es h (inl (none, inl before)) = absurd before
-query_failed w r q block text es h (inl (none, inr refused)) = absurd (other refused.0)
-  where
-    other : status.EndpointFault ≡ status.QueryRefused → ⊥
-    other h = cc
-query_failed w r q block text es h (inr (Ok outcome, federated, end)) = absurd end
-query_failed w r q block text es h (inr (Err (fed.Member name), federated, end)) =
+-- the endpoint that a refusal names, and its line
+abbrev FailedAt : WiresSeen → List EndpointParts → (EndpointParts → List ℕ → Type 0) → List ℕ → Type 0
+FailedAt w es IsLine text = (e : EndpointParts) × Contains es e × (faults_at w.before e.iri < faults_at w.after e.iri) × IsLine e text
+
+-- an occurrence that was invoked is one of the query's
+pub of_query : (asked : Query) (calls : List Call) (c : Call) → AreFirst calls (occurrences asked) → Contains calls c → Contains (occurrences asked) c.of
+of_query asked calls c first among =
+    let mine : Contains (map (λ (x : Call). x.of) calls ++ first.others) c.of = Contains-append_left (map (λ (x : Call). x.of) calls) first.others c.of (contains_from (map (λ (x : Call). x.of) calls) c.of (among_map (λ (x : Call). x.of) c calls (among_from calls c among))) in
+    subst (λ (l : List Occurrence). Contains l c.of) first.are mine
+
+plain_at : (asked : Query) (calls : List Call) (why : DownCause) (iri address : List ℕ) → AreFirst calls (occurrences asked) → HasPlain calls why (λ i. i ≡ iri) → address ≡ iri → IsPlain asked address
+plain_at asked calls why iri address first h same = (h.0.of, of_query asked calls h.0 first h.1, h.2, h.4 ∙ sym same)
+
+query_failed : (w : WiresSeen) (r q : FileRead) (block : ℕ) (text : List ℕ) (es : List EndpointParts) (asked : Query) → Holds r REGISTRY_LIMIT (λ content. read_registry content ≡ Ok es) → Holds q QUERY_LIMIT (λ content. Accepted content asked)
+    → IsQueryReported w r q block status.EndpointFault text → FailedAt w es (IsFailureLine asked) text
+query_failed w r q block text es asked h k (inl (none, before)) = absurd before
+query_failed w r q block text es asked h k (inr (Ok outcome, federated, end)) = absurd end
+query_failed w r q block text es asked h k (inr (Err (fed.Member name), federated, end)) =
     let at = federated.federated.cause.1 in
-    (at.0, subst (λ (l : List EndpointParts). Contains l at.0) (registry_told r es federated.endpoints h federated.registered) at.1, at.3, end.1 ∙ ap member_failed (sym at.2))
-query_failed w r q block text es h (inr (Err (fed.BadReply name bad), federated, end)) = absurd (other end.0)
+    (at.0, subst (λ (l : List EndpointParts). Contains l at.0) (registry_told r es federated.endpoints h federated.registered) at.1, at.3, inl (end.1 ∙ ap member_failed (sym at.2)))
+query_failed w r q block text es asked h k (inr (Err (fed.Service iri), federated, end)) =
+    let cause = federated.federated.cause in
+    let e = cause.1.0 in
+    let plain : IsPlain federated.asked e.iri = plain_at federated.asked federated.federated.calls _ iri e.iri federated.federated.first cause.0 cause.1.2 in (
+      e,
+      subst (λ (l : List EndpointParts). Contains l e) (registry_told r es federated.endpoints h federated.registered) cause.1.1,
+      subst (λ (a : List ℕ). faults_at w.before a < faults_at w.after a) (sym cause.1.2) cause.2,
+      inr (subst (λ (v : Query). IsPlain v e.iri) (query_told q asked federated.asked k federated.accepted) plain, end.1 ∙ ap service_failed (sym cause.1.2)),
+    )
+query_failed w r q block text es asked h k (inr (Err (fed.BadReply name bad), federated, end)) = absurd (other end.0)
   where
     other : status.EndpointFault ≡ status.BadReply → ⊥
     other h = cc
-query_failed w r q block text es h (inr (Err (fed.RequestTooLong name size), federated, end)) = absurd (other end.0)
+query_failed w r q block text es asked h k (inr (Err (fed.RequestTooLong name size), federated, end)) = absurd (other end.0)
   where
     other : status.EndpointFault ≡ status.RequestTooLong → ⊥
     other h = cc
-query_failed w r q block text es h (inr (Err (fed.UnknownService iri), federated, end)) = absurd (other end.0)
+query_failed w r q block text es asked h k (inr (Err (fed.UnknownService iri), federated, end)) = absurd (other end.0)
   where
     other : status.EndpointFault ≡ status.UnknownService → ⊥
     other h = cc
-query_failed w r q block text es h (inr (Err fed.Memory, federated, end)) = absurd (other end.0)
+query_failed w r q block text es asked h k (inr (Err fed.Memory, federated, end)) = absurd (other end.0)
   where
     other : status.EndpointFault ≡ status.NoMemory → ⊥
     other h = cc
 
-query_wrote : (w : WiresSeen) (r q : FileRead) (es : List EndpointParts) (asked : Query) (graphs : List (List Triple)) (s : Status) (old new : List ℕ) → IsTold w r q es asked graphs → s ≡ status.Done → IsQueryWritten w.before r q s old new
-    → new ≡ old ++ document (answer_alone asked (union graphs))
-query_wrote w r q es asked graphs s old new told done h =
-    let wrote = subst (λ (v : Status). IsQueryWritten w.before r q v old new) done h in
-    let inner = of_told _ r.content told.registry.0 told.registry.1 wrote.1 in
-    let answers = of_told _ q.content told.query.0 told.query.1 inner in
-    let same_members = same_registry told.registry.0 es answers.endpoints told.registry.3 answers.registered in
-    let same_asked = one_query_holds told.query.0 answers.asked asked answers.accepted told.query.3 in
-    wrote.2
-    ∙ ap (λ (t : List ℕ). old ++ t) (
-    answers.document_is graphs (subst (λ (l : List EndpointParts). TellAll w.before l graphs) (sym same_members) told.graphs_are)
-    ∙ ap (λ (v : Query). document (answer_alone v (union graphs))) same_asked)
+-- with `Done`
+abbrev IsAnswerOver : WiresSeen → List EndpointParts → Query → List (List Triple) → (List ℕ → List Triple) → SinkWritten → SinkWritten → Type 0
+IsAnswerOver w es asked graphs graph_at out err = (noted : List Down) × AreLicensed w es asked noted × AreWritten (document (answer asked (union graphs) graph_at (map (λ d. d.place) noted))) (down_lines noted) out err
 
-pub query_headline : (w : WiresSeen) (r q : FileRead) (block : ℕ) (s : Status) (text : List ℕ) (out err : SinkWritten) → IsQueryReported w r q block s text → (IsTrue err.tells → Gains err.old err.new err.before err.after text) → (IsTrue out.tells → IsQueryWritten w.before r q s out.old out.new)
-    → (es : List EndpointParts) (asked : Query) (graphs : List (List Triple)) → IsTold w r q es asked graphs → Writes (document (answer_alone asked (union graphs))) [] s out err × NamesFailed w es s err
-query_headline w r q block s text out err reported gains wrote es asked graphs told = (
-  λ done. (
-    λ tells. query_wrote w r q es asked graphs s out.old out.new told done (wrote tells),
-    λ tells. nothing_more err.old err.new text (gains tells).front (query_done w r q block text (subst (λ (v : Status). IsQueryReported w r q block v text) done reported)),
+answer_is : (w : WiresSeen) (es : List EndpointParts) (asked : Query) (graphs : List (List Triple)) (graph_at : List ℕ → List Triple) (block : ℕ) (entries : List Entry) (outcome : Outcome) (out err : SinkWritten) → TellAll w.before es graphs → Serve graph_at es graphs
+    → Federated w.tells w.alone w.before w.after es asked [] entries block (Ok outcome) → IsOutcomeWritten outcome out err → IsAnswerOver w es asked graphs graph_at out err
+answer_is w es asked graphs graph_at block entries outcome out err told serve fed wrote = (
+  outcome.down,
+  are_licensed w es asked entries block outcome fed,
+  (
+    λ tells. wrote.0 tells ∙ ap (λ (a : Answer). out.old ++ document a) (fed.answer graphs (known_from_nothing w.before es graphs told) graph_at serve),
+    wrote.1,
   ),
+)
+
+query_answered : (w : WiresSeen) (r q : FileRead) (es others : List EndpointParts) (asked other : Query) (graphs : List (List Triple)) (graph_at : List ℕ → List Triple) (block : ℕ) (entries : List Entry) (outcome : Outcome) (out err : SinkWritten) → others ≡ es → other ≡ asked
+    → TellAll w.before es graphs → Serve graph_at es graphs → Federated w.tells w.alone w.before w.after others other [] entries block (Ok outcome) → IsOutcomeWritten outcome out err → IsAnswerOver w es asked graphs graph_at out err
+query_answered w r q es others asked other graphs graph_at block entries outcome out err a b told serve fed =
+    answer_is w es asked graphs graph_at block entries outcome out err told serve
+    (subst (λ (v : Query). Federated w.tells w.alone w.before w.after es v [] entries block (Ok outcome)) b (subst (λ (l : List EndpointParts). Federated w.tells w.alone w.before w.after l other [] entries block (Ok outcome)) a fed))
+
+pub query_headline : (w : WiresSeen) (r q : FileRead) (block : ℕ) (s : Status) (text : List ℕ) (out err : SinkWritten) → IsQueryReported w r q block s text → (IsTrue err.tells → Gains err.old err.new err.before err.after text) → (s ≡ status.Done → IsQueryDone w r q block out err)
+    → (es : List EndpointParts) (asked : Query) (graphs : List (List Triple)) (graph_at : List ℕ → List Triple) → IsTold w r q es asked graphs → Serve graph_at es graphs
+    → (s ≡ status.Done → IsAnswerOver w es asked graphs graph_at out err) × NamesFailed w es (IsFailureLine asked) s err
+query_headline w r q block s text out err reported gains given es asked graphs graph_at told serve = (
+  λ is.
+      let done = given is in
+      let fed = done.1 in
+      query_answered w r q es fed.endpoints asked fed.asked graphs graph_at block fed.entries done.0 out err (registry_told r es fed.endpoints told.registry fed.registered) (query_told q asked fed.asked told.query fed.accepted) told.graphs_are serve fed.federated done.2,
   λ failed.
-      let at = query_failed w r q block text es told.registry (subst (λ (v : Status). IsQueryReported w r q block v text) failed reported) in
-      (at.0, at.1, at.2, λ tells. subst (Gains err.old err.new err.before err.after) at.3 (gains tells)),
+      let at = query_failed w r q block text es asked told.registry told.query (subst (λ (v : Status). IsQueryReported w r q block v text) failed reported) in
+      (at.0, text, at.1, at.2, at.3, gains),
 )
 
 -- ---- `explain`
@@ -126,12 +158,13 @@ explain_done w r q text (inr (Ok parts, made, end)) = end
 explain_done w r q text (inr (Err e, made, end)) = absurd (fed_not_done e (sym end.0))
 
 explain_failed : (w : WiresSeen) (r q : FileRead) (text : List ℕ) (es : List EndpointParts) → Holds r REGISTRY_LIMIT (λ content. read_registry content ≡ Ok es) → IsExplainReported w r q status.EndpointFault text
-    → (e : EndpointParts) × Contains es e × (faults_at w.before e.iri < faults_at w.after e.iri) × (text ≡ member_failed e.name)
+    → FailedAt w es (λ e line. line ≡ member_failed e.name) text
 explain_failed w r q text es h (inl (none, before)) = absurd before
 explain_failed w r q text es h (inr (Ok parts, made, end)) = absurd end
 explain_failed w r q text es h (inr (Err (fed.Member name), made, end)) =
     let at = made.planned.cause.1 in
     (at.0, subst (λ (l : List EndpointParts). Contains l at.0) (registry_told r es made.endpoints h made.registered) at.1, at.3, end.1 ∙ ap member_failed (sym at.2))
+explain_failed w r q text es h (inr (Err (fed.Service iri), made, end)) = absurd made.planned.cause
 explain_failed w r q text es h (inr (Err (fed.BadReply name bad), made, end)) = absurd (other end.0)
   where
     other : status.EndpointFault ≡ status.BadReply → ⊥
@@ -164,7 +197,8 @@ explain_wrote w r q es asked graphs s old new told done h =
     ∙ ap (λ (l : List EndpointParts). explained (parts_with (sources graphs) asked) l) same_members)
 
 pub explain_headline : (w : WiresSeen) (r q : FileRead) (s : Status) (text : List ℕ) (out err : SinkWritten) → IsExplainReported w r q s text → (IsTrue err.tells → Gains err.old err.new err.before err.after text) → (IsTrue out.tells → IsExplainWritten w.before r q s out.old out.new)
-    → (es : List EndpointParts) (asked : Query) (graphs : List (List Triple)) → IsTold w r q es asked graphs → Writes (explained (parts_with (sources graphs) asked) es) [] s out err × NamesFailed w es s err
+    → (es : List EndpointParts) (asked : Query) (graphs : List (List Triple)) → IsTold w r q es asked graphs
+    → (s ≡ status.Done → AreWritten (explained (parts_with (sources graphs) asked) es) [] out err) × NamesFailed w es (λ e line. line ≡ member_failed e.name) s err
 explain_headline w r q s text out err reported gains wrote es asked graphs told = (
   λ done. (
     λ tells. explain_wrote w r q es asked graphs s out.old out.new told done (wrote tells),
@@ -172,7 +206,7 @@ explain_headline w r q s text out err reported gains wrote es asked graphs told 
   ),
   λ failed.
       let at = explain_failed w r q text es told.registry (subst (λ (v : Status). IsExplainReported w r q v text) failed reported) in
-      (at.0, at.1, at.2, λ tells. subst (Gains err.old err.new err.before err.after) at.3 (gains tells)),
+      (at.0, text, at.1, at.2, at.3, gains),
 )
 
 -- ---- `local`
@@ -201,7 +235,7 @@ local_lines q asked lines k h =
 
 pub local_headline : (g q : FileRead) (s : Status) (out err : SinkWritten) → (IsTrue out.tells → IsWritten g q s out.old out.new) → (s ≡ status.Done → IsTrue err.tells → (lines : List ℕ) × IsQueryThat q (HasLines lines) × (err.new ≡ err.old ++ lines))
     → (graph : List Triple) (asked : Query) → Holds g GRAPH_LIMIT (λ content. IsDocument content graph) → Holds q QUERY_LIMIT (λ content. Accepted content asked)
-    → Writes (document (answer asked graph no_graphs (all_numbers (services asked)))) (silent_lines (services asked)) s out err
+    → s ≡ status.Done → AreWritten (document (answer asked graph no_graphs (all_numbers (services asked)))) (silent_lines (services asked)) out err
 local_headline g q s out err written lines graph asked h k = λ done. (
   λ tells. local_wrote g q graph asked s out.old out.new h k done (written tells),
   λ tells. let wrote = lines done tells in wrote.2 ∙ ap (λ (t : List ℕ). err.old ++ t) (local_lines q asked wrote.0 k wrote.1),
@@ -211,7 +245,7 @@ local_headline g q s out err written lines graph asked h k = λ done. (
 
 pub no_headline : (read : List ℕ → FileRead) (w : WiresSeen) (asked : Option Asked) (out err : SinkWritten) → Headline read w asked status.NoMemory out err
 no_headline read w None out err = tt
-no_headline read w (Some (over_members r q workers block)) out err = λ es asked graphs told. (λ done. absurd (not_done done), λ failed. absurd (not_failed failed))
+no_headline read w (Some (over_members r q workers block)) out err = λ es asked graphs graph_at told serve. (λ done. absurd (not_done done), λ failed. absurd (not_failed failed))
   where
     not_done : status.NoMemory ≡ status.Done → ⊥
     not_done h = cc

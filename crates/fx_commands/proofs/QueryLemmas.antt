@@ -1,17 +1,16 @@
 -- What the steps of `query` report is what the whole reports.
-use Rattle.std.proofs.Common.{◌≡◌, ◌∙◌, ap, sym, subst, refl, ℕ, ◌≤◌, List, [], Option, Some, None, Ok, Err, length, inl, inr, arith, IsTrue}
+use Rattle.std.proofs.Common.{◌≡◌, ◌∙◌, ap, sym, subst, refl, ℕ, ◌≤◌, List, [], ◌++◌, Option, Some, None, Ok, Err, length, inl, inr, arith}
 use Rattle.std.specs.Prelude.{IfSome, Result}
 use Rattle.std.proofs.lemmas.List.Elements.{All-nil}
 use Rattle.fx_outside.specs.Endpoints.{EndpointParts}
 use Rattle.fx_terms.specs.declared.triples.Triple.{Triple}
-use Rattle.fx_algebra.specs.Occurrences.{services}
 use Rattle.fx_algebra.specs.declared.queries.Query.{Query}
 use Rattle.fx_grammar.specs.Accepted.{Accepted}
 use Rattle.fx_results.specs.Documents.{document}
 use Rattle.fx_sources.specs.Registries.{read_registry}
 use Rattle.fx_sources.specs.Sources as source
 use Rattle.fx_sources.specs.declared.errors.RegistryError.TheVariants as error
-use Rattle.fx_traffic.specs.Gains.{TellAll, faults_at}
+use Rattle.fx_traffic.specs.Gains.{TellAll}
 use Rattle.fx_wire.specs.Exchanges.{Seen}
 use Rattle.fx_engine.specs.Mediation.{AreKnown}
 use Rattle.fx_engine.specs.declared.mediator.FedError.{FedError}
@@ -26,12 +25,14 @@ use Rattle.fx_commands.specs.declared.statuses.Status.{Status}
 use Rattle.fx_commands.specs.declared.statuses.Status.TheVariants as status
 use Rattle.fx_commands.specs.Asking.{WiresSeen, IsRefusedBefore}
 use Rattle.fx_commands.specs.FedRefusals.{IsGivenEnd, fed_line, fed_status_of}
-use Rattle.fx_commands.specs.Files.{FileRead, IsRegistryFile, IsQueryThat}
-use Rattle.fx_commands.specs.LocalSteps.{GivesQuery, query_line}
-use Rattle.fx_commands.specs.MemberSteps.{GivesRegistry, IsAnswerReported, IsAnswered, IsAskReported, IsWant, registry_line}
-use Rattle.fx_commands.specs.Query.{HasServices, IsQueryReported, IsUnionAnswer, IsUnionAnswerOf, IsUnionDocument}
+use Rattle.fx_commands.specs.Files.{FileRead, IsRegistryFile}
+use Rattle.fx_commands.specs.Lines.{down_lines}
+use Rattle.fx_commands.specs.LocalSteps.{GivesQuery, IsDocumentWritten, IsLineReported, query_line}
+use Rattle.fx_commands.specs.MemberSteps.{GivesRegistry, IsAnswerDone, IsAnswerReported, IsAnswered, IsWant, registry_line}
+use Rattle.fx_commands.specs.Query.{IsOutcomeWritten, IsQueryDone, IsQueryReported, IsUnionAnswer, IsUnionAnswerOf, IsUnionDocument}
 use Rattle.fx_commands.specs.RefusalStatuses.{query_status, registry_status}
-use Rattle.fx_commands.specs.Sinks.{Wrote}
+use Rattle.fx_commands.specs.Sinks.{IsCutShort, SinkWritten, Wrote}
+use Rattle.fx_commands.proofs.SilentLemmas.{are_down}
 
 -- ---- files
 
@@ -51,13 +52,6 @@ a_registry r es h = pick r.content h
     pick : (o : Option (List ℕ)) → IfSome o (λ all. (length all ≤ REGISTRY_LIMIT) × (read_registry all ≡ Ok es)) → IfSome o (λ all. (length all ≤ REGISTRY_LIMIT) × ((es : List EndpointParts) × (read_registry all ≡ Ok es)))
     pick None h = tt
     pick (Some all) h = (h.0, (es, h.1))
-
-pub query_that : (q : FileRead) (asked : Query) (P : Query → Type 0) → P asked → GivesQuery q (Ok asked) → IsQueryThat q P
-query_that q asked P p h = pick q.content h
-  where
-    pick : (o : Option (List ℕ)) → IfSome o (λ all. (length all ≤ QUERY_LIMIT) × Accepted all asked) → IfSome o (λ all. (length all ≤ QUERY_LIMIT) × ((x : Query) × Accepted all x × P x))
-    pick None h = tt
-    pick (Some all) h = (h.0, (asked, h.1, p))
 
 pub query_refused_before : (r q : FileRead) (es : List EndpointParts) (e : QueryRefusal) → GivesRegistry r (Ok es) → GivesQuery q (Err e) → IsRefusedBefore r q (query_status e) (query_line e q.name)
 query_refused_before r q es query.Fault g h = inr (a_registry r es g, h, refl)
@@ -105,6 +99,7 @@ refused_wrote P e s held is = subst (λ (v : Status). Wrote P v held held) (sym 
   where
     by_error : (e : FedError) → Wrote P (fed_status_of e) held held
     by_error (fed.Member name) = refl
+    by_error (fed.Service iri) = refl
     by_error (fed.BadReply name bad) = refl
     by_error (fed.RequestTooLong name size) = refl
     by_error (fed.UnknownService iri) = refl
@@ -135,6 +130,7 @@ query_wrote P e s held is = subst (λ (v : Status). Wrote P v held held) (sym is
 -- a refusal by the members, by the registry or by the query isn't `Done` nor a failed write
 pub fed_not_done : (e : FedError) → fed_status_of e ≡ status.Done → ⊥
 fed_not_done (fed.Member name) h = cc
+fed_not_done (fed.Service iri) h = cc
 fed_not_done (fed.BadReply name bad) h = cc
 fed_not_done (fed.RequestTooLong name size) h = cc
 fed_not_done (fed.UnknownService iri) h = cc
@@ -142,41 +138,55 @@ fed_not_done fed.Memory h = cc
 
 pub fed_not_cut : (e : FedError) → fed_status_of e ≡ status.WriteFault → ⊥
 fed_not_cut (fed.Member name) h = cc
+fed_not_cut (fed.Service iri) h = cc
 fed_not_cut (fed.BadReply name bad) h = cc
 fed_not_cut (fed.RequestTooLong name size) h = cc
 fed_not_cut (fed.UnknownService iri) h = cc
 fed_not_cut fed.Memory h = cc
+
+pub registry_not_done : (e : RegistryRefusal) → registry_status e ≡ status.Done → ⊥
+registry_not_done registry.Fault h = cc
+registry_not_done registry.TooLong h = cc
+registry_not_done (registry.Refused (error.Bad n)) h = cc
+registry_not_done (registry.Refused (error.TooMany n)) h = cc
+registry_not_done (registry.Refused (error.RepeatedName n)) h = cc
+registry_not_done (registry.Refused (error.RepeatedUrl n)) h = cc
+registry_not_done (registry.Refused error.Memory) h = cc
+registry_not_done registry.Memory h = cc
+
+pub query_not_done : (e : QueryRefusal) → query_status e ≡ status.Done → ⊥
+query_not_done query.Fault h = cc
+query_not_done query.TooLong h = cc
+query_not_done (query.Refused kind at) h = cc
+query_not_done query.Memory h = cc
 
 -- ---- what is known where nothing is known of the cache
 
 pub known_from_nothing : (wires : List Seen) (es : List EndpointParts) (graphs : List (List Triple)) → TellAll wires es graphs → AreKnown wires es [] graphs
 known_from_nothing wires es graphs told = record { told = told; entries_are = All-nil (source.Tells graphs) }
 
+none_given : (outcome : Outcome) → Ok outcome ≡ Err fed.Memory → ⊥
+none_given outcome h = cc
+
 -- the answer that the members gave is that over the union
 pub union_document : (w : WiresSeen) (es : List EndpointParts) (asked : Query) (block : ℕ) (outcome : Outcome) (text : List ℕ) → IsAnswered w es asked block (Ok outcome) → text ≡ document outcome.answer → IsUnionDocument w.before es asked text
-union_document w es asked block outcome text (inl none) is = absurd (none_given none.1)
-  where
-    none_given : Ok outcome ≡ Err fed.Memory → ⊥
-    none_given h = cc
-union_document w es asked block outcome text (inr given) is = λ graphs told. is ∙ ap document (given.1.answer graphs (known_from_nothing w.before es graphs told))
-
--- where the members gave something, no fault was counted
-pub none_counted : (w : WiresSeen) (es : List EndpointParts) (asked : Query) (block : ℕ) (outcome : Outcome) → IsAnswered w es asked block (Ok outcome) → IsTrue w.alone → (address : List ℕ) → faults_at w.after address ≡ faults_at w.before address
-none_counted w es asked block outcome (inl none) = absurd (none_given none.1)
-  where
-    none_given : Ok outcome ≡ Err fed.Memory → ⊥
-    none_given h = cc
-none_counted w es asked block outcome (inr given) = λ alone. given.1.quiet alone
+union_document w es asked block outcome text (inl none) is = absurd (none_given outcome none.1)
+union_document w es asked block outcome text (inr given) is = (
+  outcome.down,
+  are_down w.tells w.alone w.before w.after es asked given.0 block outcome given.1,
+  λ graphs told services serve. is ∙ ap document (given.1.answer graphs (known_from_nothing w.before es graphs told) services serve),
+)
 
 -- ---- reports
 
 -- what the members gave is written
-pub given_reported : (w : WiresSeen) (es : List EndpointParts) (asked : Query) (block : ℕ) (outcome : Outcome) (s : Status) (text : List ℕ) → IsAnswered w es asked block (Ok outcome) → IsGivenEnd s text → IsAnswerReported w es asked block s text
-given_reported w es asked block outcome s text (inl none) end = absurd (none_given none.1)
-  where
-    none_given : Ok outcome ≡ Err fed.Memory → ⊥
-    none_given h = cc
+pub given_reported : (w : WiresSeen) (es : List EndpointParts) (asked : Query) (block : ℕ) (outcome : Outcome) (s : Status) (text : List ℕ) → IsAnswered w es asked block (Ok outcome) → IsGivenEnd (down_lines outcome.down) s text → IsAnswerReported w es asked block s text
+given_reported w es asked block outcome s text (inl none) end = absurd (none_given outcome none.1)
 given_reported w es asked block outcome s text (inr given) end = inr (Ok outcome, given, end)
+
+pub given_done : (w : WiresSeen) (es : List EndpointParts) (asked : Query) (block : ℕ) (outcome : Outcome) (out err : SinkWritten) → IsAnswered w es asked block (Ok outcome) → IsOutcomeWritten outcome out err → IsAnswerDone w es asked block out err
+given_done w es asked block outcome out err (inl none) wrote = absurd (none_given outcome none.1)
+given_done w es asked block outcome out err (inr given) wrote = (outcome, given, wrote)
 
 -- a refusal by the members is reported
 pub refusal_reported : (w : WiresSeen) (es : List EndpointParts) (asked : Query) (block : ℕ) (e : FedError) (s : Status) → s ≡ fed_status_of e → IsAnswered w es asked block (Err e) → IsAnswerReported w es asked block s (fed_line e)
@@ -186,20 +196,69 @@ refusal_reported w es asked block e s is (inl none) = let same = the_want (Err e
     the_want r e a b = cc
 refusal_reported w es asked block e s is (inr given) = inr (Err e, given, (is, refl))
 
-pub ask_reported : (w : WiresSeen) (r q : FileRead) (es : List EndpointParts) (asked : Query) (block : ℕ) (s : Status) (text : List ℕ) → GivesRegistry r (Ok es) → GivesQuery q (Ok asked) → IsAskReported w es asked block s text → IsQueryReported w r q block s text
-ask_reported w r q es asked block s text g h (inl (none, inl want)) = inl (none, inl (want_before r q s text want))
-ask_reported w r q es asked block s text g h (inl (none, inr refused)) = inl (none, inr (refused.0, a_registry r es g, query_that q asked HasServices refused.1 h, refused.2))
-ask_reported w r q es asked block s text g h (inr (alone, inl (none, want))) = inl (none, inl (want_before r q s text want))
-ask_reported w r q es asked block s text g h (inr (alone, inr (result, (entries, federated), end))) =
-    inr (result, record { endpoints = es; registered = g; asked = asked; accepted = h; alone = alone; entries = entries; federated = federated }, end)
+-- ---- by the files
 
-pub a_union : (wires : List Seen) (r q : FileRead) (es : List EndpointParts) (asked : Query) (text : List ℕ) → GivesRegistry r (Ok es) → GivesQuery q (Ok asked) → (services asked ≡ []) × IsUnionDocument wires es asked text → IsUnionAnswer wires r q text
+pub answer_reported : (w : WiresSeen) (r q : FileRead) (es : List EndpointParts) (asked : Query) (block : ℕ) (s : Status) (text : List ℕ) → GivesRegistry r (Ok es) → GivesQuery q (Ok asked) → IsAnswerReported w es asked block s text → IsQueryReported w r q block s text
+answer_reported w r q es asked block s text g h (inl (none, want)) = inl (none, want_before r q s text want)
+answer_reported w r q es asked block s text g h (inr (result, (entries, federated), end)) = inr (result, record { endpoints = es; registered = g; asked = asked; accepted = h; entries = entries; federated = federated }, end)
+
+pub query_done : (w : WiresSeen) (r q : FileRead) (es : List EndpointParts) (asked : Query) (block : ℕ) (out err : SinkWritten) → GivesRegistry r (Ok es) → GivesQuery q (Ok asked) → IsAnswerDone w es asked block out err → IsQueryDone w r q block out err
+query_done w r q es asked block out err g h (outcome, (entries, federated), wrote) = (outcome, record { endpoints = es; registered = g; asked = asked; accepted = h; entries = entries; federated = federated }, wrote)
+
+pub a_union : (wires : List Seen) (r q : FileRead) (es : List EndpointParts) (asked : Query) (text : List ℕ) → GivesRegistry r (Ok es) → GivesQuery q (Ok asked) → IsUnionDocument wires es asked text → IsUnionAnswer wires r q text
 a_union wires r q es asked text g h k = pick r.content g
   where
     both : (all : List ℕ) → read_registry all ≡ Ok es → (o : Option (List ℕ)) → IfSome o (λ query. (length query ≤ QUERY_LIMIT) × Accepted query asked) → IfSome o (λ query. IsUnionAnswerOf wires all query text)
     both all e None h = tt
-    both all e (Some query) h = record { endpoints = es; registered = e; asked = asked; accepted = h.1; alone = k.0; document_is = k.1 }
+    both all e (Some query) h = record { endpoints = es; registered = e; asked = asked; accepted = h.1; document_is = k }
 
     pick : (o : Option (List ℕ)) → IfSome o (λ all. (length all ≤ REGISTRY_LIMIT) × (read_registry all ≡ Ok es)) → IfSome o (λ all. IfSome q.content (λ query. IsUnionAnswerOf wires all query text))
     pick None g = tt
     pick (Some all) g = both all g.1 q.content h
+
+-- ---- a write that fails
+
+-- what is so of a document is what it follows from
+pub cut_so : (P Q : List ℕ → Type 0) → ((text : List ℕ) → P text → Q text) → (out err : SinkWritten) → IsCutShort P out err → IsCutShort Q out err
+cut_so P Q f out err (inl k) = inl k
+cut_so P Q f out err (inr k) = inr ((λ told. let w = k.0.0 told in (w.0, f w.0 w.1, w.2), k.0.1), k.1)
+
+-- a document that is written, and then lines
+pub lines_given : (lines : List ℕ) (s : Status) (text : List ℕ) → IsLineReported lines s text → IsGivenEnd lines s text
+lines_given lines status.Done text k = k
+lines_given lines status.WriteFault text k = k
+lines_given lines status.NoMemory text k = absurd k
+lines_given lines status.Usage text k = absurd k
+lines_given lines status.RegistryRefused text k = absurd k
+lines_given lines status.EndpointFault text k = absurd k
+lines_given lines status.BadReply text k = absurd k
+lines_given lines status.UnknownService text k = absurd k
+lines_given lines status.RequestTooLong text k = absurd k
+lines_given lines status.DoorFault text k = absurd k
+lines_given lines status.GraphRefused text k = absurd k
+lines_given lines status.QueryRefused text k = absurd k
+lines_given lines status.ReadFault text k = absurd k
+lines_given lines status.FileTooLong text k = absurd k
+
+pub wrote_given : (document : List ℕ) (s : Status) (old new : List ℕ) → IsDocumentWritten document s old new → Wrote (λ t. t ≡ document) s old new
+wrote_given document status.Done old new k = (document, refl, k)
+wrote_given document status.WriteFault old new k = (document, refl, k)
+wrote_given document status.NoMemory old new k = absurd k
+wrote_given document status.Usage old new k = absurd k
+wrote_given document status.RegistryRefused old new k = absurd k
+wrote_given document status.EndpointFault old new k = absurd k
+wrote_given document status.BadReply old new k = absurd k
+wrote_given document status.UnknownService old new k = absurd k
+wrote_given document status.RequestTooLong old new k = absurd k
+wrote_given document status.DoorFault old new k = absurd k
+wrote_given document status.GraphRefused old new k = absurd k
+wrote_given document status.QueryRefused old new k = absurd k
+wrote_given document status.ReadFault old new k = absurd k
+wrote_given document status.FileTooLong old new k = absurd k
+
+-- a report that is done is written whole
+pub document_done : (document text : List ℕ) (s : Status) (old new : List ℕ) → text ≡ document → s ≡ status.Done → IsDocumentWritten text s old new → new ≡ old ++ document
+document_done document text s old new is done k = let wrote : new ≡ old ++ text = subst (λ (v : Status). IsDocumentWritten text v old new) done k in wrote ∙ ap (λ (t : List ℕ). old ++ t) is
+
+pub lines_done : (lines text : List ℕ) (old new : List ℕ) → text ≡ lines → new ≡ old ++ text → new ≡ old ++ lines
+lines_done lines text old new is k = k ∙ ap (λ (t : List ℕ). old ++ t) is

@@ -7,6 +7,7 @@ use Rattle.fx_commands.specs.declared.refusals.GraphRefusal.TheVariants as graph
 use Rattle.fx_commands.specs.declared.refusals.Refusal.{Refusal}
 use Rattle.fx_commands.specs.declared.refusals.Refusal.TheVariants as refusal
 use Rattle.fx_commands.specs.declared.statuses.Status.TheVariants as status
+use Rattle.fx_traffic.specs.Gains.{faults_at}
 use Rattle.fx_wire.specs.Exchanges.{Seen}
 use Rattle.fx_commands.specs.Asking.{WiresSeen, IsUnasked}
 use Rattle.fx_commands.specs.Commands.{Asked, over_file, over_members, planned, served}
@@ -14,10 +15,10 @@ use Rattle.fx_commands.specs.Explain.{IsExplainReported, IsExplainWritten}
 use Rattle.fx_commands.specs.Files.{FileRead, IsQueryThat}
 use Rattle.fx_commands.specs.Lines.{usage_line, no_memory}
 use Rattle.fx_commands.specs.Local.{IsAnswer, IsReported, IsWritten, HasLines}
-use Rattle.fx_commands.specs.declared.local.Report.{Report}
-use Rattle.fx_commands.specs.Query.{IsQueryReported, IsQueryWritten}
+use Rattle.fx_commands.specs.declared.documents.Report.{Report}
+use Rattle.fx_commands.specs.Query.{CountsDown, IsQueryReported, IsQueryWritten, IsUnionAnswer}
 use Rattle.fx_commands.specs.Serving.{IsLastCut, IsMemberReported}
-use Rattle.fx_commands.specs.Runs.{Reports, Writes}
+use Rattle.fx_commands.specs.Runs.{CountsEndpoints, FailsToWrite, Reports, Writes}
 use Rattle.fx_commands.specs.Sinks.{SinkWritten, IsCutShort}
 use Rattle.fx_commands.specs.declared.statuses.Status.{Status}
 use Rattle.fx_commands.specs.LocalSteps.{GivesAnswer, IsLineReported, IsDocumentWritten, refusal_line}
@@ -49,7 +50,7 @@ want_otherwise is = cc
 pub memory_reported : (read : List ℕ → FileRead) (w : WiresSeen) (door : DoorSeen) (asked : Option Asked) (err : SinkWritten) → IsUnasked w → Reports read w door door asked status.NoMemory [] no_memory err
 memory_reported read w door None err u = (refl, refl, u, refl)
 memory_reported read w door (Some (over_file g q)) err u = (refl, refl, u, refl)
-memory_reported read w door (Some (over_members r q workers block)) err u = (inl (u, inl refl), refl, refl)
+memory_reported read w door (Some (over_members r q workers block)) err u = (inl (u, refl), refl, refl)
 memory_reported read w door (Some (planned r q)) err u = (inl (u, refl), refl, refl)
 memory_reported read w door (Some (served g a n)) err u = (inl (refl, refl, refl), u, λ is. absurd (want_otherwise is))
 
@@ -118,3 +119,21 @@ members_written read before asked r q workers block s old new is h = subst (λ o
 
 pub plan_written : (read : List ℕ → FileRead) (before : List Seen) (asked : Option Asked) (r q : List ℕ) (s : Status) (old new : List ℕ) → asked ≡ Some (planned r q) → IsExplainWritten before (read r) (read q) s old new → Writes read before asked s old new
 plan_written read before asked r q s old new is h = subst (λ o. Writes read before o s old new) (sym is) h
+
+pub members_cut : (read : List ℕ → FileRead) (before : List Seen) (asked : Option Asked) (r q : List ℕ) (workers block : ℕ) (out err : SinkWritten) → asked ≡ Some (over_members r q workers block) → IsCutShort (IsUnionAnswer before (read r) (read q)) out err → FailsToWrite read before asked out err
+members_cut read before asked r q workers block out err is h = subst (λ o. FailsToWrite read before o out err) (sym is) h
+
+-- ---- the faults that are counted
+
+-- a command that asks no members, or prints a plan, counts none
+pub file_counts : (read : List ℕ → FileRead) (asked : Option Asked) (wires : List Seen) (err : SinkWritten) (g q : List ℕ) → asked ≡ Some (over_file g q) → CountsEndpoints read asked wires wires err
+file_counts read asked wires err g q is = subst (λ o. CountsEndpoints read o wires wires err) (sym is) (λ address. refl)
+
+pub serving_counts : (read : List ℕ → FileRead) (asked : Option Asked) (wires : List Seen) (err : SinkWritten) (g a : List ℕ) (n : ℕ) → asked ≡ Some (served g a n) → CountsEndpoints read asked wires wires err
+serving_counts read asked wires err g a n is = subst (λ o. CountsEndpoints read o wires wires err) (sym is) (λ address. refl)
+
+pub plan_counts : (read : List ℕ → FileRead) (asked : Option Asked) (before after : List Seen) (err : SinkWritten) (r q : List ℕ) → asked ≡ Some (planned r q) → ((address : List ℕ) → faults_at after address ≡ faults_at before address) → CountsEndpoints read asked before after err
+plan_counts read asked before after err r q is h = subst (λ o. CountsEndpoints read o before after err) (sym is) h
+
+pub members_counts : (read : List ℕ → FileRead) (asked : Option Asked) (before after : List Seen) (err : SinkWritten) (r q : List ℕ) (workers block : ℕ) → asked ≡ Some (over_members r q workers block) → CountsDown (read q) before after err → CountsEndpoints read asked before after err
+members_counts read asked before after err r q workers block is h = subst (λ o. CountsEndpoints read o before after err) (sym is) h

@@ -1,11 +1,10 @@
 -- That a run comes to its end: where its files are accepted, each SERVICE is such as it can take, nothing fails and nothing is too long, it is done, or memory
 -- ran out.
-use Rattle.std.specs.Prelude.{◌≡◌, ◌≤◌, ◌⊎◌, ℕ, List, [], length, All, IsTrue, None, Option, Some}
+use Rattle.std.specs.Prelude.{◌≡◌, ◌≤◌, ◌⊎◌, ℕ, List, [], length, All, Contains, IsTrue, None, Option, Some}
 use Rattle.fx_terms.specs.declared.triples.Triple.{Triple}
 use Rattle.fx_outside.specs.Doors.{DoorSeen}
 use Rattle.fx_outside.specs.Endpoints.{EndpointParts}
 use Rattle.fx_outside.specs.Faults.{HasRisen}
-use Rattle.fx_algebra.specs.Answers.{no_graphs}
 use Rattle.fx_algebra.specs.Cuts.{seeds, stations}
 use Rattle.fx_algebra.specs.Graphs.{union}
 use Rattle.fx_algebra.specs.Occurrences.{services}
@@ -20,15 +19,18 @@ use Rattle.fx_traffic.specs.Gains.{HaveGained, faults_at}
 use Rattle.fx_traffic.specs.Sent.{Sent}
 use Rattle.fx_traffic.specs.Traffic.{AreStationsSent}
 use Rattle.fx_wire.specs.Exchanges.{Exchange}
+use Rattle.fx_engine.specs.Calls.{occurrences}
+use Rattle.fx_engine.specs.Mediation.{Serve}
 use Rattle.fx_engine.specs.Unknown.{unknown_of}
 use Rattle.fx_commands.specs.declared.limits.TheConstants.{GRAPH_LIMIT, QUERY_LIMIT}
 use Rattle.fx_commands.specs.declared.statuses.Status.{Status}
 use Rattle.fx_commands.specs.declared.statuses.Status.TheVariants as status
 use Rattle.fx_commands.specs.Asking.{WiresSeen}
 use Rattle.fx_commands.specs.Commands.{Asked, over_file, over_members, planned, served}
-use Rattle.fx_commands.specs.Files.{FileRead}
-use Rattle.fx_commands.specs.Headline.{Holds, IsTold}
+use Rattle.fx_commands.specs.Files.{FileRead, Holds}
+use Rattle.fx_commands.specs.Headline.{IsTold}
 use Rattle.fx_commands.specs.Services.{first_plain}
+use Rattle.fx_commands.specs.Silent.{unregistered}
 use Rattle.fx_commands.specs.Sinks.{SinkWritten}
 
 -- ---- nothing fails
@@ -53,10 +55,12 @@ AreRepliesShort w = (exchanges : List Exchange) → HaveGained w.before w.after 
 abbrev pub AreAsksShort : List EndpointParts → Query → Type 0
 AreAsksShort endpoints asked = All (λ (p : Probe). length (ask_text p.key.pattern) ≤ 67108864) (missing asked (length endpoints) [])
 
--- nor any text that may be sent for the query over these graphs
-abbrev pub AreTextsShort : List EndpointParts → List (List Triple) → ℕ → Query → Type 0
-AreTextsShort endpoints graphs block asked =
-    (texts : List Sent) → AreStationsSent endpoints graphs block (stations asked) (seeds asked (union graphs) no_graphs []) texts → All (λ (x : Sent). (text : List ℕ) → x.request ≡ request_of x.at text → length text ≤ 67108864) texts
+-- Nor any text that may be sent for the query over these graphs, where each IRI has a graph, whichever are down of the occurrences of SERVICE that name no endpoint: a run
+-- that ends early comes to the first of these alone.
+abbrev pub AreTextsShort : List EndpointParts → List (List Triple) → (List ℕ → List Triple) → ℕ → Query → Type 0
+AreTextsShort endpoints graphs graph_at block asked =
+    (down : List ℕ) → All (Contains (unregistered endpoints 0 (occurrences asked))) down → (texts : List Sent) → AreStationsSent endpoints graphs block (stations asked) (seeds asked (union graphs) graph_at down) texts
+    → All (λ (x : Sent). (text : List ℕ) → x.request ≡ request_of x.at text → length text ≤ 67108864) texts
 
 -- ---- each command
 
@@ -66,9 +70,10 @@ IsDoneOrWant s = (s ≡ status.Done) ⊎ (s ≡ status.NoMemory)
 abbrev pub Completes : (List ℕ → FileRead) → WiresSeen → DoorSeen → DoorSeen → Option Asked → Status → SinkWritten → SinkWritten → Type 0
 Completes read w door later None s out err = Unit {0}
 Completes read w door later (Some (over_members r q workers block)) s out err =
-    (endpoints : List EndpointParts) (asked : Query) (graphs : List (List Triple)) → IsTold w (read r) (read q) endpoints asked graphs → services asked ≡ []
-    → IsReadWell (read r) → IsReadWell (read q) → AreWell w endpoints → IsWrittenWell out
-    → AreRepliesShort w → AreAsksShort endpoints asked → AreTextsShort endpoints graphs block asked
+    (endpoints : List EndpointParts) (asked : Query) (graphs : List (List Triple)) (graph_at : List ℕ → List Triple) → IsTold w (read r) (read q) endpoints asked graphs → Serve graph_at endpoints graphs
+    → unknown_of endpoints asked ≡ None
+    → IsReadWell (read r) → IsReadWell (read q) → AreWell w endpoints → IsWrittenWell out → IsWrittenWell err
+    → AreRepliesShort w → AreAsksShort endpoints asked → AreTextsShort endpoints graphs graph_at block asked
     → IsDoneOrWant s
 Completes read w door later (Some (planned r q)) s out err =
     (endpoints : List EndpointParts) (asked : Query) (graphs : List (List Triple)) → IsTold w (read r) (read q) endpoints asked graphs → unknown_of endpoints asked ≡ None

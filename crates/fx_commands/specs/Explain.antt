@@ -55,7 +55,7 @@ pub record IsPlanned (w : WiresSeen) (r q : FileRead) (result : Result (List Par
 abbrev pub IsExplainReported : WiresSeen → FileRead → FileRead → Status → List ℕ → Type 0
 IsExplainReported w r q s text =
     (IsUnasked w × IsRefusedBefore r q s text)
-    ⊎ ((result : Result (List Part) FedError) × IsPlanned w r q result × IsEnd result s text)
+    ⊎ ((result : Result (List Part) FedError) × IsPlanned w r q result × IsEnd (λ parts. []) result s text)
 
 -- what each status leaves on standard output: the text, a front of it where a write failed, and else nothing new
 abbrev pub IsExplainWritten : List Seen → FileRead → FileRead → Status → List ℕ → List ℕ → Type 0

@@ -26,6 +26,10 @@ pub record FileRead : Type 0 where
 abbrev pub file_read : FilesSeen → FilesSeen → List ℕ → FileRead
 file_read before after name = record { name = name; content = before.content name; before = before.faults name; after = after.faults name }
 
+-- it tells its content, which is within a limit and so
+abbrev pub Holds : FileRead → ℕ → (List ℕ → Type 0) → Type 0
+Holds f limit P = (content : List ℕ) × (f.content ≡ Some content) × (length content ≤ limit) × P content
+
 -- its reading failed in the call
 abbrev pub HasFailed : FileRead → Type 0
 HasFailed f = f.before < f.after

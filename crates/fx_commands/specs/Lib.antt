@@ -15,6 +15,7 @@ pub mod RefusalStatuses
 pub mod Runs
 pub mod Sinks
 pub mod Services
+pub mod Silent
 pub mod Statuses
 pub mod Serving
 pub mod ServingSteps

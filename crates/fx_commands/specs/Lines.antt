@@ -10,6 +10,9 @@ use Rattle.fx_ntriples.specs.declared.faults.NtError.TheVariants as graph
 use Rattle.fx_sources.specs.declared.errors.RegistryError.{RegistryError}
 use Rattle.fx_sources.specs.declared.errors.RegistryError.TheVariants as registry
 use Rattle.fx_engine.specs.FaultTexts.{fault_text}
+use Rattle.fx_engine.specs.declared.mediator.Down.{Down}
+use Rattle.fx_engine.specs.declared.mediator.DownCause.{DownCause}
+use Rattle.fx_engine.specs.declared.mediator.DownCause.TheVariants as cause
 use Rattle.fx_pool.specs.declared.faults.ReplyFault.{ReplyFault}
 use Rattle.fx_grammar.specs.Refused.{kind_name}
 use Rattle.fx_grammar.specs.declared.refusals.SyntaxKind.{SyntaxKind}
@@ -43,16 +46,27 @@ pub record Gains (old new : List ℕ) (before after : ℕ) (text : List ℕ) : T
 abbrev pub query_refused : SyntaxKind → ℕ → List ℕ
 query_refused kind at = codes "query refused: " ++ (kind_name kind ++ (codes " at " ++ (decimal at ++ 10 ∷ [])))
 
--- a query that can't be answered yet
-abbrev pub not_built : List ℕ
-not_built = line (codes "query refused: NotBuilt")
-
 abbrev pub unknown_service : List ℕ → List ℕ
 unknown_service iri = codes "unknown service " ++ (iri ++ 10 ∷ [])
 
 -- a SERVICE SILENT that names no endpoint
 abbrev pub silent_unknown : List ℕ → List ℕ
 silent_unknown iri = codes "silent " ++ (iri ++ line (codes ": unknown endpoint"))
+
+-- why an occurrence of SERVICE SILENT is down
+abbrev pub cause_words : DownCause → List ℕ
+cause_words cause.Failed = codes "wire failed"
+cause_words (cause.Bad bad) = codes "bad reply"
+cause_words (cause.TooLong size) = codes "request too long"
+cause_words cause.Unknown = codes "unknown endpoint"
+
+-- one that is down; where its IRI is unknown, this is the line of `silent_unknown`
+abbrev pub down_line : Down → List ℕ
+down_line d = codes "silent " ++ (d.iri ++ line (codes ": " ++ cause_words d.why))
+
+-- a line for each
+abbrev pub down_lines : List Down → List ℕ
+down_lines noted = flat_map down_line noted
 
 -- ---- lines of `local`
 
@@ -85,6 +99,10 @@ registry_too_long name = query_too_long name
 
 abbrev pub member_failed : List ℕ → List ℕ
 member_failed name = codes "member " ++ (name ++ line (codes " failed"))
+
+-- a SERVICE without SILENT whose exchange failed
+abbrev pub service_failed : List ℕ → List ℕ
+service_failed iri = codes "service " ++ (iri ++ line (codes " failed"))
 
 -- why a reply isn't read
 abbrev pub bad_reply : List ℕ → ReplyFault → List ℕ

@@ -18,7 +18,7 @@ use Rattle.fx_commands.specs.declared.refusals.FileRefusal.{FileRefusal}
 use Rattle.fx_commands.specs.declared.refusals.FileRefusal.TheVariants as file
 use Rattle.fx_commands.specs.declared.refusals.QueryRefusal.{QueryRefusal}
 use Rattle.fx_commands.specs.declared.refusals.QueryRefusal.TheVariants as query
-use Rattle.fx_commands.specs.declared.local.Report.{Report}
+use Rattle.fx_commands.specs.declared.documents.Report.{Report}
 use Rattle.fx_commands.specs.declared.refusals.Refusal.{Refusal}
 use Rattle.fx_commands.specs.declared.refusals.Refusal.TheVariants as refusal
 use Rattle.fx_commands.specs.declared.statuses.Status.{Status}

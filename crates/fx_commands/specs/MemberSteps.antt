@@ -1,7 +1,6 @@
 -- What the steps of `fedx query` and `fedx explain` give. `IsQueryReported` and `IsExplainReported` say what the whole gives.
-use Rattle.std.specs.Prelude.{◌≡◌, ◌≢◌, ◌⊎◌, ℕ, ◌≤◌, List, [], Result, Ok, Err, IfSome, length}
+use Rattle.std.specs.Prelude.{◌≡◌, ◌⊎◌, ℕ, ◌≤◌, List, [], Result, Ok, Err, IfSome, length}
 use Rattle.fx_outside.specs.Endpoints.{EndpointParts}
-use Rattle.fx_algebra.specs.Occurrences.{services}
 use Rattle.fx_algebra.specs.declared.queries.Query.{Query}
 use Rattle.fx_plan.specs.declared.parts.Part.{Part}
 use Rattle.fx_sources.specs.Probes.{Entry}
@@ -19,7 +18,9 @@ use Rattle.fx_commands.specs.declared.statuses.Status.TheVariants as status
 use Rattle.fx_commands.specs.Asking.{WiresSeen, IsUnasked}
 use Rattle.fx_commands.specs.FedRefusals.{IsEnd}
 use Rattle.fx_commands.specs.Files.{FileRead, HasFailed, IsTooLong, IsNoRegistry}
-use Rattle.fx_commands.specs.Lines.{cannot_read, registry_too_long, registry_refused, not_built, no_memory}
+use Rattle.fx_commands.specs.Lines.{cannot_read, registry_too_long, down_lines, registry_refused, no_memory}
+use Rattle.fx_commands.specs.Query.{IsOutcomeWritten}
+use Rattle.fx_commands.specs.Sinks.{SinkWritten}
 
 -- ---- registries
 
@@ -52,22 +53,18 @@ IsLaidOut w endpoints q result = (IsUnasked w × (result ≡ Err fed.Memory)) �
 abbrev pub IsWant : Status → List ℕ → Type 0
 IsWant s text = (s ≡ status.NoMemory) × (text ≡ no_memory)
 
--- what answering a query without SERVICE over endpoints reports
+-- what answering a query over endpoints reports
 abbrev pub IsAnswerReported : WiresSeen → List EndpointParts → Query → ℕ → Status → List ℕ → Type 0
 IsAnswerReported w endpoints q block s text =
     (IsUnasked w × IsWant s text)
-    ⊎ ((result : Result Outcome FedError) × ((entries : List Entry) × Federated w.tells w.alone w.before w.after endpoints q [] entries block result) × IsEnd result s text)
+    ⊎ ((result : Result Outcome FedError) × ((entries : List Entry) × Federated w.tells w.alone w.before w.after endpoints q [] entries block result) × IsEnd (λ outcome. down_lines outcome.down) result s text)
 
--- a query with a SERVICE is refused
-abbrev pub HasRefused : Query → Status → List ℕ → Type 0
-HasRefused q s text = (s ≡ status.QueryRefused) × (services q ≢ []) × (text ≡ not_built)
-
--- what answering a query over endpoints reports
-abbrev pub IsAskReported : WiresSeen → List EndpointParts → Query → ℕ → Status → List ℕ → Type 0
-IsAskReported w endpoints q block s text = (IsUnasked w × (IsWant s text ⊎ HasRefused q s text)) ⊎ ((services q ≡ []) × IsAnswerReported w endpoints q block s text)
+-- the members gave something, and this was written
+abbrev pub IsAnswerDone : WiresSeen → List EndpointParts → Query → ℕ → SinkWritten → SinkWritten → Type 0
+IsAnswerDone w endpoints q block out err = (outcome : Outcome) × ((entries : List Entry) × Federated w.tells w.alone w.before w.after endpoints q [] entries block (Ok outcome)) × IsOutcomeWritten outcome out err
 
 -- what printing the plan of a query reports
 abbrev pub IsLayoutReported : WiresSeen → List EndpointParts → Query → Status → List ℕ → Type 0
 IsLayoutReported w endpoints q s text =
     (IsUnasked w × IsWant s text)
-    ⊎ ((result : Result (List Part) FedError) × ((entries : List Entry) × Planned w.tells w.alone w.before w.after endpoints q [] entries result) × IsEnd result s text)
+    ⊎ ((result : Result (List Part) FedError) × ((entries : List Entry) × Planned w.tells w.alone w.before w.after endpoints q [] entries result) × IsEnd (λ parts. []) result s text)

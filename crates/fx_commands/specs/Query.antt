@@ -1,33 +1,36 @@
 -- What `fedx query` does.
-use Rattle.std.specs.Prelude.{◌≡◌, ◌≢◌, ◌⊎◌, ℕ, List, [], IfSome, Ok, Result}
+use Rattle.std.specs.Prelude.{◌≡◌, ◌⊎◌, ◌+◌, ℕ, List, [], ◌++◌, IfSome, IsTrue, Ok, Result}
 use Rattle.fx_outside.specs.Endpoints.{EndpointParts}
 use Rattle.fx_terms.specs.declared.triples.Triple.{Triple}
-use Rattle.fx_algebra.specs.Answers.{answer_alone}
+use Rattle.fx_algebra.specs.Answers.{answer}
 use Rattle.fx_algebra.specs.Graphs.{union}
-use Rattle.fx_algebra.specs.Occurrences.{services}
 use Rattle.fx_algebra.specs.declared.queries.Query.{Query}
 use Rattle.fx_grammar.specs.Accepted.{Accepted}
 use Rattle.fx_results.specs.Documents.{document}
 use Rattle.fx_sources.specs.Probes.{Entry}
 use Rattle.fx_sources.specs.Registries.{read_registry}
-use Rattle.fx_traffic.specs.Gains.{TellAll}
+use Rattle.fx_traffic.specs.Gains.{TellAll, faults_at}
 use Rattle.fx_wire.specs.Exchanges.{Seen}
-use Rattle.fx_engine.specs.Mediation.{Federated}
+use Rattle.fx_engine.specs.Mediation.{Federated, Serve}
+use Rattle.fx_engine.specs.Noted.{places}
+use Rattle.fx_engine.specs.declared.mediator.Down.{Down}
 use Rattle.fx_engine.specs.declared.mediator.FedError.{FedError}
 use Rattle.fx_engine.specs.declared.mediator.Outcome.{Outcome}
 use Rattle.fx_commands.specs.declared.statuses.Status.{Status}
-use Rattle.fx_commands.specs.declared.statuses.Status.TheVariants as status
 use Rattle.fx_commands.specs.Asking.{WiresSeen, IsUnasked, IsRefusedBefore}
 use Rattle.fx_commands.specs.FedRefusals.{IsEnd}
-use Rattle.fx_commands.specs.Files.{FileRead, IsQueryOf, IsQueryThat, IsRegistryFile, IsRegistryOf}
-use Rattle.fx_commands.specs.Lines.{not_built}
-use Rattle.fx_commands.specs.Sinks.{Wrote}
+use Rattle.fx_commands.specs.Files.{FileRead, IsQueryOf, IsRegistryOf}
+use Rattle.fx_commands.specs.Lines.{down_lines}
+use Rattle.fx_commands.specs.Silent.{AreDown, wires_failed}
+use Rattle.fx_commands.specs.Sinks.{SinkWritten, Wrote}
 
 -- ---- the answer over the union
 
--- where the graphs of all endpoints are told, the text is the document of the query's answer over their union
+-- Some occurrences of SERVICE SILENT are down. Where the graphs of all endpoints are told, the text is the document of the query's answer over their union, where each IRI
+-- that is the address of an endpoint has its graph.
 abbrev pub IsUnionDocument : List Seen → List EndpointParts → Query → List ℕ → Type 0
-IsUnionDocument wires endpoints q text = (graphs : List (List Triple)) → TellAll wires endpoints graphs → text ≡ document (answer_alone q (union graphs))
+IsUnionDocument wires endpoints q text =
+    (noted : List Down) × AreDown q noted × ((graphs : List (List Triple)) → TellAll wires endpoints graphs → (services : List ℕ → List Triple) → Serve services endpoints graphs → text ≡ document (answer q (union graphs) services (places noted)))
 
 -- of the endpoints of a registry and the query of a text
 pub record IsUnionAnswerOf (wires : List Seen) (registry query text : List ℕ) : Type 0 where
@@ -35,7 +38,6 @@ pub record IsUnionAnswerOf (wires : List Seen) (registry query text : List ℕ) 
   pub registered : read_registry registry ≡ Ok endpoints
   pub asked : Query
   pub accepted : Accepted query asked
-  pub alone : services asked ≡ []
   pub document_is : IsUnionDocument wires endpoints asked text
 
 -- where both contents are told, the text is that document
@@ -51,23 +53,34 @@ pub record IsFederated (w : WiresSeen) (r q : FileRead) (block : ℕ) (result : 
   pub registered : IsRegistryOf r endpoints
   pub asked : Query
   pub accepted : IsQueryOf q asked
-  pub alone : services asked ≡ []
   pub entries : List Entry
   pub federated : Federated w.tells w.alone w.before w.after endpoints asked [] entries block result
 
--- a query with a SERVICE, which can't be answered over members yet
-abbrev pub HasServices : Query → Type 0
-HasServices asked = services asked ≢ []
-
-abbrev pub IsNotBuilt : FileRead → FileRead → Status → List ℕ → Type 0
-IsNotBuilt r q s text = (s ≡ status.QueryRefused) × IsRegistryFile r × IsQueryThat q HasServices × (text ≡ not_built)
-
--- the cause of each status, and its line on standard error: nothing is asked where a file is refused, or the query has a SERVICE
+-- the cause of each status, and its lines on standard error: nothing is asked where a file is refused
 abbrev pub IsQueryReported : WiresSeen → FileRead → FileRead → ℕ → Status → List ℕ → Type 0
 IsQueryReported w r q block s text =
-    (IsUnasked w × (IsRefusedBefore r q s text ⊎ IsNotBuilt r q s text))
-    ⊎ ((result : Result Outcome FedError) × IsFederated w r q block result × IsEnd result s text)
+    (IsUnasked w × IsRefusedBefore r q s text)
+    ⊎ ((result : Result Outcome FedError) × IsFederated w r q block result × IsEnd (λ outcome. down_lines outcome.down) result s text)
 
 -- what each status leaves on standard output: the document, a front of it where a write failed, and else nothing new
 abbrev pub IsQueryWritten : List Seen → FileRead → FileRead → Status → List ℕ → List ℕ → Type 0
 IsQueryWritten wires r q s old new = Wrote (IsUnionAnswer wires r q) s old new
+
+-- ---- a query that is done
+
+-- standard output gained the document of what the members gave, and standard error a line for each occurrence that is down in it
+abbrev pub IsOutcomeWritten : Outcome → SinkWritten → SinkWritten → Type 0
+IsOutcomeWritten outcome out err = (IsTrue out.tells → out.new ≡ out.old ++ document outcome.answer) × (IsTrue err.tells → err.new ≡ err.old ++ down_lines outcome.down)
+
+-- the members gave something, and this was written
+abbrev pub IsQueryDone : WiresSeen → FileRead → FileRead → ℕ → SinkWritten → SinkWritten → Type 0
+IsQueryDone w r q block out err = (outcome : Outcome) × IsFederated w r q block (Ok outcome) × IsOutcomeWritten outcome out err
+
+-- At each address as many faults were counted as lines on standard error say of it that the wire failed.
+pub record CountsDown (q : FileRead) (before after : List Seen) (err : SinkWritten) : Type 0 where
+  pub asked : Query
+  pub accepted : IsQueryOf q asked
+  pub noted : List Down
+  pub down : AreDown asked noted
+  pub lines : IsTrue err.tells → err.new ≡ err.old ++ down_lines noted
+  pub counted : (address : List ℕ) → faults_at after address ≡ faults_at before address + wires_failed address noted

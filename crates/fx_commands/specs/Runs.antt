@@ -1,6 +1,7 @@
 -- What a run does, by the command that its words are.
 use Rattle.std.specs.Prelude.{◌≡◌, ℕ, List, [], ◌++◌, Option, Some, None, drop, take}
 use Rattle.fx_outside.specs.Doors.{DoorSeen}
+use Rattle.fx_traffic.specs.Gains.{faults_at}
 use Rattle.fx_wire.specs.Exchanges.{Seen}
 use Rattle.fx_commands.specs.declared.statuses.Status.{Status}
 use Rattle.fx_commands.specs.declared.statuses.Status.TheVariants as status
@@ -10,7 +11,7 @@ use Rattle.fx_commands.specs.Explain.{IsExplainReported, IsExplainWritten}
 use Rattle.fx_commands.specs.Files.{FileRead}
 use Rattle.fx_commands.specs.Lines.{usage_line, no_memory}
 use Rattle.fx_commands.specs.Local.{IsAnswer, IsReported, IsWritten}
-use Rattle.fx_commands.specs.Query.{IsQueryReported, IsQueryWritten}
+use Rattle.fx_commands.specs.Query.{CountsDown, IsQueryReported, IsQueryWritten, IsUnionAnswer}
 use Rattle.fx_commands.specs.Serving.{IsLastCut, IsMemberReported}
 use Rattle.fx_commands.specs.Sinks.{SinkWritten, HasFailed, IsCutOff, IsCutShort, IsUntouched}
 
@@ -38,14 +39,19 @@ Writes read before (Some (over_members registry query workers block)) s old new 
 Writes read before (Some (planned registry query)) s old new = IsExplainWritten before (read registry) (read query) s old new
 Writes read before (Some (served graph address count)) s old new = new ≡ old
 
--- Which write failed, with the status `WriteFault`: for `query` and `explain` one on standard output alone, and for a member one of its
--- lines.
-abbrev pub FailsToWrite : (List ℕ → FileRead) → Option Asked → SinkWritten → SinkWritten → Type 0
-FailsToWrite read None out err = ⊥
-FailsToWrite read (Some (over_file graph query)) out err = IsCutShort (IsAnswer (read graph) (read query)) out err
-FailsToWrite read (Some (over_members registry query workers block)) out err = IsCutOff out err
-FailsToWrite read (Some (planned registry query)) out err = IsCutOff out err
-FailsToWrite read (Some (served graph address count)) out err = IsUntouched out × HasFailed err
+-- Which write failed, with the status `WriteFault`: for `local` and `query` one of the document, or of the lines behind it, for `explain` one on standard output
+-- alone, and for a member one of its lines.
+abbrev pub FailsToWrite : (List ℕ → FileRead) → List Seen → Option Asked → SinkWritten → SinkWritten → Type 0
+FailsToWrite read before None out err = ⊥
+FailsToWrite read before (Some (over_file graph query)) out err = IsCutShort (IsAnswer (read graph) (read query)) out err
+FailsToWrite read before (Some (over_members registry query workers block)) out err = IsCutShort (IsUnionAnswer before (read registry) (read query)) out err
+FailsToWrite read before (Some (planned registry query)) out err = IsCutOff out err
+FailsToWrite read before (Some (served graph address count)) out err = IsUntouched out × HasFailed err
+
+-- How many faults a run that is done counts at each address, by wires that count each address alone: none, but for `query` as many as its lines say that the wire failed.
+abbrev pub CountsEndpoints : (List ℕ → FileRead) → Option Asked → List Seen → List Seen → SinkWritten → Type 0
+CountsEndpoints read (Some (over_members registry query workers block)) before after err = CountsDown (read query) before after err
+CountsEndpoints read asked before after err = (address : List ℕ) → faults_at after address ≡ faults_at before address
 
 -- how many wires a run uses at most, from the first on: none where it asks no members
 abbrev pub wires_used : Option Asked → ℕ

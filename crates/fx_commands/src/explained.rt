@@ -1,5 +1,5 @@
 //! The command `explain`.
-ghost use Rattle.std.specs.Prelude.{◌≡◌, ◌<◌, ◌≤◌, All, IfOk, IsTrue, List, ℕ, length, map, string_bytes};
+ghost use Rattle.std.specs.Prelude.{◌≡◌, ◌<◌, ◌≤◌, [], All, IfOk, IsTrue, List, ℕ, length, map, string_bytes};
 ghost use Rattle.fx_engine.specs.Mediation.{IsSpellable, parts_in};
 ghost use Rattle.fx_plan.specs.Explained.{HasMembers, explained};
 ghost use Rattle.fx_traffic.specs.Gains.{AreAfter, faults_at};
@@ -121,7 +121,7 @@ fn write_plan<O: Sink, E: Sink>(
     err: &mut E,
 ) -> Status
     requires { All (HasMembers (length endpoints.now)) parts.now }
-    ensures reported { (text : List ℕ) × IsGivenEnd result text × (IsTrue E.tells_held → Gains (E.held err.old) (E.held err.new) (E.write_faults err.old) (E.write_faults err.new) text) }
+    ensures reported { (text : List ℕ) × IsGivenEnd [] result text × (IsTrue E.tells_held → Gains (E.held err.old) (E.held err.new) (E.write_faults err.old) (E.write_faults err.new) text) }
     ensures written { IsTrue O.tells_held → Wrote (λ text. text ≡ explained parts.now endpoints.now) result (O.held out.old) (O.held out.new) }
     ensures write_fault { result ≡ Status.WriteFault → IsCutOff (sink_written O.tells_held O.held O.write_faults out.old out.new) (sink_written E.tells_held E.held E.write_faults err.old err.new) }
     ensures unfailed { ¬ (result ≡ Status.WriteFault) → O.write_faults out.new ≡ O.write_faults out.old }

@@ -1,36 +1,38 @@
 //! The command `query`.
-ghost use Rattle.std.specs.Prelude.{◌≡◌, ◌<◌, ◌≤◌, [], IsTrue, List, ℕ, length, map};
-ghost use Rattle.fx_algebra.specs.Occurrences.{services};
+ghost use Rattle.std.specs.Prelude.{◌≡◌, ◌<◌, ◌≤◌, ◌++◌, IfOk, IsTrue, List, OnOk, ℕ, length, map};
 ghost use Rattle.fx_engine.specs.Mediation.{IsSpellable};
 ghost use Rattle.fx_results.specs.Documents.{document};
-ghost use Rattle.fx_traffic.specs.Gains.{AreAfter, faults_at};
+ghost use Rattle.fx_traffic.specs.Gains.{AreAfter};
 ghost use Rattle.fx_commands.specs.Asking.{wires_seen};
 ghost use Rattle.fx_commands.specs.Counts.{CountsOnly};
 ghost use Rattle.fx_commands.specs.FedRefusals.{IsGivenEnd};
 ghost use Rattle.fx_commands.specs.Files.{file_read};
-ghost use Rattle.fx_commands.specs.Lines.{Gains};
-ghost use Rattle.fx_commands.specs.MemberSteps.{IsAnswered, IsAnswerReported, IsAskReported};
-ghost use Rattle.fx_commands.specs.Query.{IsQueryReported, IsQueryWritten, IsUnionDocument};
-ghost use Rattle.fx_commands.specs.Sinks.{IsCutOff, Wrote, sink_written};
+ghost use Rattle.fx_commands.specs.Lines.{Gains, down_line};
+ghost use Rattle.fx_commands.specs.Lines as spec;
+ghost use Rattle.fx_commands.specs.MemberSteps.{IsAnswerDone, IsAnswerReported, IsAnswered};
+ghost use Rattle.fx_commands.specs.Query.{IsOutcomeWritten, IsQueryDone, IsQueryReported, IsQueryWritten, IsUnionAnswer, IsUnionDocument};
+ghost use Rattle.fx_commands.specs.Sinks.{IsCutShort, Wrote, sink_written};
 
+use crate::documents::{Report, write_report};
 use crate::loading::{load_query, load_registry};
 use crate::refusals::fed_status;
 use crate::reports::{
-    write_fed_error, write_no_memory, write_not_built, write_query_refusal, write_registry_refusal,
+    write_fed_error, write_no_memory, write_query_refusal, write_registry_refusal,
 };
 use crate::statuses::Status;
-use fx_algebra::{Answer, Query, services};
-use fx_engine::{FedError, Options, Outcome, federate};
-use fx_outside::{Files, Sink, write_all};
+use fx_algebra::Query;
+use fx_engine::{Down, DownCause, FedError, Options, Outcome, federate};
+use fx_outside::{Files, Sink};
 use fx_results::write;
 use fx_sources::{AskCache, Registry};
+use fx_terms::Memory;
 use fx_wire::Wire;
 use std::alloc::Global;
 
-/// Answers the query of a file over the members of the registry of a file, and writes the document on `out`, or the line of
-/// the refusal on `err`. The registry's file is read first. Each member is asked first which triple patterns it has anything for, and then,
-/// in batches of at most `block` rows, for the solutions of those. A query with a SERVICE can't be answered over members yet, and is refused
-/// as `NotBuilt`.
+/// Answers the query of a file over the members of the registry of a file, and writes the document on `out`, with a line on `err` for each SERVICE SILENT that
+/// is down, or the line of the refusal on `err`. The registry's file is read first. A SERVICE without SILENT has to name the address of a member; the first that
+/// doesn't is refused, and then nothing is asked. Each member is asked first which triple patterns it has anything for, and then, in batches of at most `block`
+/// rows, for the solutions of those, and each SERVICE at its address for its own.
 pub fn run_query<F: Files, W: Wire + Send, O: Sink, E: Sink>(
     alloc: Global,
     files: &mut F,
@@ -45,9 +47,9 @@ pub fn run_query<F: Files, W: Wire + Send, O: Sink, E: Sink>(
     requires block { (0 < block) × (block ≤ 64) }
     ensures reported { (text : List ℕ) × IsQueryReported (wires_seen W.tells_log W.counts_alone W.seen wires.old wires.new) (file_read (F.seen files.old) (F.seen files.new) registry.now) (file_read (F.seen files.old) (F.seen files.new) query.now) block result text × (IsTrue E.tells_held → Gains (E.held err.old) (E.held err.new) (E.write_faults err.old) (E.write_faults err.new) text) }
     ensures written { IsTrue O.tells_held → IsQueryWritten (map W.seen wires.old) (file_read (F.seen files.old) (F.seen files.new) registry.now) (file_read (F.seen files.old) (F.seen files.new) query.now) result (O.held out.old) (O.held out.new) }
-    ensures endpoint_faults { IsTrue W.counts_alone → result ≡ Status.Done → (address : List ℕ) → faults_at (map W.seen wires.new) address ≡ faults_at (map W.seen wires.old) address }
+    ensures done { result ≡ Status.Done → IsQueryDone (wires_seen W.tells_log W.counts_alone W.seen wires.old wires.new) (file_read (F.seen files.old) (F.seen files.new) registry.now) (file_read (F.seen files.old) (F.seen files.new) query.now) block (sink_written O.tells_held O.held O.write_faults out.old out.new) (sink_written E.tells_held E.held E.write_faults err.old err.new) }
     ensures wired { AreAfter (map W.seen wires.old) (map W.seen wires.new) }
-    ensures write_fault { result ≡ Status.WriteFault → IsCutOff (sink_written O.tells_held O.held O.write_faults out.old out.new) (sink_written E.tells_held E.held E.write_faults err.old err.new) }
+    ensures write_fault { result ≡ Status.WriteFault → IsCutShort (IsUnionAnswer (map W.seen wires.old) (file_read (F.seen files.old) (F.seen files.new) registry.now) (file_read (F.seen files.old) (F.seen files.new) query.now)) (sink_written O.tells_held O.held O.write_faults out.old out.new) (sink_written E.tells_held E.held E.write_faults err.old err.new) }
     ensures unfailed { ¬ (result ≡ Status.WriteFault) → O.write_faults out.new ≡ O.write_faults out.old }
     ensures unfailed_lines { result ≡ Status.Done → E.write_faults err.new ≡ E.write_faults err.old }
     ensures read_faults { CountsOnly Status.ReadFault result (F.seen files.old).faults (F.seen files.new).faults }
@@ -64,48 +66,12 @@ pub fn run_query<F: Files, W: Wire + Send, O: Sink, E: Sink>(
                 write_query_refusal(err, refusal, query);
                 refusal.status()
             }
-            Ok(asked) => ask_members(alloc, &members, asked.get(), block, wires, out, err),
+            Ok(asked) => answer_members(alloc, &members, asked.get(), block, wires, out, err),
         },
     }
 }
 
-// Answers a query over the members of a registry, and writes the document, or the line of the refusal. Whether it has a SERVICE is looked at first.
-fn ask_members<W: Wire + Send, O: Sink, E: Sink>(
-    alloc: Global,
-    members: &Registry,
-    query: &Query,
-    block: u32,
-    wires: &mut [W],
-    out: &mut O,
-    err: &mut E,
-) -> Status
-    requires wired { (0 < length wires.old) × (length wires.old ≤ 16) }
-    requires block { (0 < block) × (block ≤ 64) }
-    requires spellable { IsSpellable query.now }
-    ensures reported { (text : List ℕ) × IsAskReported (wires_seen W.tells_log W.counts_alone W.seen wires.old wires.new) members.now query.now block result text × (IsTrue E.tells_held → Gains (E.held err.old) (E.held err.new) (E.write_faults err.old) (E.write_faults err.new) text) }
-    ensures written { IsTrue O.tells_held → Wrote (λ text. (services query.now ≡ []) × IsUnionDocument (map W.seen wires.old) members.now query.now text) result (O.held out.old) (O.held out.new) }
-    ensures endpoint_faults { IsTrue W.counts_alone → result ≡ Status.Done → (address : List ℕ) → faults_at (map W.seen wires.new) address ≡ faults_at (map W.seen wires.old) address }
-    ensures wired { AreAfter (map W.seen wires.old) (map W.seen wires.new) }
-    ensures write_fault { result ≡ Status.WriteFault → IsCutOff (sink_written O.tells_held O.held O.write_faults out.old out.new) (sink_written E.tells_held E.held E.write_faults err.old err.new) }
-    ensures unfailed { ¬ (result ≡ Status.WriteFault) → O.write_faults out.new ≡ O.write_faults out.old }
-    ensures unfailed_lines { result ≡ Status.Done → E.write_faults err.new ≡ E.write_faults err.old }
-{
-    match services(alloc, query) {
-        Err(_) => {
-            write_no_memory(err);
-            Status::NoMemory
-        }
-        Ok(occurrences) => {
-            if !occurrences.is_empty() {
-                write_not_built(err);
-                return Status::QueryRefused;
-            }
-            answer_members(alloc, members, query, block, wires, out, err)
-        }
-    }
-}
-
-// Answers a query without SERVICE, and writes the document, or the line of the refusal.
+// Answers a query over the members of a registry, and writes the document with the lines behind it, or the line of the refusal.
 fn answer_members<W: Wire + Send, O: Sink, E: Sink>(
     alloc: Global,
     members: &Registry,
@@ -118,17 +84,16 @@ fn answer_members<W: Wire + Send, O: Sink, E: Sink>(
     requires wired { (0 < length wires.old) × (length wires.old ≤ 16) }
     requires block { (0 < block) × (block ≤ 64) }
     requires spellable { IsSpellable query.now }
-    requires alone { services query.now ≡ [] }
     ensures reported { (text : List ℕ) × IsAnswerReported (wires_seen W.tells_log W.counts_alone W.seen wires.old wires.new) members.now query.now block result text × (IsTrue E.tells_held → Gains (E.held err.old) (E.held err.new) (E.write_faults err.old) (E.write_faults err.new) text) }
     ensures written { IsTrue O.tells_held → Wrote (IsUnionDocument (map W.seen wires.old) members.now query.now) result (O.held out.old) (O.held out.new) }
-    ensures endpoint_faults { IsTrue W.counts_alone → result ≡ Status.Done → (address : List ℕ) → faults_at (map W.seen wires.new) address ≡ faults_at (map W.seen wires.old) address }
+    ensures done { result ≡ Status.Done → IsAnswerDone (wires_seen W.tells_log W.counts_alone W.seen wires.old wires.new) members.now query.now block (sink_written O.tells_held O.held O.write_faults out.old out.new) (sink_written E.tells_held E.held E.write_faults err.old err.new) }
     ensures wired { AreAfter (map W.seen wires.old) (map W.seen wires.new) }
-    ensures write_fault { result ≡ Status.WriteFault → IsCutOff (sink_written O.tells_held O.held O.write_faults out.old out.new) (sink_written E.tells_held E.held E.write_faults err.old err.new) }
+    ensures write_fault { result ≡ Status.WriteFault → IsCutShort (IsUnionDocument (map W.seen wires.old) members.now query.now) (sink_written O.tells_held O.held O.write_faults out.old out.new) (sink_written E.tells_held E.held E.write_faults err.old err.new) }
     ensures unfailed { ¬ (result ≡ Status.WriteFault) → O.write_faults out.new ≡ O.write_faults out.old }
     ensures unfailed_lines { result ≡ Status.Done → E.write_faults err.new ≡ E.write_faults err.old }
 {
     match outcome(alloc, members, query, block, wires) {
-        Ok(outcome) => write_answer(alloc, &outcome.answer, out, err),
+        Ok(outcome) => write_outcome(alloc, &outcome, out, err),
         Err(error) => {
             write_fed_error(err, &error);
             fed_status(&error)
@@ -136,7 +101,7 @@ fn answer_members<W: Wire + Send, O: Sink, E: Sink>(
     }
 }
 
-// What the members give for a query without SERVICE. They are asked with a new cache.
+// What the members give for a query. They are asked with a new cache.
 fn outcome<W: Wire + Send>(
     alloc: Global,
     members: &Registry,
@@ -147,7 +112,6 @@ fn outcome<W: Wire + Send>(
     requires wired { (0 < length wires.old) × (length wires.old ≤ 16) }
     requires block { (0 < block) × (block ≤ 64) }
     requires spellable { IsSpellable query.now }
-    requires alone { services query.now ≡ [] }
     ensures answered { IsAnswered (wires_seen W.tells_log W.counts_alone W.seen wires.old wires.new) members.now query.now block result }
     ensures wired { AreAfter (map W.seen wires.old) (map W.seen wires.new) }
 {
@@ -157,27 +121,68 @@ fn outcome<W: Wire + Send>(
     }
 }
 
-// Writes the document of an answer.
-fn write_answer<O: Sink, E: Sink>(
+// Writes the document of an answer, and the lines of what is down. Both are whole before the first byte is written.
+fn write_outcome<O: Sink, E: Sink>(
     alloc: Global,
-    answer: &Answer,
+    outcome: &Outcome,
     out: &mut O,
     err: &mut E,
 ) -> Status
-    ensures reported { (text : List ℕ) × IsGivenEnd result text × (IsTrue E.tells_held → Gains (E.held err.old) (E.held err.new) (E.write_faults err.old) (E.write_faults err.new) text) }
-    ensures written { IsTrue O.tells_held → Wrote (λ text. text ≡ document answer.now) result (O.held out.old) (O.held out.new) }
-    ensures write_fault { result ≡ Status.WriteFault → IsCutOff (sink_written O.tells_held O.held O.write_faults out.old out.new) (sink_written E.tells_held E.held E.write_faults err.old err.new) }
+    ensures reported { (text : List ℕ) × IsGivenEnd (spec.down_lines outcome.now.down) result text × (IsTrue E.tells_held → Gains (E.held err.old) (E.held err.new) (E.write_faults err.old) (E.write_faults err.new) text) }
+    ensures written { IsTrue O.tells_held → Wrote (λ text. text ≡ document outcome.now.answer) result (O.held out.old) (O.held out.new) }
+    ensures done { result ≡ Status.Done → IsOutcomeWritten outcome.now (sink_written O.tells_held O.held O.write_faults out.old out.new) (sink_written E.tells_held E.held E.write_faults err.old err.new) }
+    ensures write_fault { result ≡ Status.WriteFault → IsCutShort (λ text. text ≡ document outcome.now.answer) (sink_written O.tells_held O.held O.write_faults out.old out.new) (sink_written E.tells_held E.held E.write_faults err.old err.new) }
     ensures unfailed { ¬ (result ≡ Status.WriteFault) → O.write_faults out.new ≡ O.write_faults out.old }
     ensures unfailed_lines { result ≡ Status.Done → E.write_faults err.new ≡ E.write_faults err.old }
 {
-    match write(alloc, answer) {
+    match report_of(alloc, outcome) {
         Err(_) => {
             write_no_memory(err);
             Status::NoMemory
         }
-        Ok(text) => match write_all(out, text.as_slice()) {
-            Ok(()) => Status::Done,
-            Err(_) => Status::WriteFault,
-        },
+        Ok(report) => write_report(&report, out, err),
+    }
+}
+
+// The document of an answer, and the lines of what is down.
+fn report_of(alloc: Global, outcome: &Outcome) -> Result<Report, Memory>
+    ensures { IfOk result (λ report. (report.document.items ≡ document outcome.now.answer) × (report.lines.items ≡ spec.down_lines outcome.now.down)) }
+{
+    let document = write(alloc, &outcome.answer)?;
+    let lines = down_lines(alloc, outcome.down.as_slice())?;
+    Ok(Report { document, lines })
+}
+
+// A line for each occurrence of SERVICE SILENT that is down.
+fn down_lines(alloc: Global, down: &[Down]) -> Result<Vec<u8>, Memory>
+    ensures { IfOk result (λ lines. lines.items ≡ spec.down_lines down.now) }
+{
+    let mut lines = Vec::new(alloc);
+    for one in down {
+        push_down(&mut lines, one)?;
+    }
+    Ok(lines)
+}
+
+fn push_down(lines: &mut Vec<u8>, down: &Down) -> Result<(), Memory>
+    ensures { OnOk result (lines.new.items ≡ lines.old.items ++ down_line down.now) }
+{
+    lines.extend_from_slice(b"silent ")?;
+    lines.extend_from_slice(down.iri.text().as_bytes())?;
+    lines.extend_from_slice(b": ")?;
+    lines.extend_from_slice(cause_words(&down.why).as_bytes())?;
+    lines.extend_from_slice(b"\n")?;
+    Ok(())
+}
+
+// Why it is down, in the words of its line.
+fn cause_words(why: &DownCause) -> &'static str
+    ensures { result.now ≡ spec.cause_words why.now }
+{
+    match why {
+        DownCause::Failed => "wire failed",
+        DownCause::Bad(_) => "bad reply",
+        DownCause::TooLong { length: _ } => "request too long",
+        DownCause::Unknown => "unknown endpoint",
     }
 }

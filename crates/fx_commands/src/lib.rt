@@ -2,6 +2,7 @@
 #![tactic(auto)]
 
 pub mod commands;
+mod documents;
 mod explained;
 mod federated;
 mod limits;

@@ -1,5 +1,5 @@
 //! Files, and the graph and the query that they hold.
-ghost use Rattle.std.specs.Prelude.{◌≡◌, ◌≤◌, ℕ, IfOk, List, MatchResult, Ok};
+ghost use Rattle.std.specs.Prelude.{◌≡◌, ◌≤◌, ℕ, IfOk, List, MatchResult};
 ghost use Rattle.fx_engine.specs.Mediation.{IsSpellable};
 ghost use Rattle.fx_commands.specs.Counts.{CountsLoad};
 ghost use Rattle.fx_commands.specs.Files.{file_read};
@@ -45,17 +45,17 @@ pub fn load_store<F: Files>(alloc: Global, files: &mut F, name: &str) -> Result<
 {
     match load_graph(alloc, files, name) {
         Err(refusal) => Err(refusal),
-        Ok(graph) => in_store(graph),
+        Ok(graph) => in_store(alloc, graph),
     }
 }
 
-// A store of a graph, which takes no memory.
-fn in_store(graph: Graph) -> Result<Store, GraphRefusal>
-    ensures { result ≡ Ok graph }
+// A store of a graph, for which memory may be wanting.
+fn in_store(alloc: Global, graph: Graph) -> Result<Store, GraphRefusal>
+    ensures { MatchResult result (λ store. store ≡ graph) (λ e. e ≡ GraphRefusal.Memory) }
 {
-    match Store::load(graph) {
+    match Store::load(alloc, graph) {
         Ok(store) => Ok(store),
-        Err(_) => unreachable!(),
+        Err(_) => Err(GraphRefusal::Memory),
     }
 }
 

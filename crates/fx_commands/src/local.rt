@@ -11,6 +11,7 @@ ghost use Rattle.fx_commands.specs.RefusalStatuses.{status_of};
 ghost use Rattle.fx_commands.specs.Services as spec;
 ghost use Rattle.std.specs.Option.{option_copied};
 
+use crate::documents::Report;
 use crate::loading::{load_query, load_store};
 use crate::refusals::Refusal;
 use fx_algebra::{Query, services};
@@ -20,15 +21,6 @@ use fx_results::write;
 use fx_store::Store;
 use fx_terms::{Iri, Memory};
 use std::alloc::Global;
-
-/// What a command writes where nothing is refused.
-#[derive(Drop)]
-pub struct Report {
-    /// The results document, for standard output.
-    pub document: Vec<u8>,
-    /// The lines behind it, for standard error: one for each SERVICE SILENT that had no answer.
-    pub lines: Vec<u8>,
-}
 
 /// The document of the answer that the one file's query has over the graph of the other, with a line for each SERVICE. The
 /// graph's file is read first. No endpoint is registered here, so each SERVICE without SILENT is refused, and each silent one

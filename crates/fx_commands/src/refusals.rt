@@ -155,6 +155,7 @@ pub fn fed_status(error: &FedError) -> Status
 {
     match error {
         FedError::Member { name: _ } => Status::EndpointFault,
+        FedError::Service { iri: _ } => Status::EndpointFault,
         FedError::BadReply { name: _, bad: _ } => Status::BadReply,
         FedError::RequestTooLong { name: _, length: _ } => Status::RequestTooLong,
         FedError::UnknownService { iri: _ } => Status::UnknownService,

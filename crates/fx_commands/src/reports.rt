@@ -5,7 +5,7 @@ ghost use Rattle.fx_commands.specs.FedRefusals.{fed_line};
 ghost use Rattle.fx_outside.specs.Faults.{HasRisen};
 ghost use Rattle.fx_outside.specs.Streams.{AppendsFront, AppendsPart};
 ghost use Rattle.fx_engine.specs.FaultTexts.{fault_text, with_code};
-ghost use Rattle.fx_commands.specs.Lines.{all_pieces, bad_reply, cannot_serve, Gains, graph_refused, line, no_memory, not_built, place, query_refused, registry_refused, request_too_long, unknown_service, usage_line};
+ghost use Rattle.fx_commands.specs.Lines.{all_pieces, bad_reply, cannot_serve, Gains, graph_refused, line, no_memory, place, query_refused, registry_refused, request_too_long, unknown_service, usage_line};
 ghost use Rattle.fx_grammar.specs.Refused.{kind_name};
 ghost use Rattle.fx_commands.specs.LocalSteps.{refusal_line, graph_line, query_line};
 ghost use Rattle.fx_commands.specs.MemberSteps.{registry_line};
@@ -116,13 +116,6 @@ fn write_kind_and_place<E: Sink>(err: &mut E, kind: SyntaxKind, place: u64)
     }
 }
 
-/// Writes the line of a query that can't be answered yet.
-pub fn write_not_built<E: Sink>(err: &mut E)
-    ensures { IsTrue E.tells_held → Gains (E.held err.old) (E.held err.new) (E.write_faults err.old) (E.write_faults err.new) not_built }
-{
-    write_line(err, b"query refused: NotBuilt\n");
-}
-
 /// Writes the line of a refusal of the registry's file, where it has this name.
 pub fn write_registry_refusal<E: Sink>(err: &mut E, refusal: RegistryRefusal, name: &str)
     ensures { IsTrue E.tells_held → Gains (E.held err.old) (E.held err.new) (E.write_faults err.old) (E.write_faults err.new) (registry_line refusal name.now) }
@@ -163,6 +156,7 @@ pub fn write_fed_error<E: Sink>(err: &mut E, error: &FedError)
 {
     match error {
         FedError::Member { name } => write_named(err, b"member ", name.as_str(), b" failed\n"),
+        FedError::Service { iri } => write_named(err, b"service ", iri.text(), b" failed\n"),
         FedError::BadReply { name, bad } => write_bad_reply(err, name.as_str(), bad.why),
         FedError::RequestTooLong { name, length } => {
             write_request_too_long(err, name.as_str(), *length)

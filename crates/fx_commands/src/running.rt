@@ -1,6 +1,6 @@
 //! The program over files, wires and streams that are handed in.
 ghost use Rattle.std.specs.Prelude.{◌≡◌, ◌≤◌, ◌<◌, ◌++◌, IsTrue, List, ℕ, length, map, string_bytes, take};
-ghost use Rattle.fx_traffic.specs.Gains.{AreAfter, faults_at};
+ghost use Rattle.fx_traffic.specs.Gains.{AreAfter};
 ghost use Rattle.fx_commands.specs.Asking.{wires_seen};
 ghost use Rattle.fx_commands.specs.Commands.{asked};
 ghost use Rattle.fx_commands.specs.Completeness.{Completes};
@@ -9,19 +9,19 @@ ghost use Rattle.fx_commands.specs.Files.{IsQueryThat, file_read};
 ghost use Rattle.fx_commands.specs.Headline.{Headline};
 ghost use Rattle.fx_commands.specs.Lines.{Gains};
 ghost use Rattle.fx_commands.specs.Local.{HasLines, IsAnswer, IsReported, IsWritten};
-ghost use Rattle.fx_commands.specs.LocalSteps.{IsDocumentWritten, IsLineReported};
-ghost use Rattle.fx_commands.specs.Runs.{FailsToWrite, OnUsed, Reports, Writes, wires_used};
+ghost use Rattle.fx_commands.specs.Runs.{CountsEndpoints, FailsToWrite, OnUsed, Reports, Writes, wires_used};
 ghost use Rattle.fx_commands.specs.Sinks.{IsCutShort, sink_written};
 
 use crate::commands::{Command, CommandError, read_command};
+use crate::documents::write_report;
 use crate::explained::run_explain;
 use crate::federated::run_query;
-use crate::local::{Report, local};
+use crate::local::local;
 use crate::refusals::Refusal;
 use crate::reports::{write_refusal, write_usage};
 use crate::serving::run_member;
 use crate::statuses::Status;
-use fx_outside::{Door, Files, Sink, write_all};
+use fx_outside::{Door, Files, Sink};
 use fx_wire::Wire;
 use std::alloc::Global;
 
@@ -48,7 +48,8 @@ pub fn run<F: Files, W: Wire + Send, D: Door, O: Sink, E: Sink>(
     requires { 0 < length wires.old }
 
     // The theorem: where the wires tell the graphs of the members, `Done` says that `out` gained exactly the document of the query's answer over the union of
-    // these graphs, or the text of its plan, and an endpoint is named as failed only where its count of faults rose. `local` so over the file's graph.
+    // these graphs, where the SERVICEs that are down are exactly those of the lines that `err` gained, or the text of its plan; and an endpoint is named as failed
+    // only where its count of faults rose. `local` so over the file's graph.
     ensures headline { OnUsed (wires_used (asked (map (λ w. string_bytes w) words.now))) wires.old wires.new (λ used later. Headline (file_read (F.seen files.old) (F.seen files.new)) (wires_seen W.tells_log W.counts_alone W.seen used later) (asked (map (λ w. string_bytes w) words.now)) result (sink_written O.tells_held O.held O.write_faults out.old out.new) (sink_written E.tells_held E.held E.write_faults err.old err.new)) }
 
     // Where besides each SERVICE is such as the command can take, nothing fails and nothing is too long, the run is done, unless memory ran out.
@@ -65,14 +66,14 @@ pub fn run<F: Files, W: Wire + Send, D: Door, O: Sink, E: Sink>(
 
     // `WriteFault` comes where a write of the document failed, and then nothing was written on `err`, or where it is whole and one
     // of the lines behind it failed.
-    ensures write_fault { result ≡ Status.WriteFault → FailsToWrite (file_read (F.seen files.old) (F.seen files.new)) (asked (map (λ w. string_bytes w) words.now)) (sink_written O.tells_held O.held O.write_faults out.old out.new) (sink_written E.tells_held E.held E.write_faults err.old err.new) }
+    ensures write_fault { result ≡ Status.WriteFault → FailsToWrite (file_read (F.seen files.old) (F.seen files.new)) (map W.seen (take (wires_used (asked (map (λ w. string_bytes w) words.now))) wires.old)) (asked (map (λ w. string_bytes w) words.now)) (sink_written O.tells_held O.held O.write_faults out.old out.new) (sink_written E.tells_held E.held E.write_faults err.old err.new) }
     ensures unfailed { ¬ (result ≡ Status.WriteFault) → O.write_faults out.new ≡ O.write_faults out.old }
     ensures unfailed_lines { result ≡ Status.Done → E.write_faults err.new ≡ E.write_faults err.old }
 
     // No fault of files and of the door is hidden: each count is as it was, or the status names the one fault, which is counted once. Where
-    // wires count each address alone, `Done` says that none was counted there.
+    // wires count each address alone, `Done` says that none was counted there, but for `query` one for each line that says that the wire failed.
     ensures read_faults { CountsOnly Status.ReadFault result (F.seen files.old).faults (F.seen files.new).faults }
-    ensures endpoint_faults { IsTrue W.counts_alone → result ≡ Status.Done → (address : List ℕ) → faults_at (map W.seen wires.new) address ≡ faults_at (map W.seen wires.old) address }
+    ensures endpoint_faults { IsTrue W.counts_alone → result ≡ Status.Done → CountsEndpoints (file_read (F.seen files.old) (F.seen files.new)) (asked (map (λ w. string_bytes w) words.now)) (map W.seen wires.old) (map W.seen wires.new) (sink_written E.tells_held E.held E.write_faults err.old err.new) }
     ensures door_faults { CountsDoor result (D.seen door.old).faults (D.seen door.new).faults }
     ensures kept { (name : List ℕ) → (F.seen files.old).faults name ≤ (F.seen files.new).faults name }
     ensures same { (name : List ℕ) → (F.seen files.new).content name ≡ (F.seen files.old).content name }
@@ -136,23 +137,5 @@ fn run_local<F: Files, O: Sink, E: Sink>(
             write_refusal(err, &refusal, graph, query);
             refusal.status()
         }
-    }
-}
-
-// Writes a document on `out`, and then the lines behind it on `err`.
-fn write_report<O: Sink, E: Sink>(report: &Report, out: &mut O, err: &mut E) -> Status
-    ensures reported { (text : List ℕ) × IsLineReported report.now.lines.items result text × (IsTrue E.tells_held → Gains (E.held err.old) (E.held err.new) (E.write_faults err.old) (E.write_faults err.new) text) }
-    ensures written { IsTrue O.tells_held → IsDocumentWritten report.now.document.items result (O.held out.old) (O.held out.new) }
-    ensures write_fault { result ≡ Status.WriteFault → IsCutShort (λ text. text ≡ report.now.document.items) (sink_written O.tells_held O.held O.write_faults out.old out.new) (sink_written E.tells_held E.held E.write_faults err.old err.new) }
-    ensures unfailed { ¬ (result ≡ Status.WriteFault) → O.write_faults out.new ≡ O.write_faults out.old }
-    ensures unfailed_lines { result ≡ Status.Done → E.write_faults err.new ≡ E.write_faults err.old }
-    ensures lines { result ≡ Status.Done → IsTrue E.tells_held → E.held err.new ≡ E.held err.old ++ report.now.lines.items }
-{
-    if write_all(out, report.document.as_slice()).is_err() {
-        return Status::WriteFault;
-    }
-    match write_all(err, report.lines.as_slice()) {
-        Ok(()) => Status::Done,
-        Err(_) => Status::WriteFault,
     }
 }

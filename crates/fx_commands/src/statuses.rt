@@ -9,7 +9,7 @@ pub enum Status {
     Done,
     /// The words are no command.
     Usage,
-    /// The query's text is not accepted, or can't be answered yet.
+    /// The query's text is not accepted.
     QueryRefused,
     /// The registry's text is not accepted.
     RegistryRefused,

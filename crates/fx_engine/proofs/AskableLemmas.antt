@@ -1,5 +1,5 @@
--- The parts of an accepted query's plan can be asked for, whatever is known of its probes, and their units have patterns of the query.
-use Rattle.std.proofs.Common.{◌≡◌, ◌∙◌, ap, sym, subst, refl, ℕ, ◌<◌, inl, inr, Bool, true, false, cond, List, [], ◌∷◌, map, arith}
+-- The tasks of an accepted query's plan can be asked for, whatever is known of its probes, and their units have patterns of the query.
+use Rattle.std.proofs.Common.{◌≡◌, ◌∙◌, ap, sym, subst, refl, ℕ, ◌<◌, inl, inr, Bool, true, false, if◌then◌else◌, List, [], ◌∷◌, map, arith}
 use Rattle.std.specs.Prelude.{All, AllPairs, Contains}
 use Rattle.std.specs.List.{AllByRecursion, list_any, range_with_len}
 use Rattle.std.proofs.lemmas.List.{length-map}
@@ -10,6 +10,7 @@ use Rattle.fx_terms.specs.declared.patterns.Pattern.{Pattern}
 use Rattle.fx_terms.proofs.SetLemmas.{Among, contains_from}
 use Rattle.fx_algebra.specs.Answers.{is_empty_list}
 use Rattle.fx_algebra.specs.Cuts.{stations}
+use Rattle.fx_algebra.specs.Solutions.{Bindings}
 use Rattle.fx_algebra.specs.Stations.{Station}
 use Rattle.fx_algebra.specs.Stations as station
 use Rattle.fx_algebra.specs.declared.expressions.Expr.{Expr}
@@ -19,12 +20,15 @@ use Rattle.fx_spelling.specs.Runs.{HasRun, IsRun}
 use Rattle.fx_spelling.proofs.Runs.{runs_are_of_the_grammar}
 use Rattle.fx_sources.specs.Probes.{Entry, chosen, is_yes, key_of, known, members_of, probe}
 use Rattle.fx_plan.specs.Plans.{plan}
-use Rattle.fx_plan.specs.declared.parts.Part.TheVariants.{Run, EmptyRun}
+use Rattle.fx_plan.specs.declared.parts.Part.{Part}
 use Rattle.fx_traffic.proofs.PlannedLemmas.{planned_laws}
 use Rattle.fx_engine.specs.GroupsAsked.{CanBeAsked}
 use Rattle.fx_engine.specs.Sections.{part_with, parts_by, section_of, sections}
+use Rattle.fx_engine.specs.Tasks.{tasks_with}
+use Rattle.fx_engine.specs.declared.tasks.Task.TheVariants as task
 use Rattle.fx_engine.proofs.PartLemmas.{by_function}
 use Rattle.fx_engine.proofs.SectionLemmas.{runs_have}
+use Rattle.fx_engine.proofs.TaskLemmas.{run_in_front}
 use Rattle.fx_engine.proofs.UnitLemmas.{range_rises}
 
 -- parts by what is known of each member and key
@@ -39,7 +43,7 @@ all_mapped P f h (p ∷ ps) = (h p, all_mapped P f h ps)
 
 module _ (text : List ℕ) (q : Query) (accepted : Accepted text q) (members : ℕ) (f : Pattern → List ℕ) (rising : (p : Pattern) → AllPairs ◌<◌ (f p)) (below : (p : Pattern) → All (λ at. at < members) (f p)) where
   run_asked : (ps : List Pattern) (filters : List Expr) (before : List (List ℕ)) → Contains (stations q) (station.run ps filters before) → (b : Bool) → list_any is_empty_list (map f ps) ≡ b
-      → CanBeAsked members (cond b EmptyRun (Run (plan ps (map f ps) filters before) before))
+      → CanBeAsked members (if b then task.EmptyRun else task.Run (plan ps (map f ps) filters before))
   run_asked ps filters before m true e = tt
   run_asked ps filters before m false e =
       let run : IsRun ps filters = All-contains HasRun (stations q) (station.run ps filters before) (runs_are_of_the_grammar text q accepted) m in
@@ -49,16 +53,17 @@ module _ (text : List ℕ) (q : Query) (accepted : Accepted text q) (members : �
         within = planned_laws.within members ps (map f ps) filters before (All-from_recursion (All (λ at. at < members)) (map f ps) (all_mapped (All (λ at. at < members)) f below ps));
       }
 
-  station_asked : (s : Station) → Contains (stations q) s → CanBeAsked members (part_with f (section_of s))
-  station_asked (station.run ps filters before) m = run_asked ps filters before m (list_any is_empty_list (map f ps)) refl
-  station_asked (station.service number silent iri g) m = tt
+  stations_asked : (ss : List Station) (found : List (List Bindings)) → ((s : Station) → Among s ss → Contains (stations q) s) → AllByRecursion (CanBeAsked members) (tasks_with (map (part_with f) (map section_of ss)) found)
+  stations_asked [] found h = tt
+  stations_asked (station.run ps filters before ∷ ss) found h =
+      let lacks = list_any is_empty_list (map f ps) in
+      subst (AllByRecursion (CanBeAsked members)) (sym (run_in_front lacks (plan ps (map f ps) filters before) before (map (part_with f) (map section_of ss)) found))
+      (run_asked ps filters before (h (station.run ps filters before) (inl refl)) lacks refl, stations_asked ss found (λ t m. h t (inr m)))
+  stations_asked (station.service number silent iri g ∷ ss) [] h = (tt, stations_asked ss [] (λ t m. h t (inr m)))
+  stations_asked (station.service number silent iri g ∷ ss) (rows ∷ found) h = (tt, stations_asked ss found (λ t m. h t (inr m)))
 
-  stations_asked : (ss : List Station) → ((s : Station) → Among s ss → Contains (stations q) s) → AllByRecursion (CanBeAsked members) (map (part_with f) (map section_of ss))
-  stations_asked [] h = tt
-  stations_asked (s ∷ ss) h = (station_asked s (h s (inl refl)), stations_asked ss (λ t m. h t (inr m)))
-
-  all_asked : All (CanBeAsked members) (map (part_with f) (sections q))
-  all_asked = All-from_recursion (CanBeAsked members) (map (part_with f) (sections q)) (stations_asked (stations q) (λ s m. contains_from (stations q) s m))
+  all_asked : (found : List (List Bindings)) → All (CanBeAsked members) (tasks_with (map (part_with f) (sections q)) found)
+  all_asked found = All-from_recursion (CanBeAsked members) (tasks_with (map (part_with f) (sections q)) found) (stations_asked (stations q) found (λ s m. contains_from (stations q) s m))
 
 range_below : (n : ℕ) → All (λ at. at < n) (range_with_len 0 n)
 range_below n k d low =
@@ -66,10 +71,10 @@ range_below n k d low =
     let is = get_or-range_with_len 0 n k d (omega arith) in
     omega arith
 
-pub parts_can_be_asked : (text : List ℕ) (q : Query) → Accepted text q → (members : ℕ) (entries : List Entry) → All (CanBeAsked members) (parts_by (sections q) (chosen q members entries))
-parts_can_be_asked text q accepted members entries =
+pub tasks_can_be_asked : (text : List ℕ) (q : Query) → Accepted text q → (members : ℕ) (entries : List Entry) (found : List (List Bindings)) → All (CanBeAsked members) (tasks_with (parts_by (sections q) (chosen q members entries)) found)
+tasks_can_be_asked text q accepted members entries found =
     let f : Pattern → List ℕ = λ p. members_of entries members (key_of p) in
-    subst (All (CanBeAsked members)) (sym (by_members q members entries))
+    subst (λ (v : List Part). All (CanBeAsked members) (tasks_with v found)) (sym (by_members q members entries))
     (all_asked text q accepted members f
     (λ p. AllPairs-filter ◌<◌ (λ at. is_yes (known entries (probe at (key_of p)))) (range_with_len 0 members) (range_rises 0 members))
-    (λ p. All-filter (λ at. is_yes (known entries (probe at (key_of p)))) (λ at. at < members) (range_with_len 0 members) (range_below members)))
+    (λ p. All-filter (λ at. is_yes (known entries (probe at (key_of p)))) (λ at. at < members) (range_with_len 0 members) (range_below members)) found)

@@ -22,8 +22,11 @@ use Rattle.fx_pool.specs.RunFlows.{HasFlowCause, IsFlowCause}
 use Rattle.fx_pool.specs.declared.flows.FlowError.{FlowError}
 use Rattle.fx_pool.specs.declared.flows.FlowError.TheVariants as flow
 use Rattle.fx_pool.proofs.WireLemmas.{after_itself}
-use Rattle.fx_engine.specs.Asked.{Asked, Knows, Went}
-use Rattle.fx_engine.specs.GroupsAsked.{solutions_in}
+use Rattle.fx_engine.specs.Asked.{Asked, HasRowsCause, Knows, Went}
+use Rattle.fx_engine.specs.GroupsAsked.{solutions_in, units_in}
+use Rattle.fx_engine.specs.declared.tasks.RowsError.{RowsError}
+use Rattle.fx_engine.specs.declared.tasks.RowsError.TheVariants as rows_error
+use Rattle.fx_engine.specs.declared.tasks.Task.{Task}
 use Rattle.fx_engine.proofs.WiresLemmas.{all_after, gained_both, still_tell}
 pub use Rattle.fx_engine.proofs.WiresLemmas.{AllTell, all_tell, still_tell_all}
 
@@ -97,6 +100,11 @@ module _ (before between after : List Seen) (h : AreAfter before between) (xs al
     flow_cause_behind (flow.RequestTooLong at size) k = its_cause (flow.RequestTooLong at size) k
     flow_cause_behind flow.Memory k = tt
 
+module _ (before between after : List Seen) (h : AreAfter before between) (xs all : List Exchange) (more : (x : Exchange) → Contains xs x → Contains all x) (endpoints : List EndpointParts) (tasks : List Task) (block : ℕ) (own wanted : List Sent) where
+  rows_cause_behind : (e : RowsError) → HasRowsCause between after endpoints tasks block wanted xs e → HasRowsCause before after endpoints tasks block (own ++ wanted) all e
+  rows_cause_behind (rows_error.Flow e) k = flow_cause_behind before between after h xs all more endpoints (units_in tasks) block own wanted e k
+  rows_cause_behind rows_error.Refused k = k
+
 -- ---- what was asked for
 
 abbrev Of : Type 0 → Type 1
@@ -105,9 +113,9 @@ Of X = List (List Triple) → List Sent → X → Type 0
 abbrev Alone : Type 1
 Alone = List (List Triple) → List Sent → Type 0
 
-module _ (tells alone : Bool) (endpoints : List EndpointParts) (us : List unit.Unit) (block : ℕ) where
+module _ (tells alone : Bool) (endpoints : List EndpointParts) (tasks : List Task) (block : ℕ) where
   -- nothing was, and something is given
-  pub given_unasked : {X : Type 0} (Given : Of X) (Due : Alone) (wires : List Seen) (x : X) → ((graphs : List (List Triple)) → Given graphs [] x) → Asked tells alone wires wires endpoints us block Given Due (Ok x)
+  pub given_unasked : {X : Type 0} (Given : Of X) (Due : Alone) (wires : List Seen) (x : X) → ((graphs : List (List Triple)) → Given graphs [] x) → Asked tells alone wires wires endpoints tasks block Given Due (Ok x)
   given_unasked Given Due wires x f = record {
     exchanges = [];
     failed = 0;
@@ -117,15 +125,16 @@ module _ (tells alone : Bool) (endpoints : List EndpointParts) (us : List unit.U
     wanted = [];
     left = [];
     sent = IsPermutation-refl [];
-    of_batches = All-nil (IsBatchText endpoints block (Contains us));
-    faultless = All-nil (IsBatchRead (Contains us));
+    of_batches = All-nil (IsBatchText endpoints block (Contains (units_in tasks)));
+    faultless = All-nil (IsBatchRead (Contains (units_in tasks)));
     known = λ graphs told. f graphs;
     cause = tt;
   }
 
-  -- nothing was, for want of memory
-  pub unasked : {X : Type 0} (Given : Of X) (Due : Alone) (wires : List Seen) → ((graphs : List (List Triple)) → Due graphs []) → Asked {X = X} tells alone wires wires endpoints us block Given Due (Err flow.Memory)
-  unasked Given Due wires f = record {
+  -- nothing was, for a cause that needs nothing
+  pub refused_unasked : {X : Type 0} (Given : Of X) (Due : Alone) (wires : List Seen) (e : RowsError) → HasRowsCause wires wires endpoints tasks block [] [] e → ((graphs : List (List Triple)) → Due graphs [])
+      → Asked {X = X} tells alone wires wires endpoints tasks block Given Due (Err e)
+  refused_unasked Given Due wires e cause f = record {
     exchanges = [];
     failed = 0;
     once = omega arith;
@@ -134,16 +143,20 @@ module _ (tells alone : Bool) (endpoints : List EndpointParts) (us : List unit.U
     wanted = [];
     left = [];
     sent = IsPermutation-refl [];
-    of_batches = All-nil (IsBatchText endpoints block (Contains us));
+    of_batches = All-nil (IsBatchText endpoints block (Contains (units_in tasks)));
     faultless = tt;
     known = λ graphs told. f graphs;
-    cause = tt;
+    cause = cause;
   }
+
+  -- nothing was, for want of memory
+  pub unasked : {X : Type 0} (Given : Of X) (Due : Alone) (wires : List Seen) → ((graphs : List (List Triple)) → Due graphs []) → Asked {X = X} tells alone wires wires endpoints tasks block Given Due (Err (rows_error.Flow flow.Memory))
+  unasked Given Due wires f = refused_unasked Given Due wires (rows_error.Flow flow.Memory) tt f
 
   module _ (before after : List Seen) where
     -- what is given is made into something else
     pub given_as : {X Y : Type 0} (Given : Of X) (Due : Alone) (Given_also : Of Y) (Due_also : Alone) (x : X) (y : Y) → ((graphs : List (List Triple)) (wanted : List Sent) → Given graphs wanted x → Given_also graphs wanted y)
-        → Asked tells alone before after endpoints us block Given Due (Ok x) → Asked tells alone before after endpoints us block Given_also Due_also (Ok y)
+        → Asked tells alone before after endpoints tasks block Given Due (Ok x) → Asked tells alone before after endpoints tasks block Given_also Due_also (Ok y)
     given_as Given Due Given_also Due_also x y f h = record {
       exchanges = h.exchanges;
       failed = h.failed;
@@ -161,7 +174,7 @@ module _ (tells alone : Bool) (endpoints : List EndpointParts) (us : List unit.U
 
     -- it is lost for want of memory
     pub lost_behind : {X Y : Type 0} (Given : Of X) (Due : Alone) (Given_also : Of Y) (Due_also : Alone) (x : X) → ((graphs : List (List Triple)) (wanted : List Sent) → Given graphs wanted x → Due_also graphs wanted)
-        → Asked tells alone before after endpoints us block Given Due (Ok x) → Asked {X = Y} tells alone before after endpoints us block Given_also Due_also (Err flow.Memory)
+        → Asked tells alone before after endpoints tasks block Given Due (Ok x) → Asked {X = Y} tells alone before after endpoints tasks block Given_also Due_also (Err (rows_error.Flow flow.Memory))
     lost_behind Given Due Given_also Due_also x f h = record {
       exchanges = h.exchanges;
       failed = h.failed;
@@ -178,8 +191,8 @@ module _ (tells alone : Bool) (endpoints : List EndpointParts) (us : List unit.U
     }
 
     -- a refusal is handed on
-    pub refused_as : {X Y : Type 0} (Given : Of X) (Due : Alone) (Given_also : Of Y) (Due_also : Alone) (why : FlowError) → ((graphs : List (List Triple)) (wanted : List Sent) → Due graphs wanted → Due_also graphs wanted)
-        → Asked {X = X} tells alone before after endpoints us block Given Due (Err why) → Asked {X = Y} tells alone before after endpoints us block Given_also Due_also (Err why)
+    pub refused_as : {X Y : Type 0} (Given : Of X) (Due : Alone) (Given_also : Of Y) (Due_also : Alone) (e : RowsError) → ((graphs : List (List Triple)) (wanted : List Sent) → Due graphs wanted → Due_also graphs wanted)
+        → Asked {X = X} tells alone before after endpoints tasks block Given Due (Err e) → Asked {X = Y} tells alone before after endpoints tasks block Given_also Due_also (Err e)
     refused_as Given Due Given_also Due_also why f h = record {
       exchanges = h.exchanges;
       failed = h.failed;
@@ -197,12 +210,12 @@ module _ (tells alone : Bool) (endpoints : List EndpointParts) (us : List unit.U
 
   -- more was asked for behind what is given
   module _ (before between after : List Seen) (a : AllTell tells before) (b : AllTell tells between) where
-    pub asked_behind : {X Y : Type 0} (Given : Of X) (Due : Alone) (Given_next : Of Y) (Due_next : Alone) (Given_both : Of Y) (Due_both : Alone) (x : X) (r : Result Y FlowError)
+    pub asked_behind : {X Y : Type 0} (Given : Of X) (Due : Alone) (Given_next : Of Y) (Due_next : Alone) (Given_both : Of Y) (Due_both : Alone) (x : X) (r : Result Y RowsError)
         → ((graphs : List (List Triple)) (own more : List Sent) (y : Y) → Given graphs own x → Given_next graphs more y → Given_both graphs (own ++ more) y)
         → ((graphs : List (List Triple)) (own more : List Sent) → Given graphs own x → Due_next graphs more → Due_both graphs (own ++ more))
-        → Asked tells alone before between endpoints us block Given Due (Ok x)
-        → Asked tells alone between after endpoints us block Given_next Due_next r
-        → Asked tells alone before after endpoints us block Given_both Due_both r
+        → Asked tells alone before between endpoints tasks block Given Due (Ok x)
+        → Asked tells alone between after endpoints tasks block Given_next Due_next r
+        → Asked tells alone before after endpoints tasks block Given_both Due_both r
     asked_behind {X} {Y} Given Due Given_next Due_next Given_both Due_both x r f d h k =
         let none : Went tells alone 0 before between h.exchanges = subst (λ (n : ℕ). Went tells alone n before between h.exchanges) h.unfailed h.went in
         let both = went_both tells alone k.failed before between after h.exchanges k.exchanges a b none k.went in
@@ -215,45 +228,45 @@ module _ (tells alone : Bool) (endpoints : List EndpointParts) (us : List unit.U
           wanted = h.wanted ++ k.wanted;
           left = h.left ++ k.left;
           sent = sent_laws.any_order (h.wanted ++ k.wanted) (h.left ++ k.left) (h.exchanges ++ k.exchanges) both.all both.same (sent_laws.together h.wanted h.left k.wanted k.left h.exchanges k.exchanges h.sent k.sent);
-          of_batches = All-append (IsBatchText endpoints block (Contains us)) h.wanted k.wanted h.of_batches k.of_batches;
+          of_batches = All-append (IsBatchText endpoints block (Contains (units_in tasks))) h.wanted k.wanted h.of_batches k.of_batches;
           faultless = faultless both.all both.same r k.faultless;
           known = λ graphs told. known r graphs (h.known graphs told) (k.known graphs (still_tell_all before between none.after_all endpoints graphs told));
           cause = cause both.all both.same r k.cause;
         }
       where
-        faultless : (all : List Exchange) → IsPermutation (h.exchanges ++ k.exchanges) all → (o : Result Y FlowError) → IfOk o (λ _. All (IsBatchRead (Contains us)) k.exchanges) → IfOk o (λ _. All (IsBatchRead (Contains us)) all)
-        faultless all same (Ok y) g = All-permutation (IsBatchRead (Contains us)) (h.exchanges ++ k.exchanges) all same (All-append (IsBatchRead (Contains us)) h.exchanges k.exchanges h.faultless g)
-        faultless all same (Err why) g = tt
+        faultless : (all : List Exchange) → IsPermutation (h.exchanges ++ k.exchanges) all → (o : Result Y RowsError) → IfOk o (λ _. All (IsBatchRead (Contains (units_in tasks))) k.exchanges) → IfOk o (λ _. All (IsBatchRead (Contains (units_in tasks))) all)
+        faultless all same (Ok y) g = All-permutation (IsBatchRead (Contains (units_in tasks))) (h.exchanges ++ k.exchanges) all same (All-append (IsBatchRead (Contains (units_in tasks))) h.exchanges k.exchanges h.faultless g)
+        faultless all same (Err e) g = tt
 
-        known : (o : Result Y FlowError) (graphs : List (List Triple)) → Given graphs h.wanted x → Knows Given_next Due_next graphs k.wanted o → Knows Given_both Due_both graphs (h.wanted ++ k.wanted) o
+        known : (o : Result Y RowsError) (graphs : List (List Triple)) → Given graphs h.wanted x → Knows Given_next Due_next graphs k.wanted o → Knows Given_both Due_both graphs (h.wanted ++ k.wanted) o
         known (Ok y) graphs g n = f graphs h.wanted k.wanted y g n
-        known (Err why) graphs g n = d graphs h.wanted k.wanted g n
+        known (Err e) graphs g n = d graphs h.wanted k.wanted g n
 
-        cause : (all : List Exchange) → IsPermutation (h.exchanges ++ k.exchanges) all → (o : Result Y FlowError) → IfErr o (HasFlowCause between after endpoints us block k.wanted k.exchanges) → IfErr o (HasFlowCause before after endpoints us block (h.wanted ++ k.wanted) all)
+        cause : (all : List Exchange) → IsPermutation (h.exchanges ++ k.exchanges) all → (o : Result Y RowsError) → IfErr o (HasRowsCause between after endpoints tasks block k.wanted k.exchanges) → IfErr o (HasRowsCause before after endpoints tasks block (h.wanted ++ k.wanted) all)
         cause all same (Ok y) c = tt
-        cause all same (Err why) c =
-            flow_cause_behind before between after h.went.after_all k.exchanges all
+        cause all same (Err e) c =
+            rows_cause_behind before between after h.went.after_all k.exchanges all
             (λ x m. Contains-permutation (h.exchanges ++ k.exchanges) all x same (contains_from (h.exchanges ++ k.exchanges) x (among_right x h.exchanges k.exchanges (among_from k.exchanges x m))))
-            endpoints us block h.wanted k.wanted why c
+            endpoints tasks block h.wanted k.wanted e c
 
   -- something is made of what is given, unless memory lacks
-  pub made_of : {X : Type 0} (Given : Of X) (Due : Alone) (Given_also : Of (List Bindings)) (Due_also : Alone) (P : List Bindings → Type 0) (before after : List Seen) (x : X) (r : Result (Vec Bindings Global) FlowError)
+  pub made_of : {X : Type 0} (Given : Of X) (Due : Alone) (Given_also : Of (List Bindings)) (Due_also : Alone) (P : List Bindings → Type 0) (before after : List Seen) (x : X) (r : Result (Vec Bindings Global) RowsError)
       → IfOk r (λ rows. P rows.items)
-      → IfErr r (λ e. e ≡ flow.Memory)
+      → IfErr r (λ e. e ≡ rows_error.Flow flow.Memory)
       → ((graphs : List (List Triple)) (wanted : List Sent) (rows : List Bindings) → Given graphs wanted x → P rows → Given_also graphs wanted rows)
       → ((graphs : List (List Triple)) (wanted : List Sent) → Given graphs wanted x → Due_also graphs wanted)
-      → Asked tells alone before after endpoints us block Given Due (Ok x)
-      → Asked tells alone before after endpoints us block Given_also Due_also (solutions_in r)
+      → Asked tells alone before after endpoints tasks block Given Due (Ok x)
+      → Asked tells alone before after endpoints tasks block Given_also Due_also (solutions_in r)
   made_of Given Due Given_also Due_also P before after x (Ok rows) given memory f d h = given_as before after Given Due Given_also Due_also x rows.items (λ graphs wanted g. f graphs wanted rows.items g given) h
   made_of {X} Given Due Given_also Due_also P before after x (Err e) given memory f d h =
-      subst (λ (why : FlowError). Asked {X = List Bindings} tells alone before after endpoints us block Given_also Due_also (Err why)) (sym memory) (lost_behind before after Given Due Given_also Due_also x d h)
+      subst (λ (e : RowsError). Asked {X = List Bindings} tells alone before after endpoints tasks block Given_also Due_also (Err e)) (sym memory) (lost_behind before after Given Due Given_also Due_also x d h)
 
   -- so it is where nothing was asked for
-  pub made_unasked : (Given : Of (List Bindings)) (Due : Alone) (P : List Bindings → Type 0) (wires : List Seen) (r : Result (Vec Bindings Global) FlowError)
+  pub made_unasked : (Given : Of (List Bindings)) (Due : Alone) (P : List Bindings → Type 0) (wires : List Seen) (r : Result (Vec Bindings Global) RowsError)
       → IfOk r (λ rows. P rows.items)
-      → IfErr r (λ e. e ≡ flow.Memory)
+      → IfErr r (λ e. e ≡ rows_error.Flow flow.Memory)
       → ((graphs : List (List Triple)) (rows : List Bindings) → P rows → Given graphs [] rows)
       → ((graphs : List (List Triple)) → Due graphs [])
-      → Asked tells alone wires wires endpoints us block Given Due (solutions_in r)
+      → Asked tells alone wires wires endpoints tasks block Given Due (solutions_in r)
   made_unasked Given Due P wires (Ok rows) given memory f d = given_unasked Given Due wires rows.items (λ graphs. f graphs rows.items given)
-  made_unasked Given Due P wires (Err e) given memory f d = subst (λ (why : FlowError). Asked {X = List Bindings} tells alone wires wires endpoints us block Given Due (Err why)) (sym memory) (unasked Given Due wires d)
+  made_unasked Given Due P wires (Err e) given memory f d = subst (λ (e : RowsError). Asked {X = List Bindings} tells alone wires wires endpoints tasks block Given Due (Err e)) (sym memory) (unasked Given Due wires d)

@@ -1,5 +1,5 @@
 -- The cause of a refusal of a query's batches, with the name of the endpoint.
-use Rattle.std.proofs.Common.{◌≡◌, sym, subst, ℕ, ◌<◌, ◌⊎◌, inl, inr, Bool, true, false, cond, List, [], ◌∷◌, ◌++◌, map, length, arith}
+use Rattle.std.proofs.Common.{◌≡◌, sym, subst, ℕ, ◌<◌, ◌⊎◌, inl, inr, Bool, true, false, if◌then◌else◌, List, [], ◌∷◌, ◌++◌, map, length, arith}
 use Rattle.std.specs.Prelude.{All, Contains}
 use Rattle.std.specs.List.{AllByRecursion, flat_map, list_any, zip}
 use Rattle.std.proofs.lemmas.List.Elements.{All-contains, All-contains_itself, All-from_recursion, recursion_from_All}
@@ -7,13 +7,13 @@ use Rattle.fx_terms.specs.declared.patterns.Pattern.{Pattern}
 use Rattle.fx_terms.proofs.SetLemmas.{Among, among_from}
 use Rattle.fx_outside.specs.Endpoints.{EndpointParts}
 use Rattle.fx_algebra.specs.Answers.{is_empty_list}
+use Rattle.fx_algebra.specs.Solutions.{Bindings}
 use Rattle.fx_algebra.specs.declared.expressions.Expr.{Expr}
 use Rattle.fx_algebra.specs.declared.queries.Query.{Query}
 use Rattle.fx_algebra.specs.declared.units.Unit as unit
 use Rattle.fx_plan.specs.Laws.{IsGroup, IsSingle}
 use Rattle.fx_plan.specs.Plans.{plan}
 use Rattle.fx_plan.specs.declared.parts.Part.{Part}
-use Rattle.fx_plan.specs.declared.parts.Part.TheVariants as part
 use Rattle.fx_plan.proofs.LawLemmas.{units_are_of_the_run}
 use Rattle.fx_sources.specs.Patterns.{patterns}
 use Rattle.fx_sources.specs.Probes.{Entry, chosen, key_of, members_of}
@@ -29,17 +29,22 @@ use Rattle.fx_pool.specs.declared.flows.FlowError.{FlowError}
 use Rattle.fx_pool.specs.declared.flows.FlowError.TheVariants as flow
 use Rattle.fx_pool.specs.declared.jobs.BadReply.{BadReply}
 use Rattle.fx_pool.proofs.UnitsLemmas.{read_of_more}
-use Rattle.fx_engine.specs.GroupsAsked.{CanBeAsked, part_units, units_in}
+use Rattle.fx_engine.specs.Calls.{Call}
+use Rattle.fx_engine.specs.GroupsAsked.{CanBeAsked, task_units, units_in}
 use Rattle.fx_engine.specs.Mediation.{HasFedCause, IsBatchFor, IsNamed, IsPlaced, IsUnitOf}
 use Rattle.fx_engine.specs.Sections.{part_with, parts_by, run_patterns, sections}
+use Rattle.fx_engine.specs.Tasks.{tasks_with}
 use Rattle.fx_engine.specs.declared.mediator.FedError.{FedError}
 use Rattle.fx_engine.specs.declared.mediator.FedError.TheVariants as fed
 use Rattle.fx_engine.specs.declared.sections.Section.{Section}
 use Rattle.fx_engine.specs.declared.sections.Section.TheVariants.{Run, Service}
+use Rattle.fx_engine.specs.declared.tasks.Task.{Task}
+use Rattle.fx_engine.specs.declared.tasks.Task.TheVariants as task
 use Rattle.fx_engine.proofs.AskableLemmas.{by_members}
 use Rattle.fx_engine.proofs.AskedLemmas.{flow_cause_behind}
 use Rattle.fx_engine.proofs.ChoiceLemmas.{below, found_here, its_name}
 use Rattle.fx_engine.proofs.SectionLemmas.{runs_have}
+use Rattle.fx_engine.proofs.TaskLemmas.{run_in_front}
 use Rattle.fx_engine.proofs.UnitLemmas.{of_asked}
 
 all_both : {X : Type 0} (P : X → Type 0) (xs ys : List X) → AllByRecursion P xs → AllByRecursion P ys → AllByRecursion P (xs ++ ys)
@@ -60,50 +65,56 @@ module _ (P : Pattern → Type 0) (f : Pattern → List ℕ) where
   unit_of_run ps u (inl g) h = λ k d low. of_asked f P ps _ (g.member ∷ []) h (g.only k d low)
   unit_of_run ps u (inr s) h = subst (All P) (sym s.alone) (All-from_recursion P (s.pattern ∷ []) (of_asked f P ps s.pattern u.members h s.its, tt))
 
-  run_units : (b : Bool) (ps : List Pattern) (filters : List Expr) (bound : List (List ℕ)) → AllByRecursion P ps → AllByRecursion HasAll (part_units (cond b part.EmptyRun (part.Run (plan ps (map f ps) filters bound) bound)))
+  run_units : (b : Bool) (ps : List Pattern) (filters : List Expr) (bound : List (List ℕ)) → AllByRecursion P ps → AllByRecursion HasAll (task_units (if b then task.EmptyRun else task.Run (plan ps (map f ps) filters bound)))
   run_units true ps filters bound h = tt
   run_units false ps filters bound h =
       recursion_from_All HasAll (plan ps (map f ps) filters bound) (λ k d low. unit_of_run ps _ (units_are_of_the_run ps (map f ps) filters bound k d low) h)
 
-  all_units : (ss : List Section) → AllByRecursion P (flat_map run_patterns ss) → AllByRecursion HasAll (units_in (map (part_with f) ss))
-  all_units [] h = tt
-  all_units (Run ps filters bound ∷ ss) h =
+  all_units : (ss : List Section) (found : List (List Bindings)) → AllByRecursion P (flat_map run_patterns ss) → AllByRecursion HasAll (units_in (tasks_with (map (part_with f) ss) found))
+  all_units [] found h = tt
+  all_units (Run ps filters bound ∷ ss) found h =
       let own = all_split P ps (flat_map run_patterns ss) h in
-      all_both HasAll (part_units (part_with f (Run ps filters bound))) (units_in (map (part_with f) ss)) (run_units (list_any is_empty_list (map f ps)) ps filters bound own.0) (all_units ss own.1)
-  all_units (Service iri ∷ ss) h = all_units ss h
+      let lacks = list_any is_empty_list (map f ps) in
+      let units = plan ps (map f ps) filters bound in
+      let parts = map (part_with f) ss in
+      subst (λ (v : List Task). AllByRecursion HasAll (units_in v)) (sym (run_in_front lacks units bound parts found))
+      (all_both HasAll (task_units (if lacks then task.EmptyRun else task.Run units)) (units_in (tasks_with parts found)) (run_units lacks ps filters bound own.0) (all_units ss found own.1))
+  all_units (Service iri ∷ ss) [] h = all_units ss [] h
+  all_units (Service iri ∷ ss) (rows ∷ found) h = all_units ss found h
 
-units_have_patterns : (q : Query) (n : ℕ) (entries : List Entry) → All (λ u. All (Contains (patterns q)) u.patterns) (units_in (parts_by (sections q) (chosen q n entries)))
-units_have_patterns q n entries =
+units_have_patterns : (q : Query) (n : ℕ) (entries : List Entry) (found : List (List Bindings)) → All (λ u. All (Contains (patterns q)) u.patterns) (units_in (tasks_with (parts_by (sections q) (chosen q n entries)) found))
+units_have_patterns q n entries found =
     let f : Pattern → List ℕ = λ p. members_of entries n (key_of p) in
     let own : AllByRecursion (Contains (patterns q)) (flat_map run_patterns (sections q)) = subst (AllByRecursion (Contains (patterns q))) (sym (runs_have q)) (recursion_from_All (Contains (patterns q)) (patterns q) (All-contains_itself (patterns q))) in
-    subst (λ (v : List Part). All (λ u. All (Contains (patterns q)) u.patterns) (units_in v)) (sym (by_members q n entries))
-    (All-from_recursion (λ u. All (Contains (patterns q)) u.patterns) (units_in (map (part_with f) (sections q))) (all_units (Contains (patterns q)) f (sections q) own))
+    subst (λ (v : List Part). All (λ u. All (Contains (patterns q)) u.patterns) (units_in (tasks_with v found))) (sym (by_members q n entries))
+    (All-from_recursion (λ u. All (Contains (patterns q)) u.patterns) (units_in (tasks_with (map (part_with f) (sections q)) found)) (all_units (Contains (patterns q)) f (sections q) found own))
 
 -- ---- they are fit
 
-part_fit : (n : ℕ) (p : Part) → CanBeAsked n p → AllByRecursion IsFit (part_units p)
-part_fit n (part.Run units bound) h = recursion_from_All IsFit units h.fit
-part_fit n part.EmptyRun h = tt
-part_fit n (part.Service iri) h = tt
+task_fit : (n : ℕ) (t : Task) → CanBeAsked n t → AllByRecursion IsFit (task_units t)
+task_fit n (task.Run units) h = recursion_from_All IsFit units h.fit
+task_fit n task.EmptyRun h = tt
+task_fit n (task.Service rows) h = tt
+task_fit n task.Refused h = tt
 
-units_fit : (n : ℕ) (parts : List Part) → AllByRecursion (CanBeAsked n) parts → AllByRecursion IsFit (units_in parts)
+units_fit : (n : ℕ) (tasks : List Task) → AllByRecursion (CanBeAsked n) tasks → AllByRecursion IsFit (units_in tasks)
 units_fit n [] h = tt
-units_fit n (p ∷ parts) h = all_both IsFit (part_units p) (units_in parts) (part_fit n p h.0) (units_fit n parts h.1)
+units_fit n (t ∷ tasks) h = all_both IsFit (task_units t) (units_in tasks) (task_fit n t h.0) (units_fit n tasks h.1)
 
-module _ (es : List EndpointParts) (q : Query) (n : ℕ) (entries : List Entry) (parts : List Part) (are : parts ≡ parts_by (sections q) (chosen q n entries)) (can : All (CanBeAsked (length es)) parts) where
-  unit_of_query : (u : unit.Unit) → Contains (units_in parts) u → IsUnitOf q u
+module _ (es : List EndpointParts) (q : Query) (n : ℕ) (entries : List Entry) (found : List (List Bindings)) (tasks : List Task) (are : tasks ≡ tasks_with (parts_by (sections q) (chosen q n entries)) found) (can : All (CanBeAsked (length es)) tasks) where
+  unit_of_query : (u : unit.Unit) → Contains (units_in tasks) u → IsUnitOf q u
   unit_of_query u its = record {
-    fit = All-contains IsFit (units_in parts) u (All-from_recursion IsFit (units_in parts) (units_fit (length es) parts (recursion_from_All (CanBeAsked (length es)) parts can))) its;
-    of_query = All-contains (λ u. All (Contains (patterns q)) u.patterns) (units_in parts) u (subst (λ (v : List Part). All (λ u. All (Contains (patterns q)) u.patterns) (units_in v)) (sym are) (units_have_patterns q n entries)) its;
+    fit = All-contains IsFit (units_in tasks) u (All-from_recursion IsFit (units_in tasks) (units_fit (length es) tasks (recursion_from_All (CanBeAsked (length es)) tasks can))) its;
+    of_query = All-contains (λ u. All (Contains (patterns q)) u.patterns) (units_in tasks) u (subst (λ (v : List Task). All (λ u. All (Contains (patterns q)) u.patterns) (units_in v)) (sym are) (units_have_patterns q n entries found)) its;
   }
 
   -- so the texts of their batches are of the query
-  pub texts_of_query : (block : ℕ) (xs : List Sent) → All (IsBatchText es block (Contains (units_in parts))) xs → All (IsBatchText es block (IsUnitOf q)) xs
-  texts_of_query block xs h = texts_of_more es block (Contains (units_in parts)) (IsUnitOf q) unit_of_query xs h
+  pub texts_of_query : (block : ℕ) (xs : List Sent) → All (IsBatchText es block (Contains (units_in tasks))) xs → All (IsBatchText es block (IsUnitOf q)) xs
+  texts_of_query block xs h = texts_of_more es block (Contains (units_in tasks)) (IsUnitOf q) unit_of_query xs h
 
   -- and what is read of their replies
-  pub read_of_query : (xs : List Exchange) → All (IsBatchRead (Contains (units_in parts))) xs → All (IsBatchRead (IsUnitOf q)) xs
-  read_of_query xs h = read_of_more (Contains (units_in parts)) (IsUnitOf q) unit_of_query xs h
+  pub read_of_query : (xs : List Exchange) → All (IsBatchRead (Contains (units_in tasks))) xs → All (IsBatchRead (IsUnitOf q)) xs
+  read_of_query xs h = read_of_more (Contains (units_in tasks)) (IsUnitOf q) unit_of_query xs h
 
 -- ---- the cause
 
@@ -118,11 +129,11 @@ some_pattern q u fit of = by u.patterns fit.some (recursion_from_All (Contains (
     by [] some h = absurd (omega arith)
     by (p ∷ ps) some h = more (patterns q) p (among_from (patterns q) p h.0)
 
-module _ (es : List EndpointParts) (q : Query) (old : List Entry) (n : ℕ) (entries : List Entry) (parts : List Part) (are : parts ≡ parts_by (sections q) (chosen q n entries)) (can : All (CanBeAsked (length es)) parts) (block : ℕ) (s t : List Seen) (xs : List Exchange) (wanted : List Sent) where
-  batch_for : (why : FlowError) (k : IsFlowCause s t es (units_in parts) block wanted xs why) → IsBatchFor es q block k.endpoint k.unit k.batch
-  batch_for why k = record { of_query = unit_of_query es q n entries parts are can k.unit k.of_run; sized = k.sized; at = k.at; member = k.member; found = k.found }
+module _ (es : List EndpointParts) (q : Query) (old : List Entry) (n : ℕ) (entries : List Entry) (found : List (List Bindings)) (tasks : List Task) (are : tasks ≡ tasks_with (parts_by (sections q) (chosen q n entries)) found) (can : All (CanBeAsked (length es)) tasks) (block : ℕ) (s t : List Seen) (xs : List Exchange) (calls : List Call) (wanted : List Sent) where
+  batch_for : (why : FlowError) (k : IsFlowCause s t es (units_in tasks) block wanted xs why) → IsBatchFor es q block k.endpoint k.unit k.batch
+  batch_for why k = record { of_query = unit_of_query es q n entries found tasks are can k.unit k.of_run; sized = k.sized; at = k.at; member = k.member; found = k.found }
 
-  named_batch_cause : (why : FlowError) (e : FedError) → IsFlowCause s t es (units_in parts) block wanted xs why → IsNamed es why e → HasFedCause s t es q old wanted xs block e
+  named_batch_cause : (why : FlowError) (e : FedError) → IsFlowCause s t es (units_in tasks) block wanted xs why → IsNamed es why e → HasFedCause s t es q old calls wanted xs block e
   named_batch_cause why fed.Memory k n = tt
   named_batch_cause (flow.Member at) (fed.Member name) k n =
       let b = batch_for (flow.Member at) k in
@@ -132,13 +143,13 @@ module _ (es : List EndpointParts) (q : Query) (old : List Entry) (n : ℕ) (ent
         k.endpoint,
         found_here es k.at k.endpoint k.found,
         its_name es k.at at k.endpoint name k.named k.found n.0,
-        inr (record { unit = k.unit; batch = k.batch; asked = batch_for (flow.BadReply at bad) k; is_bad = is }),
+        inr (inl (record { unit = k.unit; batch = k.batch; asked = batch_for (flow.BadReply at bad) k; is_bad = is })),
       )
   named_batch_cause (flow.RequestTooLong at size) (fed.RequestTooLong name other) k n = (
     k.endpoint,
     found_here es k.at k.endpoint k.found,
     its_name es k.at at k.endpoint name k.named k.found n.0,
-    inr (record { unit = k.unit; batch = k.batch; asked = batch_for (flow.RequestTooLong at size) k; allowed = k.allowed; is_long = subst (IsLongBatch (record { unit = k.unit; rows = k.batch })) (sym n.1) k.cause }),
+    inr (inl (record { unit = k.unit; batch = k.batch; asked = batch_for (flow.RequestTooLong at size) k; allowed = k.allowed; is_long = subst (IsLongBatch (record { unit = k.unit; rows = k.batch })) (sym n.1) k.cause })),
   )
   named_batch_cause (flow.Member at) (fed.BadReply name other) k n = absurd n
   named_batch_cause (flow.Member at) (fed.RequestTooLong name other) k n = absurd n
@@ -149,12 +160,16 @@ module _ (es : List EndpointParts) (q : Query) (old : List Entry) (n : ℕ) (ent
   named_batch_cause flow.Memory (fed.Member name) k n = absurd n
   named_batch_cause flow.Memory (fed.BadReply name other) k n = absurd n
   named_batch_cause flow.Memory (fed.RequestTooLong name other) k n = absurd n
+  named_batch_cause (flow.Member at) (fed.Service iri) k n = absurd n
   named_batch_cause (flow.Member at) (fed.UnknownService iri) k n = absurd n
+  named_batch_cause (flow.BadReply at bad) (fed.Service iri) k n = absurd n
   named_batch_cause (flow.BadReply at bad) (fed.UnknownService iri) k n = absurd n
+  named_batch_cause (flow.RequestTooLong at size) (fed.Service iri) k n = absurd n
   named_batch_cause (flow.RequestTooLong at size) (fed.UnknownService iri) k n = absurd n
+  named_batch_cause flow.Memory (fed.Service iri) k n = absurd n
   named_batch_cause flow.Memory (fed.UnknownService iri) k n = absurd n
 
-  batch_cause : (why : FlowError) (e : FedError) → HasFlowCause s t es (units_in parts) block wanted xs why → IsNamed es why e → HasFedCause s t es q old wanted xs block e
+  batch_cause : (why : FlowError) (e : FedError) → HasFlowCause s t es (units_in tasks) block wanted xs why → IsNamed es why e → HasFedCause s t es q old calls wanted xs block e
   batch_cause (flow.Member at) e k n = named_batch_cause (flow.Member at) e k n
   batch_cause (flow.BadReply at bad) e k n = named_batch_cause (flow.BadReply at bad) e k n
   batch_cause (flow.RequestTooLong at size) e k n = named_batch_cause (flow.RequestTooLong at size) e k n
@@ -162,13 +177,14 @@ module _ (es : List EndpointParts) (q : Query) (old : List Entry) (n : ℕ) (ent
   batch_cause flow.Memory (fed.Member name) k n = absurd n
   batch_cause flow.Memory (fed.BadReply name other) k n = absurd n
   batch_cause flow.Memory (fed.RequestTooLong name other) k n = absurd n
+  batch_cause flow.Memory (fed.Service iri) k n = absurd n
   batch_cause flow.Memory (fed.UnknownService iri) k n = absurd n
 
 -- the cause behind other exchanges
-pub batch_cause_behind : (es : List EndpointParts) (q : Query) (old : List Entry) (n : ℕ) (entries : List Entry) (parts : List Part) → parts ≡ parts_by (sections q) (chosen q n entries) → All (CanBeAsked (length es)) parts → (block : ℕ) (s t u : List Seen) → AreAfter s t
-    → (xs all : List Exchange) → ((x : Exchange) → Contains xs x → Contains all x) → (wanted : List Sent) (why : FlowError) (e : FedError) → HasFlowCause t u es (units_in parts) block wanted xs why → IsNamed es why e → HasFedCause s u es q old wanted all block e
-batch_cause_behind es q old n entries parts are can block s t u after xs all among wanted why e k named =
-    batch_cause es q old n entries parts are can block s u all wanted why e (flow_cause_behind s t u after xs all among es (units_in parts) block [] wanted why k) named
+pub batch_cause_behind : (es : List EndpointParts) (q : Query) (old : List Entry) (n : ℕ) (entries : List Entry) (found : List (List Bindings)) (tasks : List Task) → tasks ≡ tasks_with (parts_by (sections q) (chosen q n entries)) found → All (CanBeAsked (length es)) tasks → (block : ℕ) (s t u : List Seen) → AreAfter s t
+    → (xs all : List Exchange) → ((x : Exchange) → Contains xs x → Contains all x) → (calls : List Call) (wanted : List Sent) (why : FlowError) (e : FedError) → HasFlowCause t u es (units_in tasks) block wanted xs why → IsNamed es why e → HasFedCause s u es q old calls wanted all block e
+batch_cause_behind es q old n entries found tasks are can block s t u after xs all among calls wanted why e k named =
+    batch_cause es q old n entries found tasks are can block s u all calls wanted why e (flow_cause_behind s t u after xs all among es (units_in tasks) block [] wanted why k) named
 
 pub flow_placed : (es : List EndpointParts) (us : List unit.Unit) (block : ℕ) (s t : List Seen) (xs : List Exchange) (wanted : List Sent) (why : FlowError) → HasFlowCause s t es us block wanted xs why → IsPlaced (length es) why
 flow_placed es us block s t xs wanted (flow.Member at) k = below es k.at at k.endpoint k.named k.found

@@ -117,7 +117,7 @@ its_name es at it e name same found has =
     let both : has.0 ≡ e = cc in
     sym (ap (λ (d : EndpointParts). d.name) both) ∙ has.2
 
-get_below : (es : List EndpointParts) (at : ℕ) (e : EndpointParts) → slice_get es at ≡ Some e → at < length es
+pub get_below : (es : List EndpointParts) (at : ℕ) (e : EndpointParts) → slice_get es at ≡ Some e → at < length es
 get_below [] at e h = absurd (cc)
 get_below (d ∷ es) zero e h = omega arith
 get_below (d ∷ es) (suc at) e h = let rest = get_below es at e h in omega arith
@@ -168,9 +168,13 @@ module _ (es : List EndpointParts) (q : Query) (old : List Entry) (s t : List Se
   named_cause flow.Memory (fed.Member name) k n = absurd n
   named_cause flow.Memory (fed.BadReply name other) k n = absurd n
   named_cause flow.Memory (fed.RequestTooLong name other) k n = absurd n
+  named_cause (flow.Member at) (fed.Service iri) k n = absurd n
   named_cause (flow.Member at) (fed.UnknownService iri) k n = absurd n
+  named_cause (flow.BadReply at bad) (fed.Service iri) k n = absurd n
   named_cause (flow.BadReply at bad) (fed.UnknownService iri) k n = absurd n
+  named_cause (flow.RequestTooLong at size) (fed.Service iri) k n = absurd n
   named_cause (flow.RequestTooLong at size) (fed.UnknownService iri) k n = absurd n
+  named_cause flow.Memory (fed.Service iri) k n = absurd n
   named_cause flow.Memory (fed.UnknownService iri) k n = absurd n
 
   pub plan_cause : (why : FlowError) (e : FedError) → HasProbeCause s t es (missing q (length es) old) xs why → IsNamed es why e → HasPlanCause s t es q old xs e
@@ -181,6 +185,7 @@ module _ (es : List EndpointParts) (q : Query) (old : List Entry) (s t : List Se
   plan_cause flow.Memory (fed.Member name) k n = absurd n
   plan_cause flow.Memory (fed.BadReply name other) k n = absurd n
   plan_cause flow.Memory (fed.RequestTooLong name other) k n = absurd n
+  plan_cause flow.Memory (fed.Service iri) k n = absurd n
   plan_cause flow.Memory (fed.UnknownService iri) k n = absurd n
 
   pub probe_placed : (why : FlowError) → HasProbeCause s t es (missing q (length es) old) xs why → IsPlaced (length es) why

@@ -17,16 +17,17 @@ use Rattle.fx_algebra.specs.declared.queries.Group.{Group, fold_out-Group}
 use Rattle.fx_algebra.specs.declared.queries.Inline.{Inline}
 use Rattle.fx_algebra.proofs.JoinLemmas.{same_join}
 use Rattle.fx_algebra.proofs.OperatorLemmas.{minus_moves}
-use Rattle.fx_plan.specs.declared.parts.Part.{Part}
 use Rattle.fx_steps.specs.Fewer.{AreFewer}
 use Rattle.fx_steps.proofs.FewerLemmas.{fewer_laws}
 use Rattle.fx_traffic.specs.Sent.{Sent}
-use Rattle.fx_traffic.specs.Traffic.{AreStationsSent}
-use Rattle.fx_engine.specs.GroupsAsked.{AlternativesDue, AlternativesGiven, AreAskedFor, GroupDue, GroupGiven, IsNext, OperatorDue, OperatorGiven, Served, UnfilteredGiven, all_planned, element_in, group_in, operator_rows, operator_seeds, operator_stations, own_patterns, run_joined, run_seeds, run_stations, with_run}
+use Rattle.fx_engine.specs.GroupsAsked.{AlternativesDue, AlternativesGiven, AreAskedFor, GroupDue, GroupGiven, IsNext, OperatorDue, OperatorGiven, Served, UnfilteredGiven, element_in, group_in, operator_rows, operator_seeds, operator_stations, own_patterns, run_joined, run_seeds, run_stations, run_tasks, with_run}
+use Rattle.fx_engine.specs.RunsSent.{AreRunsSent}
 use Rattle.fx_engine.specs.SectionSteps.{group_of, part_filters, part_of, part_patterns}
+use Rattle.fx_engine.specs.declared.tasks.Task.{Task}
 use Rattle.fx_engine.proofs.SectionLemmas.{filters_are, meaning_is}
 use Rattle.fx_engine.proofs.ServedLemmas.{same_filters, same_keeps, same_own, same_simple}
 use Rattle.fx_engine.proofs.RunLemmas.{after_alone, seeds_alone, stations_alone}
+use Rattle.fx_engine.proofs.StationLemmas.{run_planned}
 
 -- ---- what elements and groups are
 
@@ -64,29 +65,29 @@ module _ (served : Served) where
 
 -- ---- the rows and the requests of an operator
 
-module _ (endpoints : List EndpointParts) (block : ℕ) (parts : List Part) (next later : ℕ) (graphs : List (List Triple)) (before rows : List Bindings) (wanted : List Sent) where
+module _ (endpoints : List EndpointParts) (block : ℕ) (tasks : List Task) (next later : ℕ) (graphs : List (List Triple)) (before rows : List Bindings) (wanted : List Sent) where
   -- what a part has for requests was asked for, and these are the rows behind it
-  abbrev pub Given : ℕ → List Expr → List (List ℕ) → List Bindings → List Part → GroupPart → Type 0
-  Given number filters known defined rest v =
-      IsNext parts next graphs (operator_stations number v known) rest
-      → AreAskedFor endpoints graphs block parts later rest (operator_stations number v known) (operator_seeds number v (union graphs) defined) wanted × AreFewer filters rows (operator_rows number v (union graphs) defined)
+  abbrev pub Given : Served → ℕ → List Expr → List (List ℕ) → List Bindings → List Task → GroupPart → Type 0
+  Given served number filters known defined rest v =
+      IsNext tasks next graphs served (operator_stations number v known) rest
+      → AreAskedFor endpoints graphs block tasks later rest (operator_stations number v known) (operator_seeds number v (union graphs) defined) wanted × AreFewer filters rows (operator_rows number v (union graphs) defined)
 
   -- by what the element is to its group
   pub by_part : (served : Served) (number : ℕ) (e : Element) (o : Operator) → element_in served e ≡ operator o
-      → ((filters : List Expr) (known : List (List ℕ)) (defined : List Bindings) (rest : List Part) → AreFewer filters before defined → drop next parts ≡ all_planned graphs (o.cut.stations number known) ++ rest
-      → AreAskedFor endpoints graphs block parts later rest (o.cut.stations number known) (o.cut.seeds (union graphs) number defined) wanted × IsPermutation rows (o.rows (union graphs) number before))
-      → (filters : List Expr) (known : List (List ℕ)) (defined : List Bindings) (rest : List Part) → AreFewer filters before defined → Given number filters known defined rest (element_in served e)
-  by_part served number e o is f = λ filters known defined rest fewer. subst (Given number filters known defined rest) (sym is) (λ next_is. its filters known defined rest fewer next_is)
+      → ((filters : List Expr) (known : List (List ℕ)) (defined : List Bindings) (rest : List Task) → AreFewer filters before defined → IsNext tasks next graphs served (o.cut.stations number known) rest
+      → AreAskedFor endpoints graphs block tasks later rest (o.cut.stations number known) (o.cut.seeds (union graphs) number defined) wanted × IsPermutation rows (o.rows (union graphs) number before))
+      → (filters : List Expr) (known : List (List ℕ)) (defined : List Bindings) (rest : List Task) → AreFewer filters before defined → Given served number filters known defined rest (element_in served e)
+  by_part served number e o is f = λ filters known defined rest fewer. subst (Given served number filters known defined rest) (sym is) (λ next_is. its filters known defined rest fewer next_is)
     where
-      its : (filters : List Expr) (known : List (List ℕ)) (defined : List Bindings) (rest : List Part) → AreFewer filters before defined → drop next parts ≡ all_planned graphs (o.cut.stations number known) ++ rest
-          → AreAskedFor endpoints graphs block parts later rest (o.cut.stations number known) (o.cut.seeds (union graphs) number defined) wanted × AreFewer filters rows (o.rows (union graphs) number defined)
+      its : (filters : List Expr) (known : List (List ℕ)) (defined : List Bindings) (rest : List Task) → AreFewer filters before defined → IsNext tasks next graphs served (o.cut.stations number known) rest
+          → AreAskedFor endpoints graphs block tasks later rest (o.cut.stations number known) (o.cut.seeds (union graphs) number defined) wanted × AreFewer filters rows (o.rows (union graphs) number defined)
       its filters known defined rest fewer next_is =
           let k = f filters known defined rest fewer next_is in
           (k.0, fewer_laws.operator filters served.graphs served.down e o is (union graphs) number before defined rows fewer k.1)
 
   -- an OPTIONAL whose group goes by itself
-  pub of_optional : (g : Group) (found : List Bindings) → (group_of g).is_simple ≡ false → UnfilteredGiven endpoints block parts next later g graphs wanted found → IsPermutation (left_join before found (group_of g).filters) rows
-      → OperatorGiven endpoints block parts next later (Optional g) before graphs wanted rows
+  pub of_optional : (g : Group) (found : List Bindings) → (group_of g).is_simple ≡ false → UnfilteredGiven endpoints block tasks next later g graphs wanted found → IsPermutation (left_join before found (group_of g).filters) rows
+      → OperatorGiven endpoints block tasks next later (Optional g) before graphs wanted rows
   of_optional g found apart h p = λ served number.
       let m = group_in served g in
       let alone : m.is_simple ≡ false = same_simple served g ∙ apart in
@@ -95,14 +96,14 @@ module _ (endpoints : List EndpointParts) (block : ℕ) (parts : List Part) (nex
       (λ filters known defined rest fewer next_is.
       let names : names_before m.is_simple known ≡ [] = ap (λ (b : Bool). names_before b known) alone in
       let seeds : rows_before m.is_simple defined ≡ one_empty = ap (λ (b : Bool). rows_before b defined) alone in
-      let k = h served number rest (next_is ∙ ap (λ (v : List (List ℕ)). all_planned graphs (m.cut.stations number v) ++ rest) names) in (
-        subst (λ (v : List (List ℕ)). AreAskedFor endpoints graphs block parts later rest (m.cut.stations number v) (m.cut.seeds (union graphs) number (rows_before m.is_simple defined)) wanted) (sym names)
-            (subst (λ (v : List Bindings). AreAskedFor endpoints graphs block parts later rest (m.cut.stations number []) (m.cut.seeds (union graphs) number v) wanted) (sym seeds) k.0),
+      let k = h served number rest (subst (λ (v : List (List ℕ)). IsNext tasks next graphs served (m.cut.stations number v) rest) names next_is) in (
+        subst (λ (v : List (List ℕ)). AreAskedFor endpoints graphs block tasks later rest (m.cut.stations number v) (m.cut.seeds (union graphs) number (rows_before m.is_simple defined)) wanted) (sym names)
+            (subst (λ (v : List Bindings). AreAskedFor endpoints graphs block tasks later rest (m.cut.stations number []) (m.cut.seeds (union graphs) number v) wanted) (sym seeds) k.0),
         IsPermutation-trans rows (left_join before found m.filters) (left_join before (m.rows (union graphs) number) m.filters) (IsPermutation-sym (left_join before found m.filters) rows moved)
             (fewer_laws.on_the_right m.filters before found (m.rows (union graphs) number) k.1),
       ))
 
-  pub of_union : (gs : List Group) (found : List Bindings) → AlternativesGiven endpoints block parts next later gs graphs wanted found → IsPermutation (join before found) rows → OperatorGiven endpoints block parts next later (Union gs) before graphs wanted rows
+  pub of_union : (gs : List Group) (found : List Bindings) → AlternativesGiven endpoints block tasks next later gs graphs wanted found → IsPermutation (join before found) rows → OperatorGiven endpoints block tasks next later (Union gs) before graphs wanted rows
   of_union gs found h p = λ served number.
       by_part served number (Union gs) _ (part_union served gs)
       (λ filters known defined rest fewer next_is. let k = h served number rest next_is in (
@@ -111,7 +112,7 @@ module _ (endpoints : List EndpointParts) (block : ℕ) (parts : List Part) (nex
             (same_join before before found (alternatives (map (group_in served) gs) (union graphs) number) (IsPermutation-refl before) k.1),
       ))
 
-  pub of_minus : (g : Group) (found : List Bindings) → GroupGiven endpoints block parts next later g graphs wanted found → rows ≡ minus before found → OperatorGiven endpoints block parts next later (Minus g) before graphs wanted rows
+  pub of_minus : (g : Group) (found : List Bindings) → GroupGiven endpoints block tasks next later g graphs wanted found → rows ≡ minus before found → OperatorGiven endpoints block tasks next later (Minus g) before graphs wanted rows
   of_minus g found h e = λ served number.
       by_part served number (Minus g) _ (part_minus served g)
       (λ filters known defined rest fewer next_is. let k = h served number rest next_is in (
@@ -121,38 +122,38 @@ module _ (endpoints : List EndpointParts) (block : ℕ) (parts : List Part) (nex
       ))
 
   -- operators that ask for nothing
-  nothing_asked : later ≡ next → wanted ≡ [] → (rest : List Part) → drop next parts ≡ rest → AreAskedFor endpoints graphs block parts later rest [] [] wanted
-  nothing_asked same none rest next_is = record { behind = ap (λ (n : ℕ). drop n parts) same ∙ next_is; sent = none }
+  nothing_asked : later ≡ next → wanted ≡ [] → (rest : List Task) → drop next tasks ≡ rest → AreAskedFor endpoints graphs block tasks later rest [] [] wanted
+  nothing_asked same none rest next_is = record { behind = ap (λ (n : ℕ). drop n tasks) same ∙ next_is; sent = none }
 
-  pub of_bind : (x : Expr) (name : List ℕ) → later ≡ next → wanted ≡ [] → rows ≡ extend before name x → OperatorGiven endpoints block parts next later (Bind x name) before graphs wanted rows
+  pub of_bind : (x : Expr) (name : List ℕ) → later ≡ next → wanted ≡ [] → rows ≡ extend before name x → OperatorGiven endpoints block tasks next later (Bind x name) before graphs wanted rows
   of_bind x name same none e = λ served number.
       by_part served number (Bind x name) _ (part_bind served x name)
       (λ filters known defined rest fewer next_is. (
-        nothing_asked same none rest next_is,
+        nothing_asked same none rest next_is.next_is,
         subst (λ (v : List Bindings). IsPermutation v (extend before name x)) (sym e) (IsPermutation-refl (extend before name x)),
       ))
 
-  pub of_values : (inline : Inline) (found : List Bindings) → later ≡ next → wanted ≡ [] → found ≡ inline_rows inline → IsPermutation (join before found) rows → OperatorGiven endpoints block parts next later (Values inline) before graphs wanted rows
+  pub of_values : (inline : Inline) (found : List Bindings) → later ≡ next → wanted ≡ [] → found ≡ inline_rows inline → IsPermutation (join before found) rows → OperatorGiven endpoints block tasks next later (Values inline) before graphs wanted rows
   of_values inline found same none e p = λ served number.
       by_part served number (Values inline) _ (part_values served inline)
       (λ filters known defined rest fewer next_is. (
-        nothing_asked same none rest next_is,
+        nothing_asked same none rest next_is.next_is,
         subst (λ (v : List Bindings). IsPermutation rows (join before v)) e (IsPermutation-sym (join before found) rows p),
       ))
 
 -- ---- what of that is sent, where nothing is given
 
-module _ (endpoints : List EndpointParts) (block : ℕ) (parts : List Part) (next : ℕ) (graphs : List (List Triple)) (before : List Bindings) (wanted : List Sent) where
-  abbrev pub Due : ℕ → List (List ℕ) → List Bindings → List Part → GroupPart → Type 0
-  Due number known defined rest v = IsNext parts next graphs (operator_stations number v known) rest → AreStationsSent endpoints graphs block (operator_stations number v known) (operator_seeds number v (union graphs) defined) wanted
+module _ (endpoints : List EndpointParts) (block : ℕ) (tasks : List Task) (next : ℕ) (graphs : List (List Triple)) (before : List Bindings) (wanted : List Sent) where
+  abbrev pub Due : Served → ℕ → List (List ℕ) → List Bindings → List Task → GroupPart → Type 0
+  Due served number known defined rest v = IsNext tasks next graphs served (operator_stations number v known) rest → AreRunsSent endpoints graphs block (operator_stations number v known) (operator_seeds number v (union graphs) defined) wanted
 
   pub due_by : (served : Served) (number : ℕ) (e : Element) (o : Operator) → element_in served e ≡ operator o
-      → ((filters : List Expr) (known : List (List ℕ)) (defined : List Bindings) (rest : List Part) → AreFewer filters before defined → drop next parts ≡ all_planned graphs (o.cut.stations number known) ++ rest
-      → AreStationsSent endpoints graphs block (o.cut.stations number known) (o.cut.seeds (union graphs) number defined) wanted)
-      → (filters : List Expr) (known : List (List ℕ)) (defined : List Bindings) (rest : List Part) → AreFewer filters before defined → Due number known defined rest (element_in served e)
-  due_by served number e o is f = λ filters known defined rest fewer. subst (Due number known defined rest) (sym is) (λ next_is. f filters known defined rest fewer next_is)
+      → ((filters : List Expr) (known : List (List ℕ)) (defined : List Bindings) (rest : List Task) → AreFewer filters before defined → IsNext tasks next graphs served (o.cut.stations number known) rest
+      → AreRunsSent endpoints graphs block (o.cut.stations number known) (o.cut.seeds (union graphs) number defined) wanted)
+      → (filters : List Expr) (known : List (List ℕ)) (defined : List Bindings) (rest : List Task) → AreFewer filters before defined → Due served number known defined rest (element_in served e)
+  due_by served number e o is f = λ filters known defined rest fewer. subst (Due served number known defined rest) (sym is) (λ next_is. f filters known defined rest fewer next_is)
 
-  pub due_optional : (g : Group) → (group_of g).is_simple ≡ false → GroupDue endpoints block parts next g graphs wanted → OperatorDue endpoints block parts next (Optional g) before graphs wanted
+  pub due_optional : (g : Group) → (group_of g).is_simple ≡ false → GroupDue endpoints block tasks next g graphs wanted → OperatorDue endpoints block tasks next (Optional g) before graphs wanted
   due_optional g apart h = λ served number.
       let m = group_in served g in
       let alone : m.is_simple ≡ false = same_simple served g ∙ apart in
@@ -160,20 +161,20 @@ module _ (endpoints : List EndpointParts) (block : ℕ) (parts : List Part) (nex
       (λ filters known defined rest fewer next_is.
       let names : names_before m.is_simple known ≡ [] = ap (λ (b : Bool). names_before b known) alone in
       let seeds : rows_before m.is_simple defined ≡ one_empty = ap (λ (b : Bool). rows_before b defined) alone in
-      let k = h served number rest (next_is ∙ ap (λ (v : List (List ℕ)). all_planned graphs (m.cut.stations number v) ++ rest) names) in
-      subst (λ (v : List (List ℕ)). AreStationsSent endpoints graphs block (m.cut.stations number v) (m.cut.seeds (union graphs) number (rows_before m.is_simple defined)) wanted) (sym names)
-      (subst (λ (v : List Bindings). AreStationsSent endpoints graphs block (m.cut.stations number []) (m.cut.seeds (union graphs) number v) wanted) (sym seeds) k))
+      let k = h served number rest (subst (λ (v : List (List ℕ)). IsNext tasks next graphs served (m.cut.stations number v) rest) names next_is) in
+      subst (λ (v : List (List ℕ)). AreRunsSent endpoints graphs block (m.cut.stations number v) (m.cut.seeds (union graphs) number (rows_before m.is_simple defined)) wanted) (sym names)
+      (subst (λ (v : List Bindings). AreRunsSent endpoints graphs block (m.cut.stations number []) (m.cut.seeds (union graphs) number v) wanted) (sym seeds) k))
 
-  pub due_union : (gs : List Group) → AlternativesDue endpoints block parts next gs graphs wanted → OperatorDue endpoints block parts next (Union gs) before graphs wanted
+  pub due_union : (gs : List Group) → AlternativesDue endpoints block tasks next gs graphs wanted → OperatorDue endpoints block tasks next (Union gs) before graphs wanted
   due_union gs h = λ served number. due_by served number (Union gs) _ (part_union served gs) (λ filters known defined rest fewer next_is. h served number rest next_is)
 
-  pub due_minus : (g : Group) → GroupDue endpoints block parts next g graphs wanted → OperatorDue endpoints block parts next (Minus g) before graphs wanted
+  pub due_minus : (g : Group) → GroupDue endpoints block tasks next g graphs wanted → OperatorDue endpoints block tasks next (Minus g) before graphs wanted
   due_minus g h = λ served number. due_by served number (Minus g) _ (part_minus served g) (λ filters known defined rest fewer next_is. h served number rest next_is)
 
-  pub due_bind : (x : Expr) (name : List ℕ) → wanted ≡ [] → OperatorDue endpoints block parts next (Bind x name) before graphs wanted
+  pub due_bind : (x : Expr) (name : List ℕ) → wanted ≡ [] → OperatorDue endpoints block tasks next (Bind x name) before graphs wanted
   due_bind x name none = λ served number. due_by served number (Bind x name) _ (part_bind served x name) (λ filters known defined rest fewer next_is. none)
 
-  pub due_values : (inline : Inline) → wanted ≡ [] → OperatorDue endpoints block parts next (Values inline) before graphs wanted
+  pub due_values : (inline : Inline) → wanted ≡ [] → OperatorDue endpoints block tasks next (Values inline) before graphs wanted
   due_values inline none = λ served number. due_by served number (Values inline) _ (part_values served inline) (λ filters known defined rest fewer next_is. none)
 
 -- ---- the group of an OPTIONAL that is one run
@@ -210,56 +211,61 @@ module _ (g : Group) (simple : (group_of g).is_simple ≡ true) where
     run_rows : (graph : List Triple) → (group_in served g).rows graph number ≡ run_joined graph one_empty (own_patterns g)
     run_rows graph = ap (λ (m : Meaning). m.rows graph number) (group_is served g) ∙ ap (after graph number one_empty) its_steps ∙ after_alone number graph one_empty (own_patterns g)
 
+  -- its task is next
+  run_is : (served : Served) (graphs : List (List Triple)) (tasks : List Task) (next : ℕ) (known : List (List ℕ)) (rest : List Task) → IsNext tasks next graphs served (run_stations (group_of g).filters known (own_patterns g)) rest
+      → drop next tasks ≡ run_tasks graphs (group_of g).filters known (own_patterns g) ++ rest
+  run_is served graphs tasks next known rest h = h.next_is ∙ ap (λ (v : List Task). v ++ rest) (run_planned served graphs (group_of g).filters known (own_patterns g))
+
   -- an OPTIONAL of it: what was asked for is its run, where it has a pattern
-  pub of_run : (endpoints : List EndpointParts) (block : ℕ) (parts : List Part) (next later : ℕ) (graphs : List (List Triple)) (before rows : List Bindings) (wanted : List Sent)
-      → ((known : List (List ℕ)) (defined : List Bindings) (rest : List Part) (filters : List Expr) → AreFewer filters before defined → drop next parts ≡ all_planned graphs (run_stations (group_of g).filters known (own_patterns g)) ++ rest
-      → AreAskedFor endpoints graphs block parts later rest (run_stations (group_of g).filters known (own_patterns g)) (run_seeds defined (own_patterns g)) wanted
+  pub of_run : (endpoints : List EndpointParts) (block : ℕ) (tasks : List Task) (next later : ℕ) (graphs : List (List Triple)) (before rows : List Bindings) (wanted : List Sent)
+      → ((known : List (List ℕ)) (defined : List Bindings) (rest : List Task) (filters : List Expr) → AreFewer filters before defined → drop next tasks ≡ run_tasks graphs (group_of g).filters known (own_patterns g) ++ rest
+      → AreAskedFor endpoints graphs block tasks later rest (run_stations (group_of g).filters known (own_patterns g)) (run_seeds defined (own_patterns g)) wanted
       × IsPermutation rows (left_join before (run_joined (union graphs) one_empty (own_patterns g)) (group_of g).filters))
-      → OperatorGiven endpoints block parts next later (Optional g) before graphs wanted rows
-  of_run endpoints block parts next later graphs before rows wanted f = λ served number.
+      → OperatorGiven endpoints block tasks next later (Optional g) before graphs wanted rows
+  of_run endpoints block tasks next later graphs before rows wanted f = λ served number.
       let m = group_in served g in
       let one : m.is_simple ≡ true = same_simple served g ∙ simple in
-      by_part endpoints block parts next later graphs before rows wanted served number (Optional g) _ (part_optional served g)
+      by_part endpoints block tasks next later graphs before rows wanted served number (Optional g) _ (part_optional served g)
       (λ filters known defined rest fewer next_is.
       let names : m.cut.stations number (names_before m.is_simple known) ≡ run_stations (group_of g).filters known (own_patterns g) = ap (λ (b : Bool). m.cut.stations number (names_before b known)) one ∙ run_station served number known in
       let seeds : m.cut.seeds (union graphs) number (rows_before m.is_simple defined) ≡ run_seeds defined (own_patterns g) =
       ap (λ (b : Bool). m.cut.seeds (union graphs) number (rows_before b defined)) one ∙ run_seed served number (union graphs) defined in
-      let k = f known defined rest filters fewer (next_is ∙ ap (λ (v : List Station). all_planned graphs v ++ rest) names) in (
-        subst (λ (v : List Station). AreAskedFor endpoints graphs block parts later rest v (m.cut.seeds (union graphs) number (rows_before m.is_simple defined)) wanted) (sym names)
-            (subst (λ (v : List (List Bindings)). AreAskedFor endpoints graphs block parts later rest (run_stations (group_of g).filters known (own_patterns g)) v wanted) (sym seeds) k.0),
+      let k = f known defined rest filters fewer (run_is served graphs tasks next known rest (subst (λ (v : List Station). IsNext tasks next graphs served v rest) names next_is)) in (
+        subst (λ (v : List Station). AreAskedFor endpoints graphs block tasks later rest v (m.cut.seeds (union graphs) number (rows_before m.is_simple defined)) wanted) (sym names)
+            (subst (λ (v : List (List Bindings)). AreAskedFor endpoints graphs block tasks later rest (run_stations (group_of g).filters known (own_patterns g)) v wanted) (sym seeds) k.0),
         subst (λ (v : List Expr). IsPermutation rows (left_join before (m.rows (union graphs) number) v)) (sym (same_filters served g))
             (subst (λ (v : List Bindings). IsPermutation rows (left_join before v (group_of g).filters)) (sym (run_rows served number (union graphs))) k.1),
       ))
 
   -- what of it is sent
-  pub due_run : (endpoints : List EndpointParts) (block : ℕ) (parts : List Part) (next : ℕ) (graphs : List (List Triple)) (before : List Bindings) (wanted : List Sent)
-      → ((known : List (List ℕ)) (defined : List Bindings) (rest : List Part) (filters : List Expr) → AreFewer filters before defined → drop next parts ≡ all_planned graphs (run_stations (group_of g).filters known (own_patterns g)) ++ rest
-      → AreStationsSent endpoints graphs block (run_stations (group_of g).filters known (own_patterns g)) (run_seeds defined (own_patterns g)) wanted)
-      → OperatorDue endpoints block parts next (Optional g) before graphs wanted
-  due_run endpoints block parts next graphs before wanted f = λ served number.
+  pub due_run : (endpoints : List EndpointParts) (block : ℕ) (tasks : List Task) (next : ℕ) (graphs : List (List Triple)) (before : List Bindings) (wanted : List Sent)
+      → ((known : List (List ℕ)) (defined : List Bindings) (rest : List Task) (filters : List Expr) → AreFewer filters before defined → drop next tasks ≡ run_tasks graphs (group_of g).filters known (own_patterns g) ++ rest
+      → AreRunsSent endpoints graphs block (run_stations (group_of g).filters known (own_patterns g)) (run_seeds defined (own_patterns g)) wanted)
+      → OperatorDue endpoints block tasks next (Optional g) before graphs wanted
+  due_run endpoints block tasks next graphs before wanted f = λ served number.
       let m = group_in served g in
       let one : m.is_simple ≡ true = same_simple served g ∙ simple in
-      due_by endpoints block parts next graphs before wanted served number (Optional g) _ (part_optional served g)
+      due_by endpoints block tasks next graphs before wanted served number (Optional g) _ (part_optional served g)
       (λ filters known defined rest fewer next_is.
       let names : m.cut.stations number (names_before m.is_simple known) ≡ run_stations (group_of g).filters known (own_patterns g) = ap (λ (b : Bool). m.cut.stations number (names_before b known)) one ∙ run_station served number known in
       let seeds : m.cut.seeds (union graphs) number (rows_before m.is_simple defined) ≡ run_seeds defined (own_patterns g) =
       ap (λ (b : Bool). m.cut.seeds (union graphs) number (rows_before b defined)) one ∙ run_seed served number (union graphs) defined in
-      let k = f known defined rest filters fewer (next_is ∙ ap (λ (v : List Station). all_planned graphs v ++ rest) names) in
-      subst (λ (v : List Station). AreStationsSent endpoints graphs block v (m.cut.seeds (union graphs) number (rows_before m.is_simple defined)) wanted) (sym names)
-      (subst (λ (v : List (List Bindings)). AreStationsSent endpoints graphs block (run_stations (group_of g).filters known (own_patterns g)) v wanted) (sym seeds) k))
+      let k = f known defined rest filters fewer (run_is served graphs tasks next known rest (subst (λ (v : List Station). IsNext tasks next graphs served v rest) names next_is)) in
+      subst (λ (v : List Station). AreRunsSent endpoints graphs block v (m.cut.seeds (union graphs) number (rows_before m.is_simple defined)) wanted) (sym names)
+      (subst (λ (v : List (List Bindings)). AreRunsSent endpoints graphs block (run_stations (group_of g).filters known (own_patterns g)) v wanted) (sym seeds) k))
 
 -- ---- a triple pattern and a filter are no operators
 
-module _ (endpoints : List EndpointParts) (block : ℕ) (parts : List Part) (next : ℕ) (graphs : List (List Triple)) (before : List Bindings) where
-  none_of : (number : ℕ) (part : GroupPart) → keeps_run part ≡ true → (filters : List Expr) (known : List (List ℕ)) (defined : List Bindings) (rest : List Part) → AreFewer filters before defined
-      → IsNext parts next graphs (operator_stations number part known) rest
-      → AreAskedFor endpoints graphs block parts next rest (operator_stations number part known) (operator_seeds number part (union graphs) defined) [] × AreFewer filters before (operator_rows number part (union graphs) defined)
-  none_of number (pattern p) keeps filters known defined rest fewer is = (record { behind = is; sent = refl }, fewer)
-  none_of number (condition e) keeps filters known defined rest fewer is = (record { behind = is; sent = refl }, fewer)
-  none_of number (operator o) keeps filters known defined rest fewer is = absurd (cc)
+module _ (endpoints : List EndpointParts) (block : ℕ) (tasks : List Task) (next : ℕ) (graphs : List (List Triple)) (before : List Bindings) where
+  none_of : (served : Served) (number : ℕ) (part : GroupPart) → keeps_run part ≡ true → (filters : List Expr) (known : List (List ℕ)) (defined : List Bindings) (rest : List Task) → AreFewer filters before defined
+      → IsNext tasks next graphs served (operator_stations number part known) rest
+      → AreAskedFor endpoints graphs block tasks next rest (operator_stations number part known) (operator_seeds number part (union graphs) defined) [] × AreFewer filters before (operator_rows number part (union graphs) defined)
+  none_of served number (pattern p) keeps filters known defined rest fewer is = (record { behind = is.next_is; sent = refl }, fewer)
+  none_of served number (condition e) keeps filters known defined rest fewer is = (record { behind = is.next_is; sent = refl }, fewer)
+  none_of served number (operator o) keeps filters known defined rest fewer is = absurd (cc)
 
-  pub of_kept : (e : Element) → keeps_run (part_of e) ≡ true → OperatorGiven endpoints block parts next next e before graphs [] before
-  of_kept e keeps = λ served number. none_of number (element_in served e) (same_keeps served e ∙ keeps)
+  pub of_kept : (e : Element) → keeps_run (part_of e) ≡ true → OperatorGiven endpoints block tasks next next e before graphs [] before
+  of_kept e keeps = λ served number. none_of served number (element_in served e) (same_keeps served e ∙ keeps)
 
 -- what isn't a pattern nor a filter is an operator
 pub is_operator : (part : GroupPart) → keeps_run part ≡ false → (o : Operator) × (part ≡ operator o)

@@ -8,17 +8,17 @@ use Rattle.fx_algebra.specs.Operators.{filtered}
 use Rattle.fx_algebra.specs.Solutions.{Bindings}
 use Rattle.fx_algebra.specs.declared.expressions.Expr.{Expr}
 use Rattle.fx_algebra.specs.declared.queries.Group.{Group}
-use Rattle.fx_plan.specs.declared.parts.Part.{Part}
 use Rattle.fx_steps.proofs.FewerLemmas.{fewer_laws}
 use Rattle.fx_traffic.specs.Sent.{Sent}
 use Rattle.fx_engine.specs.GroupsAsked.{GroupGiven, UnfilteredGiven, group_in}
 use Rattle.fx_engine.specs.SectionSteps.{group_of}
+use Rattle.fx_engine.specs.declared.tasks.Task.{Task}
 use Rattle.fx_engine.proofs.ServedLemmas.{same_filters}
 
 -- where they are applied, the rows are the group's
-pub group_filtered : (endpoints : List EndpointParts) (block : ℕ) (parts : List Part) (next later : ℕ) (g : Group) (graphs : List (List Triple)) (wanted : List Sent) (found rows : List Bindings)
-    → UnfilteredGiven endpoints block parts next later g graphs wanted found → rows ≡ filtered (group_of g).filters found → GroupGiven endpoints block parts next later g graphs wanted rows
-group_filtered endpoints block parts next later g graphs wanted found rows h e = λ served number rest is.
+pub group_filtered : (endpoints : List EndpointParts) (block : ℕ) (tasks : List Task) (next later : ℕ) (g : Group) (graphs : List (List Triple)) (wanted : List Sent) (found rows : List Bindings)
+    → UnfilteredGiven endpoints block tasks next later g graphs wanted found → rows ≡ filtered (group_of g).filters found → GroupGiven endpoints block tasks next later g graphs wanted rows
+group_filtered endpoints block tasks next later g graphs wanted found rows h e = λ served number rest is.
     let m = group_in served g in
     let k = h served number rest is in (
       k.0,

@@ -4,6 +4,7 @@ pub mod SectionLemmas
 pub mod PartLemmas
 pub mod PlanLemmas
 pub mod UnitLemmas
+pub mod TaskLemmas
 pub mod AskedLemmas
 pub mod ServedLemmas
 pub mod WithinLemmas
@@ -17,6 +18,15 @@ pub mod RegisteredLemmas
 pub mod RunLemmas
 pub mod EvenLemmas
 pub mod StationLemmas
+pub mod OccurrenceLemmas
+pub mod CallLemmas
+pub mod InvocationLemmas
+pub mod DownLemmas
+pub mod HandLemmas
+pub mod KnownLemmas
+pub mod OutcomeLemmas
+pub mod RefusalLemmas
+pub mod RunsSentLemmas
 pub mod PlaceLemmas
 pub mod ElementLemmas
 pub mod RunAskedLemmas
@@ -37,3 +47,4 @@ pub mod AskableLemmas
 pub mod ChoiceLemmas
 pub mod BatchCauseLemmas
 pub mod MediationLemmas
+pub mod FederationLemmas

@@ -22,13 +22,13 @@ rise_both first between last (d ∷ ds) more h k = (h.0, rise_both (suc d.place)
 
 -- ---- which numbers are noted
 
-apart_below : (n k : ℕ) → k < n → (n == k) ≡ false
+pub apart_below : (n k : ℕ) → k < n → (n == k) ≡ false
 apart_below n k low = grind arith
 
 apart_above : (n k : ℕ) → n < k → (n == k) ≡ false
 apart_above n k high = grind arith
 
-none_below : (first last k : ℕ) (ds : List Down) → RiseWithin first last ds → k < first → is_down (places ds) k ≡ false
+pub none_below : (first last k : ℕ) (ds : List Down) → RiseWithin first last ds → k < first → is_down (places ds) k ≡ false
 none_below first last k [] h low = refl
 none_below first last k (d ∷ ds) h low =
     let here : k < d.place = omega (arith, low, h.0) in
@@ -48,7 +48,7 @@ or_false : (a : Bool) → (a || false) ≡ a
 or_false true = refl
 or_false false = refl
 
-down_both : (ds more : List Down) (k : ℕ) → is_down (places (ds ++ more)) k ≡ (is_down (places ds) k || is_down (places more) k)
+pub down_both : (ds more : List Down) (k : ℕ) → is_down (places (ds ++ more)) k ≡ (is_down (places ds) k || is_down (places more) k)
 down_both [] more k = refl
 down_both (d ∷ ds) more k = ap (λ (b : Bool). (d.place == k) || b) (down_both ds more k) ∙ sym (or_assoc (d.place == k) (is_down (places ds) k) (is_down (places more) k))
 
@@ -76,7 +76,7 @@ module _ (down : List ℕ) (first between last : ℕ) (ds more : List Down) (h :
 pub one_up : (down : List ℕ) (number : ℕ) → AgreesOn down number (suc number) [] → is_down down number ≡ false
 one_up down number h = h number (omega arith) (omega arith)
 
-the_same : (n : ℕ) → (n == n) ≡ true
+pub the_same : (n : ℕ) → (n == n) ≡ true
 the_same n = grind arith
 
 -- it is noted

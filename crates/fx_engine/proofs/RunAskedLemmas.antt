@@ -1,5 +1,5 @@
--- What a run sends and gives by its part of the plan.
-use Rattle.std.proofs.Common.{if◌then◌else◌, ◌≡◌, ◌∙◌, ap, sym, subst, refl, ℕ, suc, ◌+◌, ◌<◌, ◌≤◌, Bool, true, false, List, [], ◌∷◌, ◌++◌, map, drop, length, get_or, IfErr, IfOk, Result, Ok, Err, All, Contains, IsPermutation, arith, drop-cons, drop_of_length-le}
+-- What a run sends and gives by its task.
+use Rattle.std.proofs.Common.{if◌then◌else◌, ◌≡◌, ◌∙◌, ap, sym, subst, refl, ℕ, suc, ◌+◌, ◌<◌, ◌≤◌, Bool, true, false, List, [], ◌∷◌, ◌++◌, map, drop, length, get_or, Ok, Err, All, Contains, IsPermutation, arith, drop-cons, drop_of_length-le}
 use Rattle.std.specs.List.{list_any}
 use Rattle.fx_terms.proofs.SetLemmas.{among_from, contains_from}
 use Rattle.fx_terms.specs.declared.triples.Triple.{Triple}
@@ -15,89 +15,103 @@ use Rattle.fx_algebra.specs.declared.expressions.Expr.{Expr}
 use Rattle.fx_algebra.specs.declared.units.Row.{Row}
 use Rattle.fx_algebra.specs.declared.units.Unit as unit
 use Rattle.fx_plan.specs.Plans.{plan}
-use Rattle.fx_plan.specs.declared.parts.Part.{Part}
 use Rattle.fx_plan.specs.declared.parts.Part.TheVariants as part
 use Rattle.fx_spelling.specs.Units.{IsFit, IsSound}
 use Rattle.fx_steps.specs.Steps.{numbered, stepped}
 use Rattle.fx_traffic.specs.Batches.{IsRunSent}
-use Rattle.fx_traffic.specs.Gains.{TellAll}
 use Rattle.fx_traffic.specs.Sent.{Sent}
-use Rattle.fx_traffic.specs.Traffic.{IsStationSent, SentUnless}
+use Rattle.fx_traffic.specs.Traffic.{SentUnless}
 use Rattle.fx_traffic.proofs.FewerLemmas.{fewer_laws}
 use Rattle.fx_traffic.proofs.TextLemmas.{texts_of_more}
 use Rattle.fx_wire.specs.Exchanges.{Exchange, Seen}
-use Rattle.fx_pool.specs.Flows.{IsBatchRead}
 use Rattle.fx_pool.specs.RunFlows.{HasFlowCause, IsFlowCause, RunFlowed}
 use Rattle.fx_pool.specs.declared.flows.FlowError.{FlowError}
 use Rattle.fx_pool.specs.declared.flows.FlowError.TheVariants as flow
 use Rattle.fx_pool.proofs.UnitsLemmas.{read_of_more}
-use Rattle.fx_engine.specs.Asked.{Asked, Knows}
-use Rattle.fx_engine.specs.GroupsAsked.{ComesOf, IsRunFound, RunDue, RunGiven, part_units, planned, units_in}
+use Rattle.fx_engine.specs.Asked.{Asked}
+use Rattle.fx_engine.specs.GroupsAsked.{ComesOf, IsRunFound, RunDue, RunGiven, run_task, task_units, units_in}
 use Rattle.fx_engine.specs.Laws.{HasFitUnits, HasSoundUnits}
+use Rattle.fx_engine.specs.RunsSent.{IsSentForRun}
+use Rattle.fx_engine.specs.Sections.{part_with}
 use Rattle.fx_engine.specs.declared.sections.Section.TheVariants.{Run}
+use Rattle.fx_engine.specs.declared.tasks.RowsError.TheVariants as rows_error
+use Rattle.fx_engine.specs.declared.tasks.Task.{Task}
+use Rattle.fx_engine.specs.declared.tasks.Task.TheVariants as task
 use Rattle.fx_engine.proofs.AskedLemmas.{given_unasked}
 use Rattle.fx_engine.proofs.StationLemmas.{sent_alone}
 use Rattle.fx_engine.proofs.UnitLemmas.{sound_part}
 
--- ---- what a run with a part is
+-- ---- what a run with a task is
 
--- the part of a run: none of its patterns lacks a source, and its units are those of its plan
+-- the task of a run: none of its patterns lacks a source, and its units are those of its plan
 record IsPlanOf (graphs : List (List Triple)) (ps : List Pattern) (filters : List Expr) (known : List (List ℕ)) (units : List unit.Unit) : Type 0 where
   full : list_any is_empty_list (map (sources graphs) ps) ≡ false
   units_are : units ≡ plan ps (map (sources graphs) ps) filters known
 
-is_plan : (graphs : List (List Triple)) (ps : List Pattern) (filters : List Expr) (known bound : List (List ℕ)) (units : List unit.Unit) → planned graphs (station.run ps filters known) ≡ part.Run units bound → IsPlanOf graphs ps filters known units
-is_plan graphs ps filters known bound units h = by (list_any is_empty_list (map (sources graphs) ps)) refl
-  where
-    by : (b : Bool) → list_any is_empty_list (map (sources graphs) ps) ≡ b → IsPlanOf graphs ps filters known units
-    by true e = let lacks : part.EmptyRun ≡ part.Run units bound = sym (ap (λ (v : Bool). if v then part.EmptyRun else part.Run (plan ps (map (sources graphs) ps) filters known) known) e) ∙ h in absurd (cc)
-    by false e =
-        let same : part.Run (plan ps (map (sources graphs) ps) filters known) known ≡ part.Run units bound =
-        sym (ap (λ (v : Bool). if v then part.EmptyRun else part.Run (plan ps (map (sources graphs) ps) filters known) known) e) ∙ h in
-        record { full = e; units_are = cc }
+module _ (graphs : List (List Triple)) (ps : List Pattern) (filters : List Expr) (known : List (List ℕ)) where
+  abbrev its_plan : List unit.Unit
+  its_plan = plan ps (map (sources graphs) ps) filters known
 
-lacks_one : (graphs : List (List Triple)) (ps : List Pattern) (filters : List Expr) (known : List (List ℕ)) → planned graphs (station.run ps filters known) ≡ part.EmptyRun → list_any is_empty_list (map (sources graphs) ps) ≡ true
-lacks_one graphs ps filters known h = by (list_any is_empty_list (map (sources graphs) ps)) refl
-  where
-    by : (b : Bool) → list_any is_empty_list (map (sources graphs) ps) ≡ b → list_any is_empty_list (map (sources graphs) ps) ≡ true
-    by true e = e
-    by false e =
-        let same : part.Run (plan ps (map (sources graphs) ps) filters known) known ≡ part.EmptyRun =
-        sym (ap (λ (v : Bool). if v then part.EmptyRun else part.Run (plan ps (map (sources graphs) ps) filters known) known) e) ∙ h in
-        absurd (cc)
+  abbrev by_lack : Bool → Task
+  by_lack b = if b then task.EmptyRun else task.Run its_plan
 
-no_service : (graphs : List (List Triple)) (ps : List Pattern) (filters : List Expr) (known : List (List ℕ)) (iri : List ℕ) → planned graphs (station.run ps filters known) ≡ part.Service iri → ⊥
-no_service graphs ps filters known iri h = by (list_any is_empty_list (map (sources graphs) ps)) h
-  where
-    by : (b : Bool) → (if b then part.EmptyRun else part.Run (plan ps (map (sources graphs) ps) filters known) known) ≡ part.Service iri → ⊥
-    by true e = cc
-    by false e = cc
+  is_plan : (units : List unit.Unit) → run_task graphs ps filters known ≡ task.Run units → IsPlanOf graphs ps filters known units
+  is_plan units h = by (list_any is_empty_list (map (sources graphs) ps)) refl
+    where
+      by : (b : Bool) → list_any is_empty_list (map (sources graphs) ps) ≡ b → IsPlanOf graphs ps filters known units
+      by true e = let lacks : task.EmptyRun ≡ task.Run units = sym (ap by_lack e) ∙ h in absurd (cc)
+      by false e = let same : task.Run its_plan ≡ task.Run units = sym (ap by_lack e) ∙ h in record { full = e; units_are = cc }
 
--- the next part of a plan
-pub next_part : (parts : List Part) (next : ℕ) (it : Part) → next < length parts → it ≡ get_or parts next it → drop next parts ≡ it ∷ drop (next + 1) parts
-next_part parts next it below is =
+  -- as a part of a plan
+  part_is : (units : List unit.Unit) → IsPlanOf graphs ps filters known units → part_with (sources graphs) (Run ps filters known) ≡ part.Run units known
+  part_is units k = ap (λ (b : Bool). if b then part.EmptyRun else part.Run its_plan known) k.full ∙ ap (λ (us : List unit.Unit). part.Run us known) (sym k.units_are)
+
+  lacks_one : run_task graphs ps filters known ≡ task.EmptyRun → list_any is_empty_list (map (sources graphs) ps) ≡ true
+  lacks_one h = by (list_any is_empty_list (map (sources graphs) ps)) refl
+    where
+      by : (b : Bool) → list_any is_empty_list (map (sources graphs) ps) ≡ b → list_any is_empty_list (map (sources graphs) ps) ≡ true
+      by true e = e
+      by false e = let same : task.Run its_plan ≡ task.EmptyRun = sym (ap by_lack e) ∙ h in absurd (cc)
+
+  no_service : (rows : List Bindings) → run_task graphs ps filters known ≡ task.Service rows → ⊥
+  no_service rows h = by (list_any is_empty_list (map (sources graphs) ps)) h
+    where
+      by : (b : Bool) → by_lack b ≡ task.Service rows → ⊥
+      by true e = cc
+      by false e = cc
+
+  none_refused : run_task graphs ps filters known ≡ task.Refused → ⊥
+  none_refused h = by (list_any is_empty_list (map (sources graphs) ps)) h
+    where
+      by : (b : Bool) → by_lack b ≡ task.Refused → ⊥
+      by true e = cc
+      by false e = cc
+
+-- the next of tasks
+pub next_task : (tasks : List Task) (next : ℕ) (it : Task) → next < length tasks → it ≡ get_or tasks next it → drop next tasks ≡ it ∷ drop (next + 1) tasks
+next_task tasks next it below is =
     let one : suc next ≡ next + 1 = omega arith in
-    drop-cons parts next it below ∙ ap (λ (v : Part). v ∷ drop (suc next) parts) (sym is) ∙ ap (λ (n : ℕ). it ∷ drop n parts) one
+    drop-cons tasks next it below ∙ ap (λ (v : Task). v ∷ drop (suc next) tasks) (sym is) ∙ ap (λ (n : ℕ). it ∷ drop n tasks) one
 
-first_is : {X : Type 0} (x y : X) (xs ys : List X) → x ∷ xs ≡ y ∷ ys → (x ≡ y) × (xs ≡ ys)
+pub first_is : {X : Type 0} (x y : X) (xs ys : List X) → x ∷ xs ≡ y ∷ ys → (x ≡ y) × (xs ≡ ys)
 first_is x y xs ys h = (cc, cc)
 
--- ---- the run of a part
+-- ---- the run of a task
 
-module _ (tells alone : Bool) (before after : List Seen) (endpoints : List EndpointParts) (block : ℕ) (parts : List Part) (next : ℕ) (rows : List Bindings) where
-  -- there is no part: what is claimed is of no run
-  pub no_part : length parts ≤ next → Asked {X = List Row} tells alone before before endpoints (units_in parts) block (RunGiven endpoints block parts next next rows) (RunDue endpoints block parts next rows) (Ok [])
-  no_part over =
-      given_unasked tells alone endpoints (units_in parts) block (RunGiven endpoints block parts next next rows) (RunDue endpoints block parts next rows) before []
+module _ (tells alone : Bool) (before after : List Seen) (endpoints : List EndpointParts) (block : ℕ) (tasks : List Task) (next : ℕ) (rows : List Bindings) where
+  -- there is no task: what is claimed is of no run
+  pub no_task : length tasks ≤ next → Asked {X = List Row} tells alone before before endpoints tasks block (RunGiven endpoints block tasks next next rows) (RunDue endpoints block tasks next rows) (Ok [])
+  no_task over =
+      given_unasked tells alone endpoints tasks block (RunGiven endpoints block tasks next next rows) (RunDue endpoints block tasks next rows) before []
       (λ graphs ps filters known gone defined rest moved next_is.
-      let none : [] ≡ planned graphs (station.run ps filters known) ∷ rest = sym (drop_of_length-le parts over) ∙ next_is in
+      let none : [] ≡ run_task graphs ps filters known ∷ rest = sym (drop_of_length-le tasks over) ∙ next_is in
       absurd (cc))
 
-  module _ (it : Part) (next_is : drop next parts ≡ it ∷ drop (next + 1) parts) where
+  module _ (it : Task) (next_is : drop next tasks ≡ it ∷ drop (next + 1) tasks) where
     -- a pattern lacks a source
-    pub no_run : it ≡ part.EmptyRun → Asked {X = List Row} tells alone before before endpoints (units_in parts) block (RunGiven endpoints block parts next (next + 1) rows) (RunDue endpoints block parts next rows) (Ok [])
+    pub no_run : it ≡ task.EmptyRun → Asked {X = List Row} tells alone before before endpoints tasks block (RunGiven endpoints block tasks next (next + 1) rows) (RunDue endpoints block tasks next rows) (Ok [])
     no_run empty =
-        given_unasked tells alone endpoints (units_in parts) block (RunGiven endpoints block parts next (next + 1) rows) (RunDue endpoints block parts next rows) before []
+        given_unasked tells alone endpoints tasks block (RunGiven endpoints block tasks next (next + 1) rows) (RunDue endpoints block tasks next rows) before []
         (λ graphs ps filters known gone defined rest moved is.
         let here = first_is _ _ _ _ (sym is ∙ next_is) in
         let lacks = lacks_one graphs ps filters known (here.0 ∙ empty) in (
@@ -113,22 +127,28 @@ module _ (tells alone : Bool) (before after : List Seen) (endpoints : List Endpo
         unless graphs ps filters known defined true e = refl
         unless graphs ps filters known defined false e = absurd (cc)
 
-    pub not_a_run : (iri : List ℕ) → it ≡ part.Service iri → Asked {X = List Row} tells alone before before endpoints (units_in parts) block (RunGiven endpoints block parts next (next + 1) rows) (RunDue endpoints block parts next rows) (Ok [])
-    not_a_run iri service =
-        given_unasked tells alone endpoints (units_in parts) block (RunGiven endpoints block parts next (next + 1) rows) (RunDue endpoints block parts next rows) before []
-        (λ graphs ps filters known gone defined rest moved is.
-        let here = first_is _ _ _ _ (sym is ∙ next_is) in
-        absurd (no_service graphs ps filters known iri (here.0 ∙ service)))
+    -- it is no run
+    unrun : ((graphs : List (List Triple)) (ps : List Pattern) (filters : List Expr) (known : List (List ℕ)) → run_task graphs ps filters known ≡ it → ⊥)
+        → Asked {X = List Row} tells alone before before endpoints tasks block (RunGiven endpoints block tasks next (next + 1) rows) (RunDue endpoints block tasks next rows) (Ok [])
+    unrun none =
+        given_unasked tells alone endpoints tasks block (RunGiven endpoints block tasks next (next + 1) rows) (RunDue endpoints block tasks next rows) before []
+        (λ graphs ps filters known gone defined rest moved is. let here = first_is _ _ _ _ (sym is ∙ next_is) in absurd (none graphs ps filters known here.0))
 
-    module _ (units : List unit.Unit) (bound : List (List ℕ)) (is_run : it ≡ part.Run units bound) (fit : All IsFit units) (its : Contains parts it) where
-      sound : (graphs : List (List Triple)) (ps : List Pattern) (filters : List Expr) (known : List (List ℕ)) → planned graphs (station.run ps filters known) ≡ it → All (IsSound graphs) units
+    pub service_unrun : (found : List Bindings) → it ≡ task.Service found → Asked {X = List Row} tells alone before before endpoints tasks block (RunGiven endpoints block tasks next (next + 1) rows) (RunDue endpoints block tasks next rows) (Ok [])
+    service_unrun found service = unrun (λ graphs ps filters known is. no_service graphs ps filters known found (is ∙ service))
+
+    pub refused_unrun : it ≡ task.Refused → Asked {X = List Row} tells alone before before endpoints tasks block (RunGiven endpoints block tasks next (next + 1) rows) (RunDue endpoints block tasks next rows) (Ok [])
+    refused_unrun refused = unrun (λ graphs ps filters known is. none_refused graphs ps filters known (is ∙ refused))
+
+    module _ (units : List unit.Unit) (is_run : it ≡ task.Run units) (fit : All IsFit units) (its : Contains tasks it) where
+      sound : (graphs : List (List Triple)) (ps : List Pattern) (filters : List Expr) (known : List (List ℕ)) → run_task graphs ps filters known ≡ it → All (IsSound graphs) units
       sound graphs ps filters known is =
-          let whole = is ∙ is_run in
+          let whole = part_is graphs ps filters known units (is_plan graphs ps filters known units (is ∙ is_run)) in
           subst (HasSoundUnits graphs) whole (sound_part graphs (Run ps filters known) (subst HasFitUnits (sym whole) fit))
 
-      sent_so : (graphs : List (List Triple)) (ps : List Pattern) (filters : List Expr) (known : List (List ℕ)) (gone defined : List Bindings) (wanted : List Sent) → IsPermutation (rows ++ gone) defined → planned graphs (station.run ps filters known) ≡ it
-          → IsRunSent endpoints (union graphs) block 1 units (numbered 0 rows) wanted → IsStationSent endpoints graphs block (station.run ps filters known) defined wanted
-      sent_so graphs ps filters known gone defined wanted moved is h = by (list_any is_empty_list (map (sources graphs) ps)) (is_plan graphs ps filters known bound units (is ∙ is_run)).full
+      sent_so : (graphs : List (List Triple)) (ps : List Pattern) (filters : List Expr) (known : List (List ℕ)) (gone defined : List Bindings) (wanted : List Sent) → IsPermutation (rows ++ gone) defined → run_task graphs ps filters known ≡ it
+          → IsRunSent endpoints (union graphs) block 1 units (numbered 0 rows) wanted → IsSentForRun endpoints graphs block (station.run ps filters known) defined wanted
+      sent_so graphs ps filters known gone defined wanted moved is h = by (list_any is_empty_list (map (sources graphs) ps)) (is_plan graphs ps filters known units (is ∙ is_run)).full
         where
           us : List unit.Unit
           us = plan ps (map (sources graphs) ps) filters known
@@ -136,20 +156,20 @@ module _ (tells alone : Bool) (before after : List Seen) (endpoints : List Endpo
           by : (b : Bool) → b ≡ false → SentUnless b wanted (IsRunSent endpoints (union graphs) block 1 us (numbered 0 defined) wanted)
           by true e = absurd (cc)
           by false e =
-              subst (λ (v : List unit.Unit). IsRunSent endpoints (union graphs) block 1 v (numbered 0 defined) wanted) (is_plan graphs ps filters known bound units (is ∙ is_run)).units_are
+              subst (λ (v : List unit.Unit). IsRunSent endpoints (union graphs) block 1 v (numbered 0 defined) wanted) (is_plan graphs ps filters known units (is ∙ is_run)).units_are
               (fewer_laws.run endpoints (union graphs) block units rows gone defined wanted moved h)
 
-      found_so : (graphs : List (List Triple)) (ps : List Pattern) (filters : List Expr) (known : List (List ℕ)) (found : List Row) → planned graphs (station.run ps filters known) ≡ it → IsPermutation found (stepped (union graphs) units (numbered 0 rows))
+      found_so : (graphs : List (List Triple)) (ps : List Pattern) (filters : List Expr) (known : List (List ℕ)) (found : List Row) → run_task graphs ps filters known ≡ it → IsPermutation found (stepped (union graphs) units (numbered 0 rows))
           → IsRunFound graphs ps filters known rows found
       found_so graphs ps filters known found is h =
-          let whole = is_plan graphs ps filters known bound units (is ∙ is_run) in
+          let whole = is_plan graphs ps filters known units (is ∙ is_run) in
           subst (λ (b : Bool). ComesOf b (union graphs) (plan ps (map (sources graphs) ps) filters known) rows found) (sym whole.full)
           (subst (λ (v : List unit.Unit). IsPermutation found (stepped (union graphs) v (numbered 0 rows))) whole.units_are h)
 
-      of_plan : (u : unit.Unit) → Contains units u → Contains (units_in parts) u
-      of_plan u m = contains_from (units_in parts) u (among_flat_map part_units it u parts (among_from parts it its) (among_from (part_units it) u (subst (λ (p : Part). Contains (part_units p) u) (sym is_run) m)))
+      of_plan : (u : unit.Unit) → Contains units u → Contains (units_in tasks) u
+      of_plan u m = contains_from (units_in tasks) u (among_flat_map task_units it u tasks (among_from tasks it its) (among_from (task_units it) u (subst (λ (t : Task). Contains (task_units t) u) (sym is_run) m)))
 
-      its_cause : (wanted : List Sent) (xs : List Exchange) (why : FlowError) → IsFlowCause before after endpoints units block wanted xs why → IsFlowCause before after endpoints (units_in parts) block wanted xs why
+      its_cause : (wanted : List Sent) (xs : List Exchange) (why : FlowError) → IsFlowCause before after endpoints units block wanted xs why → IsFlowCause before after endpoints (units_in tasks) block wanted xs why
       its_cause wanted xs why k = record {
         unit = k.unit;
         of_run = of_plan k.unit k.of_run;
@@ -164,16 +184,21 @@ module _ (tells alone : Bool) (before after : List Seen) (endpoints : List Endpo
         cause = k.cause;
       }
 
-      has_cause : (wanted : List Sent) (xs : List Exchange) (why : FlowError) → HasFlowCause before after endpoints units block wanted xs why → HasFlowCause before after endpoints (units_in parts) block wanted xs why
+      has_cause : (wanted : List Sent) (xs : List Exchange) (why : FlowError) → HasFlowCause before after endpoints units block wanted xs why → HasFlowCause before after endpoints (units_in tasks) block wanted xs why
       has_cause wanted xs (flow.Member at) k = its_cause wanted xs (flow.Member at) k
       has_cause wanted xs (flow.BadReply at bad) k = its_cause wanted xs (flow.BadReply at bad) k
       has_cause wanted xs (flow.RequestTooLong at size) k = its_cause wanted xs (flow.RequestTooLong at size) k
       has_cause wanted xs flow.Memory k = tt
 
+      abbrev Given : List (List Triple) → List Sent → List Row → Type 0
+      Given = RunGiven endpoints block tasks next (next + 1) rows
+
+      abbrev Due : List (List Triple) → List Sent → Type 0
+      Due = RunDue endpoints block tasks next rows
+
       -- its units were asked for
-      pub run_asked : (r : Result (List Row) FlowError) → RunFlowed tells alone before after endpoints units block (numbered 0 rows) r
-          → Asked tells alone before after endpoints (units_in parts) block (RunGiven endpoints block parts next (next + 1) rows) (RunDue endpoints block parts next rows) r
-      run_asked r h = record {
+      pub run_asked : (found : List Row) → RunFlowed tells alone before after endpoints units block (numbered 0 rows) (Ok found) → Asked tells alone before after endpoints tasks block Given Due (Ok found)
+      run_asked found h = record {
         exchanges = h.exchanges;
         failed = h.failed;
         once = h.once;
@@ -182,32 +207,35 @@ module _ (tells alone : Bool) (before after : List Seen) (endpoints : List Endpo
         wanted = h.wanted;
         left = h.left;
         sent = h.sent;
-        of_batches = texts_of_more endpoints block (Contains units) (Contains (units_in parts)) of_plan h.wanted h.of_batches;
-        faultless = faultless r h.faultless;
-        known = λ graphs told. known r h.done graphs told;
-        cause = cause r h.cause;
+        of_batches = texts_of_more endpoints block (Contains units) (Contains (units_in tasks)) of_plan h.wanted h.of_batches;
+        faultless = read_of_more (Contains units) (Contains (units_in tasks)) of_plan h.exchanges h.faultless;
+        known = λ graphs told ps filters known gone defined rest moved is.
+            let here = first_is _ _ _ _ (sym is ∙ next_is) in
+            let all_sound = sound graphs ps filters known here.0 in (
+              record {
+                behind = sym here.1;
+                sent = sent_alone endpoints graphs block (station.run ps filters known) defined h.wanted (sent_so graphs ps filters known gone defined h.wanted moved here.0 (h.of_run graphs told all_sound));
+              },
+              found_so graphs ps filters known found here.0 (h.done graphs told all_sound),
+            );
+        cause = tt;
       }
-        where
-          faultless : (o : Result (List Row) FlowError) → IfOk o (λ _. All (IsBatchRead (Contains units)) h.exchanges) → IfOk o (λ _. All (IsBatchRead (Contains (units_in parts))) h.exchanges)
-          faultless (Ok found) k = read_of_more (Contains units) (Contains (units_in parts)) of_plan h.exchanges k
-          faultless (Err why) k = tt
 
-          cause : (o : Result (List Row) FlowError) → IfErr o (HasFlowCause before after endpoints units block h.wanted h.exchanges) → IfErr o (HasFlowCause before after endpoints (units_in parts) block h.wanted h.exchanges)
-          cause (Ok found) k = tt
-          cause (Err why) k = has_cause h.wanted h.exchanges why k
-
-          known : (o : Result (List Row) FlowError) → IfOk o (λ next_rows. (graphs : List (List Triple)) → TellAll before endpoints graphs → All (IsSound graphs) units → IsPermutation next_rows (stepped (union graphs) units (numbered 0 rows)))
-              → (graphs : List (List Triple)) → TellAll before endpoints graphs → Knows (RunGiven endpoints block parts next (next + 1) rows) (RunDue endpoints block parts next rows) graphs h.wanted o
-          known (Ok found) k graphs told = λ ps filters known_names gone defined rest moved is.
-              let here = first_is _ _ _ _ (sym is ∙ next_is) in
-              let all_sound = sound graphs ps filters known_names here.0 in (
-                record {
-                  behind = sym here.1;
-                  sent = sent_alone endpoints graphs block (station.run ps filters known_names) defined h.wanted (sent_so graphs ps filters known_names gone defined h.wanted moved here.0 (h.of_run graphs told all_sound));
-                },
-                found_so graphs ps filters known_names found here.0 (k graphs told all_sound),
-              )
-          known (Err why) k graphs told = λ ps filters known_names gone defined rest moved is.
-              let here = first_is _ _ _ _ (sym is ∙ next_is) in
-              sent_alone endpoints graphs block (station.run ps filters known_names) defined h.wanted
-              (sent_so graphs ps filters known_names gone defined h.wanted moved here.0 (h.of_run graphs told (sound graphs ps filters known_names here.0)))
+      -- or some of them were, before one was refused
+      pub run_refused : (why : FlowError) → RunFlowed tells alone before after endpoints units block (numbered 0 rows) (Err why) → Asked {X = List Row} tells alone before after endpoints tasks block Given Due (Err (rows_error.Flow why))
+      run_refused why h = record {
+        exchanges = h.exchanges;
+        failed = h.failed;
+        once = h.once;
+        unfailed = tt;
+        went = record { gained = h.gained; after_all = h.after_all; counted = h.counted };
+        wanted = h.wanted;
+        left = h.left;
+        sent = h.sent;
+        of_batches = texts_of_more endpoints block (Contains units) (Contains (units_in tasks)) of_plan h.wanted h.of_batches;
+        faultless = tt;
+        known = λ graphs told ps filters known gone defined rest moved is.
+            let here = first_is _ _ _ _ (sym is ∙ next_is) in
+            sent_alone endpoints graphs block (station.run ps filters known) defined h.wanted (sent_so graphs ps filters known gone defined h.wanted moved here.0 (h.of_run graphs told (sound graphs ps filters known here.0)));
+        cause = has_cause h.wanted h.exchanges why h.cause;
+      }

@@ -1,5 +1,5 @@
 -- The rows that an honest reply to the text of a SERVICE tells.
-use Rattle.std.proofs.Common.{◌≡◌, ◌∙◌, ap, sym, subst, refl, ℕ, ◌<◌, ◌≤◌, Bool, true, false, ◌||◌, not, cond, get_or, List, [], ◌∷◌, map, length, Some, Ok, Err, is_some, Contains, IsPermutation, arith}
+use Rattle.std.proofs.Common.{◌≡◌, ◌∙◌, ap, sym, subst, refl, ℕ, ◌<◌, ◌≤◌, Bool, true, false, ◌||◌, not, cond, get_or, List, [], ◌∷◌, map, length, None, Some, Ok, Err, is_some, Contains, IsPermutation, arith}
 use Rattle.std.specs.Prelude.{position}
 use Rattle.std.specs.List.{AllByRecursion, list_any}
 use Rattle.std.specs.declared.cmp.Ordering.{Ordering}
@@ -107,7 +107,7 @@ ordered_moves columns rows h =
 -- ---- the rows of a group
 
 abbrev alone : Served
-alone = record { graphs = no_graphs; down = [] }
+alone = record { graphs = no_graphs; down = []; rows = λ number. None }
 
 wider : (names others : List (List ℕ)) → ((name : List ℕ) → is_among names name ≡ is_among others name) → (rows : List Bindings) → AllBind names rows → AllBind others rows
 wider names others same [] h = tt
@@ -124,7 +124,7 @@ pub honest_table : (g : Group) → IsServable g → (graph : List Triple) (reque
 honest_table g ok graph request bytes rows honest posts short told = λ graphs down number.
     let own = group_rows (group_in alone g) graph 0 in
     let same = honest_results graph request bytes (service_text g) (service_query g) (Table told.named rows) honest posts short ok.accepted ok.alone told.results in
-    let free = rows_free alone (record { graphs = graphs; down = down }) g ok.alone graph 0 number in
+    let free = rows_free alone (record { graphs = graphs; down = down; rows = λ number. None }) g ok.alone graph 0 number in
     subst (λ (v : List Bindings). IsPermutation rows v) free
     (IsPermutation-trans rows (in_order [] (scope g) own) own same.1 (ordered_moves (scope g) own (scope_binds g graph)))
 

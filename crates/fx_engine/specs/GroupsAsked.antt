@@ -1,5 +1,5 @@
--- The rows of groups, asked for over wires by the plan of their query.
-use Rattle.std.specs.Prelude.{◌≡◌, ◌<◌, ◌+◌, ℕ, Bool, true, false, List, [], ◌∷◌, ◌++◌, map, drop, length, All, IsPermutation, Result, Ok, Err}
+-- The rows of groups, asked for over wires by the tasks of their query.
+use Rattle.std.specs.Prelude.{if◌then◌else◌, ◌≡◌, ◌<◌, ◌+◌, ℕ, Bool, true, false, List, [], ◌∷◌, ◌++◌, map, drop, length, All, Contains, IfSome, IsPermutation, Option, None, Some, Result, Ok, Err}
 use Rattle.std.specs.List.{flat_map, list_any}
 use Rattle.std.specs.declared.vec.Vec.{Vec}
 use Rattle.std.specs.declared.alloc.Global.{Global}
@@ -9,7 +9,7 @@ use Rattle.fx_outside.specs.Endpoints.{EndpointParts}
 use Rattle.fx_algebra.specs.Answers.{is_empty_list}
 use Rattle.fx_algebra.specs.BasicGraphPatterns.{bgp}
 use Rattle.fx_algebra.specs.Graphs.{union}
-use Rattle.fx_algebra.specs.Groups.{Meaning, Part as GroupPart, pattern, condition, operator, Step, with_pattern, with_part, stations_of, seeds_of, after, group_rows, alternatives, alternative_seeds, alternative_stations, one_empty, element_meaning, group_meaning, meaning}
+use Rattle.fx_algebra.specs.Groups.{Meaning, Part as GroupPart, pattern, condition, operator, Step, with_pattern, with_part, stations_of, seeds_of, after, group_rows, alternatives, alternative_seeds, alternative_stations, one_empty, element_meaning, group_meaning, meaning, service_rows}
 use Rattle.fx_algebra.specs.Operators.{join}
 use Rattle.fx_algebra.specs.Scopes.{once}
 use Rattle.fx_algebra.specs.Solutions.{Bindings}
@@ -22,34 +22,67 @@ use Rattle.fx_algebra.specs.declared.queries.Group.{Group}
 use Rattle.fx_algebra.specs.declared.units.Row.{Row}
 use Rattle.fx_algebra.specs.declared.units.Unit as unit
 use Rattle.fx_plan.specs.Plans.{plan}
-use Rattle.fx_plan.specs.declared.parts.Part.{Part}
-use Rattle.fx_plan.specs.declared.parts.Part.TheVariants.{Run, EmptyRun, Service}
-use Rattle.fx_pool.specs.declared.flows.FlowError.{FlowError}
+use Rattle.fx_pool.specs.declared.flows.FlowError.TheVariants as flow
 use Rattle.fx_spelling.specs.Units.{IsFit}
 use Rattle.fx_steps.specs.Fewer.{AreFewer}
 use Rattle.fx_steps.specs.Steps.{numbered, stepped}
 use Rattle.fx_traffic.specs.Sent.{Sent}
-use Rattle.fx_traffic.specs.Traffic.{AreStationsSent}
+use Rattle.fx_engine.specs.RunsSent.{AreRunsSent}
 use Rattle.fx_engine.specs.SectionSteps.{part_of, part_patterns}
-use Rattle.fx_engine.specs.Sections.{part_with, section_of}
+use Rattle.fx_engine.specs.declared.tasks.RowsError.{RowsError}
+use Rattle.fx_engine.specs.declared.tasks.RowsError.TheVariants as rows_error
+use Rattle.fx_engine.specs.declared.tasks.Task.{Task}
+use Rattle.fx_engine.specs.declared.tasks.Task.TheVariants as task
 
--- ---- the plan
+-- ---- how SERVICE is served
 
--- the part of a plan that a station is, by the sources that its patterns have in graphs
-abbrev pub planned : List (List Triple) → Station → Part
-planned graphs s = part_with (sources graphs) (section_of s)
+-- The graph that each IRI has for SERVICE, the numbers of the occurrences that are down, and the rows at hand of the occurrence of a number: none where
+-- it was refused, or stands behind one that was.
+pub record Served : Type 0 where
+  pub graphs : List ℕ → List Triple
+  pub down : List ℕ
+  pub rows : ℕ → Option (List Bindings)
 
-abbrev pub all_planned : List (List Triple) → List Station → List Part
-all_planned graphs stations = map (planned graphs) stations
+-- what a group and an element are to the group around them, where SERVICE is served so
+abbrev pub group_in : Served → Group → Meaning
+group_in served = meaning served.graphs served.down
 
-abbrev pub part_units : Part → List unit.Unit
-part_units (Run units bound) = units
-part_units EmptyRun = []
-part_units (Service iri) = []
+abbrev pub element_in : Served → Element → GroupPart
+element_in served = fold-Element GroupPart Meaning (element_meaning served.graphs served.down) group_meaning
 
--- the units of a plan
-abbrev pub units_in : List Part → List unit.Unit
-units_in parts = flat_map part_units parts
+-- the rows at hand of an occurrence of SERVICE are its rows, in some order
+abbrev pub HasRows : Served → Station → Type 0
+HasRows served (station.run ps filters before) = Unit {0}
+HasRows served (station.service number silent iri g) = IfSome (served.rows number) (λ rows. IsPermutation rows (service_rows served.graphs served.down iri (group_in served g) number))
+
+-- ---- the tasks
+
+-- the task of a run, by the sources that its patterns have in graphs
+abbrev pub run_task : List (List Triple) → List Pattern → List Expr → List (List ℕ) → Task
+run_task graphs ps filters before = if list_any is_empty_list (map (sources graphs) ps) then task.EmptyRun else task.Run (plan ps (map (sources graphs) ps) filters before)
+
+-- the task of an occurrence of SERVICE, by its rows at hand
+abbrev pub service_task : Option (List Bindings) → Task
+service_task None = task.Refused
+service_task (Some rows) = task.Service rows
+
+-- the task of a station
+abbrev pub planned : Served → List (List Triple) → Station → Task
+planned served graphs (station.run ps filters before) = run_task graphs ps filters before
+planned served graphs (station.service number silent iri g) = service_task (served.rows number)
+
+abbrev pub all_planned : Served → List (List Triple) → List Station → List Task
+all_planned served graphs stations = map (planned served graphs) stations
+
+abbrev pub task_units : Task → List unit.Unit
+task_units (task.Run units) = units
+task_units task.EmptyRun = []
+task_units (task.Service rows) = []
+task_units task.Refused = []
+
+-- the units of tasks
+abbrev pub units_in : List Task → List unit.Unit
+units_in tasks = flat_map task_units tasks
 
 -- units that can be asked for: there is one, they are fit, and their members are endpoints
 pub record CanAsk (count : ℕ) (units : List unit.Unit) : Type 0 where
@@ -57,28 +90,34 @@ pub record CanAsk (count : ℕ) (units : List unit.Unit) : Type 0 where
   pub fit : All IsFit units
   pub within : All (λ u. All (λ at. at < count) u.members) units
 
--- a part of a plan whose units can be asked for, if it is a run that has any
-abbrev pub CanBeAsked : ℕ → Part → Type 0
-CanBeAsked count (Run units bound) = CanAsk count units
-CanBeAsked count EmptyRun = Unit {0}
-CanBeAsked count (Service iri) = Unit {0}
+-- a task whose units can be asked for, if it is a run that has any
+abbrev pub CanBeAsked : ℕ → Task → Type 0
+CanBeAsked count (task.Run units) = CanAsk count units
+CanBeAsked count task.EmptyRun = Unit {0}
+CanBeAsked count (task.Service rows) = Unit {0}
+CanBeAsked count task.Refused = Unit {0}
 
 -- ---- results as lists
 
-abbrev pub solutions_in : Result (Vec Bindings Global) FlowError → Result (List Bindings) FlowError
+abbrev pub solutions_in : Result (Vec Bindings Global) RowsError → Result (List Bindings) RowsError
 solutions_in (Ok rows) = Ok rows.items
 solutions_in (Err e) = Err e
 
+abbrev pub found_in : Result (Vec Row Global) RowsError → Result (List Row) RowsError
+found_in (Ok rows) = Ok rows.items
+found_in (Err e) = Err e
+
 -- ---- what was asked for
 
--- These stations were asked for, before which by definition these rows stand, and the plan goes on with the rest.
-pub record AreAskedFor (endpoints : List EndpointParts) (graphs : List (List Triple)) (block : ℕ) (parts : List Part) (later : ℕ) (rest : List Part) (stations : List Station) (seeds : List (List Bindings)) (wanted : List Sent) : Type 0 where
-  pub behind : drop later parts ≡ rest
-  pub sent : AreStationsSent endpoints graphs block stations seeds wanted
+-- These stations were asked for, before which by definition these rows stand, and the tasks go on with the rest.
+pub record AreAskedFor (endpoints : List EndpointParts) (graphs : List (List Triple)) (block : ℕ) (tasks : List Task) (later : ℕ) (rest : List Task) (stations : List Station) (seeds : List (List Bindings)) (wanted : List Sent) : Type 0 where
+  pub behind : drop later tasks ≡ rest
+  pub sent : AreRunsSent endpoints graphs block stations seeds wanted
 
--- the plan goes on with the parts of stations, and then with the rest
-abbrev pub IsNext : List Part → ℕ → List (List Triple) → List Station → List Part → Type 0
-IsNext parts next graphs stations rest = drop next parts ≡ all_planned graphs stations ++ rest
+-- The tasks go on with those of stations, and then with the rest; the rows at hand of these stations' occurrences of SERVICE are theirs.
+pub record IsNext (tasks : List Task) (next : ℕ) (graphs : List (List Triple)) (served : Served) (stations : List Station) (rest : List Task) : Type 0 where
+  pub next_is : drop next tasks ≡ all_planned served graphs stations ++ rest
+  pub right : All (HasRows served) stations
 
 -- ---- a run
 
@@ -91,20 +130,20 @@ ComesOf false graph us rows found = IsPermutation found (stepped graph us (numbe
 abbrev pub IsRunFound : List (List Triple) → List Pattern → List Expr → List (List ℕ) → List Bindings → List Row → Type 0
 IsRunFound graphs ps filters known rows found = ComesOf (list_any is_empty_list (map (sources graphs) ps)) (union graphs) (plan ps (map (sources graphs) ps) filters known) rows found
 
--- the run whose part of the plan is next was asked for; the rows that entered it are some of those that do by definition
-abbrev pub RunGiven : List EndpointParts → ℕ → List Part → ℕ → ℕ → List Bindings → List (List Triple) → List Sent → List Row → Type 0
-RunGiven endpoints block parts next later rows graphs wanted found =
-    (ps : List Pattern) (filters : List Expr) (known : List (List ℕ)) (gone defined : List Bindings) (rest : List Part)
+-- the run whose task is next was asked for; the rows that entered it are some of those that do by definition
+abbrev pub RunGiven : List EndpointParts → ℕ → List Task → ℕ → ℕ → List Bindings → List (List Triple) → List Sent → List Row → Type 0
+RunGiven endpoints block tasks next later rows graphs wanted found =
+    (ps : List Pattern) (filters : List Expr) (known : List (List ℕ)) (gone defined : List Bindings) (rest : List Task)
     → IsPermutation (rows ++ gone) defined
-    → IsNext parts next graphs (station.run ps filters known ∷ []) rest
-    → AreAskedFor endpoints graphs block parts later rest (station.run ps filters known ∷ []) (defined ∷ []) wanted × IsRunFound graphs ps filters known rows found
+    → drop next tasks ≡ run_task graphs ps filters known ∷ rest
+    → AreAskedFor endpoints graphs block tasks later rest (station.run ps filters known ∷ []) (defined ∷ []) wanted × IsRunFound graphs ps filters known rows found
 
-abbrev pub RunDue : List EndpointParts → ℕ → List Part → ℕ → List Bindings → List (List Triple) → List Sent → Type 0
-RunDue endpoints block parts next rows graphs wanted =
-    (ps : List Pattern) (filters : List Expr) (known : List (List ℕ)) (gone defined : List Bindings) (rest : List Part)
+abbrev pub RunDue : List EndpointParts → ℕ → List Task → ℕ → List Bindings → List (List Triple) → List Sent → Type 0
+RunDue endpoints block tasks next rows graphs wanted =
+    (ps : List Pattern) (filters : List Expr) (known : List (List ℕ)) (gone defined : List Bindings) (rest : List Task)
     → IsPermutation (rows ++ gone) defined
-    → IsNext parts next graphs (station.run ps filters known ∷ []) rest
-    → AreStationsSent endpoints graphs block (station.run ps filters known ∷ []) (defined ∷ []) wanted
+    → drop next tasks ≡ run_task graphs ps filters known ∷ rest
+    → AreRunsSent endpoints graphs block (station.run ps filters known ∷ []) (defined ∷ []) wanted
 
 -- ---- a run of a group that may have no pattern
 
@@ -121,6 +160,11 @@ abbrev pub run_stations : List Expr → List (List ℕ) → List Pattern → Lis
 run_stations filters known [] = []
 run_stations filters known (p ∷ ps) = station.run (p ∷ ps) filters (once known) ∷ []
 
+-- its task
+abbrev pub run_tasks : List (List Triple) → List Expr → List (List ℕ) → List Pattern → List Task
+run_tasks graphs filters known [] = []
+run_tasks graphs filters known (p ∷ ps) = run_task graphs (p ∷ ps) filters (once known) ∷ []
+
 -- the rows that enter it
 abbrev pub run_seeds : List Bindings → List Pattern → List (List Bindings)
 run_seeds rows [] = []
@@ -132,35 +176,23 @@ run_joined graph rows [] = rows
 run_joined graph rows (p ∷ ps) = join rows (bgp graph (p ∷ ps))
 
 -- the run before an operator or the end of its group was asked for
-abbrev pub EndGiven : List EndpointParts → ℕ → List Part → ℕ → ℕ → Bool → List Bindings → List (List Triple) → List Sent → List Bindings → Type 0
-EndGiven endpoints block parts next later in_run before graphs wanted rows =
-    (ps : List Pattern) (filters : List Expr) (known : List (List ℕ)) (defined : List Bindings) (rest : List Part)
+abbrev pub EndGiven : List EndpointParts → ℕ → List Task → ℕ → ℕ → Bool → List Bindings → List (List Triple) → List Sent → List Bindings → Type 0
+EndGiven endpoints block tasks next later in_run before graphs wanted rows =
+    (ps : List Pattern) (filters : List Expr) (known : List (List ℕ)) (defined : List Bindings) (rest : List Task)
     → in_run ≡ is_run ps
     → AreFewer filters before defined
-    → IsNext parts next graphs (run_stations filters known ps) rest
-    → AreAskedFor endpoints graphs block parts later rest (run_stations filters known ps) (run_seeds defined ps) wanted × AreFewer filters rows (run_joined (union graphs) defined ps)
+    → drop next tasks ≡ run_tasks graphs filters known ps ++ rest
+    → AreAskedFor endpoints graphs block tasks later rest (run_stations filters known ps) (run_seeds defined ps) wanted × AreFewer filters rows (run_joined (union graphs) defined ps)
 
-abbrev pub EndDue : List EndpointParts → ℕ → List Part → ℕ → Bool → List Bindings → List (List Triple) → List Sent → Type 0
-EndDue endpoints block parts next in_run before graphs wanted =
-    (ps : List Pattern) (filters : List Expr) (known : List (List ℕ)) (defined : List Bindings) (rest : List Part)
+abbrev pub EndDue : List EndpointParts → ℕ → List Task → ℕ → Bool → List Bindings → List (List Triple) → List Sent → Type 0
+EndDue endpoints block tasks next in_run before graphs wanted =
+    (ps : List Pattern) (filters : List Expr) (known : List (List ℕ)) (defined : List Bindings) (rest : List Task)
     → in_run ≡ is_run ps
     → AreFewer filters before defined
-    → IsNext parts next graphs (run_stations filters known ps) rest
-    → AreStationsSent endpoints graphs block (run_stations filters known ps) (run_seeds defined ps) wanted
+    → drop next tasks ≡ run_tasks graphs filters known ps ++ rest
+    → AreRunsSent endpoints graphs block (run_stations filters known ps) (run_seeds defined ps) wanted
 
 -- ---- groups
-
--- the graph that each IRI has for SERVICE, and the numbers of the occurrences that are down
-pub record Served : Type 0 where
-  pub graphs : List ℕ → List Triple
-  pub down : List ℕ
-
--- what a group and an element are to the group around them, where SERVICE is served so
-abbrev pub group_in : Served → Group → Meaning
-group_in served = meaning served.graphs served.down
-
-abbrev pub element_in : Served → Element → GroupPart
-element_in served = fold-Element GroupPart Meaning (element_meaning served.graphs served.down) group_meaning
 
 -- the stations of a group that stands by itself, and over graphs the rows that enter them; its first SERVICE has the number
 abbrev pub stations_in : Served → ℕ → Group → List Station
@@ -169,40 +201,40 @@ stations_in served number g = (group_in served g).cut.stations number []
 abbrev pub seeds_in : Served → ℕ → List (List Triple) → Group → List (List Bindings)
 seeds_in served number graphs g = (group_in served g).cut.seeds (union graphs) number one_empty
 
-abbrev pub GroupDue : List EndpointParts → ℕ → List Part → ℕ → Group → List (List Triple) → List Sent → Type 0
-GroupDue endpoints block parts next g graphs wanted =
-    (served : Served) (number : ℕ) (rest : List Part)
-    → IsNext parts next graphs (stations_in served number g) rest
-    → AreStationsSent endpoints graphs block (stations_in served number g) (seeds_in served number graphs g) wanted
+abbrev pub GroupDue : List EndpointParts → ℕ → List Task → ℕ → Group → List (List Triple) → List Sent → Type 0
+GroupDue endpoints block tasks next g graphs wanted =
+    (served : Served) (number : ℕ) (rest : List Task)
+    → IsNext tasks next graphs served (stations_in served number g) rest
+    → AreRunsSent endpoints graphs block (stations_in served number g) (seeds_in served number graphs g) wanted
 
 -- a group was asked for: its rows, in some order, however SERVICE is served, and whatever number the first one has
-abbrev pub GroupGiven : List EndpointParts → ℕ → List Part → ℕ → ℕ → Group → List (List Triple) → List Sent → List Bindings → Type 0
-GroupGiven endpoints block parts next later g graphs wanted rows =
-    (served : Served) (number : ℕ) (rest : List Part)
-    → IsNext parts next graphs (stations_in served number g) rest
-    → AreAskedFor endpoints graphs block parts later rest (stations_in served number g) (seeds_in served number graphs g) wanted
+abbrev pub GroupGiven : List EndpointParts → ℕ → List Task → ℕ → ℕ → Group → List (List Triple) → List Sent → List Bindings → Type 0
+GroupGiven endpoints block tasks next later g graphs wanted rows =
+    (served : Served) (number : ℕ) (rest : List Task)
+    → IsNext tasks next graphs served (stations_in served number g) rest
+    → AreAskedFor endpoints graphs block tasks later rest (stations_in served number g) (seeds_in served number graphs g) wanted
     × IsPermutation rows (group_rows (group_in served g) (union graphs) number)
 
 -- its rows before its filters, less some that these refuse
-abbrev pub UnfilteredGiven : List EndpointParts → ℕ → List Part → ℕ → ℕ → Group → List (List Triple) → List Sent → List Bindings → Type 0
-UnfilteredGiven endpoints block parts next later g graphs wanted rows =
-    (served : Served) (number : ℕ) (rest : List Part)
-    → IsNext parts next graphs (stations_in served number g) rest
-    → AreAskedFor endpoints graphs block parts later rest (stations_in served number g) (seeds_in served number graphs g) wanted
+abbrev pub UnfilteredGiven : List EndpointParts → ℕ → List Task → ℕ → ℕ → Group → List (List Triple) → List Sent → List Bindings → Type 0
+UnfilteredGiven endpoints block tasks next later g graphs wanted rows =
+    (served : Served) (number : ℕ) (rest : List Task)
+    → IsNext tasks next graphs served (stations_in served number g) rest
+    → AreAskedFor endpoints graphs block tasks later rest (stations_in served number g) (seeds_in served number graphs g) wanted
     × AreFewer (group_in served g).filters rows ((group_in served g).rows (union graphs) number)
 
 -- groups were asked for, one after the other
-abbrev pub AlternativesDue : List EndpointParts → ℕ → List Part → ℕ → List Group → List (List Triple) → List Sent → Type 0
-AlternativesDue endpoints block parts next gs graphs wanted =
-    (served : Served) (number : ℕ) (rest : List Part)
-    → IsNext parts next graphs (alternative_stations (map (group_in served) gs) number) rest
-    → AreStationsSent endpoints graphs block (alternative_stations (map (group_in served) gs) number) (alternative_seeds (map (group_in served) gs) (union graphs) number) wanted
+abbrev pub AlternativesDue : List EndpointParts → ℕ → List Task → ℕ → List Group → List (List Triple) → List Sent → Type 0
+AlternativesDue endpoints block tasks next gs graphs wanted =
+    (served : Served) (number : ℕ) (rest : List Task)
+    → IsNext tasks next graphs served (alternative_stations (map (group_in served) gs) number) rest
+    → AreRunsSent endpoints graphs block (alternative_stations (map (group_in served) gs) number) (alternative_seeds (map (group_in served) gs) (union graphs) number) wanted
 
-abbrev pub AlternativesGiven : List EndpointParts → ℕ → List Part → ℕ → ℕ → List Group → List (List Triple) → List Sent → List Bindings → Type 0
-AlternativesGiven endpoints block parts next later gs graphs wanted rows =
-    (served : Served) (number : ℕ) (rest : List Part)
-    → IsNext parts next graphs (alternative_stations (map (group_in served) gs) number) rest
-    → AreAskedFor endpoints graphs block parts later rest (alternative_stations (map (group_in served) gs) number) (alternative_seeds (map (group_in served) gs) (union graphs) number) wanted
+abbrev pub AlternativesGiven : List EndpointParts → ℕ → List Task → ℕ → ℕ → List Group → List (List Triple) → List Sent → List Bindings → Type 0
+AlternativesGiven endpoints block tasks next later gs graphs wanted rows =
+    (served : Served) (number : ℕ) (rest : List Task)
+    → IsNext tasks next graphs served (alternative_stations (map (group_in served) gs) number) rest
+    → AreAskedFor endpoints graphs block tasks later rest (alternative_stations (map (group_in served) gs) number) (alternative_seeds (map (group_in served) gs) (union graphs) number) wanted
     × IsPermutation rows (alternatives (map (group_in served) gs) (union graphs) number)
 
 -- ---- an operator
@@ -229,20 +261,33 @@ number_behind number (pattern p) = number
 number_behind number (condition e) = number
 number_behind number (operator o) = number + o.services
 
-abbrev pub OperatorDue : List EndpointParts → ℕ → List Part → ℕ → Element → List Bindings → List (List Triple) → List Sent → Type 0
-OperatorDue endpoints block parts next e before graphs wanted =
-    (served : Served) (number : ℕ) (filters : List Expr) (known : List (List ℕ)) (defined : List Bindings) (rest : List Part)
+abbrev pub OperatorDue : List EndpointParts → ℕ → List Task → ℕ → Element → List Bindings → List (List Triple) → List Sent → Type 0
+OperatorDue endpoints block tasks next e before graphs wanted =
+    (served : Served) (number : ℕ) (filters : List Expr) (known : List (List ℕ)) (defined : List Bindings) (rest : List Task)
     → AreFewer filters before defined
-    → IsNext parts next graphs (operator_stations number (element_in served e) known) rest
-    → AreStationsSent endpoints graphs block (operator_stations number (element_in served e) known) (operator_seeds number (element_in served e) (union graphs) defined) wanted
+    → IsNext tasks next graphs served (operator_stations number (element_in served e) known) rest
+    → AreRunsSent endpoints graphs block (operator_stations number (element_in served e) known) (operator_seeds number (element_in served e) (union graphs) defined) wanted
 
-abbrev pub OperatorGiven : List EndpointParts → ℕ → List Part → ℕ → ℕ → Element → List Bindings → List (List Triple) → List Sent → List Bindings → Type 0
-OperatorGiven endpoints block parts next later e before graphs wanted rows =
-    (served : Served) (number : ℕ) (filters : List Expr) (known : List (List ℕ)) (defined : List Bindings) (rest : List Part)
+abbrev pub OperatorGiven : List EndpointParts → ℕ → List Task → ℕ → ℕ → Element → List Bindings → List (List Triple) → List Sent → List Bindings → Type 0
+OperatorGiven endpoints block tasks next later e before graphs wanted rows =
+    (served : Served) (number : ℕ) (filters : List Expr) (known : List (List ℕ)) (defined : List Bindings) (rest : List Task)
     → AreFewer filters before defined
-    → IsNext parts next graphs (operator_stations number (element_in served e) known) rest
-    → AreAskedFor endpoints graphs block parts later rest (operator_stations number (element_in served e) known) (operator_seeds number (element_in served e) (union graphs) defined) wanted
+    → IsNext tasks next graphs served (operator_stations number (element_in served e) known) rest
+    → AreAskedFor endpoints graphs block tasks later rest (operator_stations number (element_in served e) known) (operator_seeds number (element_in served e) (union graphs) defined) wanted
     × AreFewer filters rows (operator_rows number (element_in served e) (union graphs) defined)
+
+-- ---- an occurrence of SERVICE
+
+-- its task is next: the rows before it were joined with its rows, and the tasks go on behind it; it wasn't refused
+pub record IsJoined (tasks : List Task) (next later : ℕ) (before rows : List Bindings) : Type 0 where
+  pub joined : (found : List Bindings) (rest : List Task) → drop next tasks ≡ task.Service found ∷ rest → (drop later tasks ≡ rest) × IsPermutation (join before found) rows
+  pub unrefused : (rest : List Task) → drop next tasks ≡ task.Refused ∷ rest → ⊥
+
+-- what comes of it, or why nothing does
+abbrev pub IsBehindService : List Task → ℕ → ℕ → List Bindings → Result (List Bindings) RowsError → Type 0
+IsBehindService tasks next later before (Ok rows) = IsJoined tasks next later before rows
+IsBehindService tasks next later before (Err (rows_error.Flow e)) = e ≡ flow.Memory
+IsBehindService tasks next later before (Err rows_error.Refused) = Contains tasks task.Refused
 
 -- ---- the elements of a group, one after the other
 
@@ -256,36 +301,36 @@ abbrev pub AreEven : List Step → Type 0
 AreEven steps = (filters : List Expr) (graph : List Triple) (number other : ℕ) (rows : List Bindings) (known : List (List ℕ)) → length (seeds_of graph number rows steps) ≡ length (stations_of filters other known steps)
 
 -- A place in a group: the number of the next SERVICE, the patterns of the run that hasn't ended there, the names before that and the rows by
--- definition, of which those at hand are some. Behind it the plan goes on with the stations of the steps.
-pub record IsPlace (graphs : List (List Triple)) (parts : List Part) (next : ℕ) (in_run : Bool) (filters : List Expr) (number : ℕ) (known : List (List ℕ)) (run : List Pattern) (before defined : List Bindings) (steps : List Step) (rest : List Part) : Type 0 where
+-- definition, of which those at hand are some. Behind it the tasks go on with those of the steps' stations.
+pub record IsPlace (graphs : List (List Triple)) (tasks : List Task) (served : Served) (next : ℕ) (in_run : Bool) (filters : List Expr) (number : ℕ) (known : List (List ℕ)) (run : List Pattern) (before defined : List Bindings) (steps : List Step) (rest : List Task) : Type 0 where
   pub runs : in_run ≡ is_run run
   pub fewer : AreFewer filters before defined
-  pub next_is : IsNext parts next graphs (stations_of filters number known (with_run run steps)) rest
+  pub next_is : IsNext tasks next graphs served (stations_of filters number known (with_run run steps)) rest
 
 -- what is sent from a place on
 abbrev pub AreSentFrom : List EndpointParts → List (List Triple) → ℕ → List Expr → ℕ → List (List ℕ) → List Pattern → List Bindings → List Step → List Sent → Type 0
 AreSentFrom endpoints graphs block filters number known run defined steps wanted =
-    AreStationsSent endpoints graphs block (stations_of filters number known (with_run run steps)) (seeds_of (union graphs) number defined (with_run run steps)) wanted
+    AreRunsSent endpoints graphs block (stations_of filters number known (with_run run steps)) (seeds_of (union graphs) number defined (with_run run steps)) wanted
 
 -- a place, where the next SERVICE has the last number, was reached from an earlier one
-pub record IsReached (endpoints : List EndpointParts) (graphs : List (List Triple)) (block : ℕ) (parts : List Part) (later : ℕ) (in_run : Bool) (filters : List Expr) (number : ℕ) (known : List (List ℕ)) (run : List Pattern) (defined : List Bindings) (steps : List Step) (rest : List Part) (last : ℕ) (behind : List Step) (wanted : List Sent) (rows : List Bindings) : Type 0 where
+pub record IsReached (endpoints : List EndpointParts) (graphs : List (List Triple)) (block : ℕ) (tasks : List Task) (served : Served) (later : ℕ) (in_run : Bool) (filters : List Expr) (number : ℕ) (known : List (List ℕ)) (run : List Pattern) (defined : List Bindings) (steps : List Step) (rest : List Task) (last : ℕ) (behind : List Step) (wanted : List Sent) (rows : List Bindings) : Type 0 where
   pub names : List (List ℕ)
   pub patterns : List Pattern
   pub solutions : List Bindings
-  pub place : IsPlace graphs parts later in_run filters last names patterns rows solutions behind rest
+  pub place : IsPlace graphs tasks served later in_run filters last names patterns rows solutions behind rest
   pub goes_on : (more : List Sent) → AreSentFrom endpoints graphs block filters last names patterns solutions behind more → AreSentFrom endpoints graphs block filters number known run defined steps (wanted ++ more)
   pub comes_out : after (union graphs) last solutions (with_run patterns behind) ≡ after (union graphs) number defined (with_run run steps)
 
 -- an element was gone through
-abbrev pub ElementGiven : List EndpointParts → ℕ → List Part → ℕ → ℕ → Bool → Bool → Element → List Bindings → List (List Triple) → List Sent → List Bindings → Type 0
-ElementGiven endpoints block parts next later was_run in_run e before graphs wanted rows =
-    (served : Served) (number : ℕ) (filters : List Expr) (known : List (List ℕ)) (run : List Pattern) (defined : List Bindings) (steps : List Step) (rest : List Part)
-    → IsPlace graphs parts next was_run filters number known run before defined (with_part (element_in served e) steps) rest
-    → IsReached endpoints graphs block parts later in_run filters number known run defined (with_part (element_in served e) steps) rest (number_behind number (element_in served e)) steps wanted rows
+abbrev pub ElementGiven : List EndpointParts → ℕ → List Task → ℕ → ℕ → Bool → Bool → Element → List Bindings → List (List Triple) → List Sent → List Bindings → Type 0
+ElementGiven endpoints block tasks next later was_run in_run e before graphs wanted rows =
+    (served : Served) (number : ℕ) (filters : List Expr) (known : List (List ℕ)) (run : List Pattern) (defined : List Bindings) (steps : List Step) (rest : List Task)
+    → IsPlace graphs tasks served next was_run filters number known run before defined (with_part (element_in served e) steps) rest
+    → IsReached endpoints graphs block tasks served later in_run filters number known run defined (with_part (element_in served e) steps) rest (number_behind number (element_in served e)) steps wanted rows
 
-abbrev pub ElementDue : List EndpointParts → ℕ → List Part → ℕ → Bool → Element → List Bindings → List (List Triple) → List Sent → Type 0
-ElementDue endpoints block parts next was_run e before graphs wanted =
-    (served : Served) (number : ℕ) (filters : List Expr) (known : List (List ℕ)) (run : List Pattern) (defined : List Bindings) (steps : List Step) (rest : List Part)
+abbrev pub ElementDue : List EndpointParts → ℕ → List Task → ℕ → Bool → Element → List Bindings → List (List Triple) → List Sent → Type 0
+ElementDue endpoints block tasks next was_run e before graphs wanted =
+    (served : Served) (number : ℕ) (filters : List Expr) (known : List (List ℕ)) (run : List Pattern) (defined : List Bindings) (steps : List Step) (rest : List Task)
     → AreEven steps
-    → IsPlace graphs parts next was_run filters number known run before defined (with_part (element_in served e) steps) rest
+    → IsPlace graphs tasks served next was_run filters number known run before defined (with_part (element_in served e) steps) rest
     → AreSentFrom endpoints graphs block filters number known run defined (with_part (element_in served e) steps) wanted

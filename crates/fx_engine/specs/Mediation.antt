@@ -1,11 +1,11 @@
 -- What a federation gives over several wires, and why it gives nothing.
-use Rattle.std.specs.Prelude.{◌≡◌, ◌<◌, ◌⊎◌, ◌++◌, ℕ, Bool, List, [], IfOk, IfErr, IsTrue, All, Contains, None, Some, Result, Ok, Err, length, slice_get}
+use Rattle.std.specs.Prelude.{◌≡◌, ◌<◌, ◌≤◌, ◌+◌, ◌⊎◌, ◌++◌, ◌∷◌, ℕ, Bool, false, List, [], IsPermutation, map, IfOk, IfErr, IsTrue, All, Contains, None, Some, Result, Ok, Err, length, slice_get}
 use Rattle.std.specs.List.{zip}
 use Rattle.std.specs.declared.alloc.Global.{Global}
 use Rattle.std.specs.declared.vec.Vec.{Vec}
 use Rattle.fx_terms.specs.declared.triples.Triple.{Triple}
 use Rattle.fx_outside.specs.Endpoints.{EndpointParts}
-use Rattle.fx_algebra.specs.Answers.{answer_alone, no_graphs}
+use Rattle.fx_algebra.specs.Answers.{answer}
 use Rattle.fx_algebra.specs.Cuts.{seeds, stations}
 use Rattle.fx_algebra.specs.Graphs.{union}
 use Rattle.fx_algebra.specs.Units.{sources}
@@ -27,11 +27,16 @@ use Rattle.fx_spelling.specs.Units.{IsFit}
 use Rattle.fx_traffic.specs.Batches.{IsBatchText, IsSized, unit_sent}
 use Rattle.fx_traffic.specs.Gains.{AreAfter, HaveGained, Tell, TellAll, faults_at}
 use Rattle.fx_traffic.specs.Sent.{Sent, Sends}
-use Rattle.fx_traffic.specs.Traffic.{AreAsked, AreStationsSent}
+use Rattle.fx_traffic.specs.Traffic.{AreAsked, IsTraffic}
 use Rattle.fx_wire.specs.Exchanges.{Exchange, Seen}
 use Rattle.fx_engine.specs.Asks.{IsAnsweredBy, IsAskRead, IsBadAsk, IsLongAsk}
+use Rattle.fx_engine.specs.Calls.{AreCalls, AreFirst, Call, IsPassed, down_in, failed, failures_at, occurrences}
+use Rattle.fx_engine.specs.Noted.{places}
+use Rattle.fx_engine.specs.RunsSent.{AreRunsSent}
 use Rattle.fx_engine.specs.Sections.{parts_by, parts_with, sections}
 use Rattle.fx_engine.specs.Unknown.{unknown_of}
+use Rattle.fx_engine.specs.declared.mediator.DownCause.{DownCause}
+use Rattle.fx_engine.specs.declared.mediator.DownCause.TheVariants as cause
 use Rattle.fx_engine.specs.declared.mediator.FedError.{FedError}
 use Rattle.fx_engine.specs.declared.mediator.FedError.TheVariants as fed
 use Rattle.fx_engine.specs.declared.mediator.Outcome.{Outcome}
@@ -90,18 +95,28 @@ AtNamed endpoints name P = (e : EndpointParts) × Contains endpoints e × (e.nam
 -- ASK for it is too long. Where a SERVICE is unknown nothing was asked.
 abbrev pub HasPlanCause : List Seen → List Seen → List EndpointParts → Query → List Entry → List Exchange → FedError → Type 0
 HasPlanCause before after endpoints q entries xs (fed.Member name) = (0 < length (patterns q)) × AtNamed endpoints name (λ e. faults_at before e.iri < faults_at after e.iri)
+HasPlanCause before after endpoints q entries xs (fed.Service iri) = ⊥
 HasPlanCause before after endpoints q entries xs (fed.BadReply name bad) = AtNamed endpoints name (λ e. HasBadAsk before endpoints q entries e xs bad)
 HasPlanCause before after endpoints q entries xs (fed.RequestTooLong name size) = AtNamed endpoints name (λ e. HasLongAsk endpoints q entries e size)
 HasPlanCause before after endpoints q entries xs (fed.UnknownService iri) = (after ≡ before) × (xs ≡ [])
 HasPlanCause before after endpoints q entries xs fed.Memory = Unit {0}
 
--- Why there is no answer: such a cause, or so it is of a batch of no more rows than so many.
-abbrev pub HasFedCause : List Seen → List Seen → List EndpointParts → Query → List Entry → List Sent → List Exchange → ℕ → FedError → Type 0
-HasFedCause before after endpoints q entries texts xs block (fed.Member name) = (0 < length (patterns q)) × AtNamed endpoints name (λ e. faults_at before e.iri < faults_at after e.iri)
-HasFedCause before after endpoints q entries texts xs block (fed.BadReply name bad) = AtNamed endpoints name (λ e. HasBadAsk before endpoints q entries e xs bad ⊎ HasBadBatch before endpoints q block e xs bad)
-HasFedCause before after endpoints q entries texts xs block (fed.RequestTooLong name size) = AtNamed endpoints name (λ e. HasLongAsk endpoints q entries e size ⊎ HasLongBatch endpoints q block e texts size)
-HasFedCause before after endpoints q entries texts xs block (fed.UnknownService iri) = (after ≡ before) × (xs ≡ [])
-HasFedCause before after endpoints q entries texts xs block fed.Memory = Unit {0}
+-- an occurrence without SILENT has no rows for this reason, and P holds of its IRI
+abbrev pub HasPlain : List Call → DownCause → (List ℕ → Type 0) → Type 0
+HasPlain calls why P = (c : Call) × Contains calls c × (c.of.silent ≡ false) × (c.came ≡ failed why) × P c.of.iri
+
+-- Why there is no answer: such a cause; or so it is of a batch of no more rows than so many; or an occurrence without SILENT has no rows for that reason, at the
+-- endpoint that has its IRI as its address.
+abbrev pub HasFedCause : List Seen → List Seen → List EndpointParts → Query → List Entry → List Call → List Sent → List Exchange → ℕ → FedError → Type 0
+HasFedCause before after endpoints q entries calls texts xs block (fed.Member name) = (0 < length (patterns q)) × AtNamed endpoints name (λ e. faults_at before e.iri < faults_at after e.iri)
+HasFedCause before after endpoints q entries calls texts xs block (fed.Service iri) =
+    HasPlain calls cause.Failed (λ i. i ≡ iri) × ((e : EndpointParts) × Contains endpoints e × (e.iri ≡ iri)) × (faults_at before iri < faults_at after iri)
+HasFedCause before after endpoints q entries calls texts xs block (fed.BadReply name bad) =
+    AtNamed endpoints name (λ e. HasBadAsk before endpoints q entries e xs bad ⊎ (HasBadBatch before endpoints q block e xs bad ⊎ HasPlain calls (cause.Bad bad) (λ i. i ≡ e.iri)))
+HasFedCause before after endpoints q entries calls texts xs block (fed.RequestTooLong name size) =
+    AtNamed endpoints name (λ e. HasLongAsk endpoints q entries e size ⊎ (HasLongBatch endpoints q block e texts size ⊎ HasPlain calls (cause.TooLong size) (λ i. i ≡ e.iri)))
+HasFedCause before after endpoints q entries calls texts xs block (fed.UnknownService iri) = (after ≡ before) × (xs ≡ [])
+HasFedCause before after endpoints q entries calls texts xs block fed.Memory = Unit {0}
 
 -- the refusal, with the name of the endpoint in place of its number, unless memory ran out
 abbrev pub HasName : List EndpointParts → ℕ → List ℕ → Type 0
@@ -156,26 +171,48 @@ IsRead endpoints q entries x = IsAskRead (missing q (length endpoints) entries) 
 
 -- ---- a federation
 
--- A query without SERVICE was asked over wires, in batches of so many rows at most: what was exchanged, one wire's part behind the other's; the ASKs and the
--- texts of batches that were wanted of it, which are those of the query's traffic where graphs are told; with an answer, that each reply was read; the
--- answer over the union of the graphs, or the cause; and what the cache holds, which stays true of graphs.
+-- each IRI that is the address of an endpoint has its graph
+abbrev pub Serve : (List ℕ → List Triple) → List EndpointParts → List (List Triple) → Type 0
+Serve services [] graphs = Unit {0}
+Serve services (e ∷ endpoints) [] = ⊥
+Serve services (e ∷ endpoints) (graph ∷ graphs) = (services e.iri ≡ graph) × Serve services endpoints graphs
+
+-- A query was asked over wires, in batches of so many rows at most: what was exchanged, one wire's part behind the other's. Of that the one part is for the
+-- occurrences of SERVICE that were invoked, which are the query's first, each once: what each came to, by its own exchanges. The other is ASKs and texts of batches
+-- that were wanted of the query, which where graphs are told are those of its runs; with an answer, each reply there was read without a fault. Together they are the
+-- query's traffic. With an answer: all occurrences were invoked, those that have no rows are silent, and are down; and the answer is that over the union of the graphs.
+-- Else the cause. At each address as many faults at least were counted as exchanges with occurrences failed there, and with an answer no other by wires that count each
+-- address alone. And what the cache holds, which stays true of graphs.
 pub record Federated (tells alone : Bool) (before after : List Seen) (endpoints : List EndpointParts) (q : Query) (old new : List Entry) (block : ℕ) (result : Result Outcome FedError) : Type 0 where
   pub exchanges : List Exchange
   pub gained : IsTrue tells → HaveGained before after exchanges
   pub after_all : AreAfter before after
-  pub quiet : IsTrue alone → IfOk result (λ _. (address : List ℕ) → faults_at after address ≡ faults_at before address)
+  pub calls : List Call
+  pub first : AreFirst calls (occurrences q)
+  pub all_called : IfOk result (λ _. map (λ c. c.of) calls ≡ occurrences q)
+  pub passed : IfOk result (λ _. All IsPassed calls)
+  pub down : IfOk result (λ outcome. outcome.down ≡ down_in calls)
+  pub counted : (address : List ℕ) → faults_at before address + failures_at address calls ≤ faults_at after address
+  pub exact : IsTrue alone → IfOk result (λ _. (address : List ℕ) → faults_at after address ≡ faults_at before address + failures_at address calls)
+  pub of_calls : List Exchange
+  pub of_others : List Exchange
+  pub parted : IsPermutation (of_others ++ of_calls) exchanges
+  pub are_calls : AreCalls before endpoints calls of_calls
   pub asks : List Sent
   pub asked : AreAsked endpoints q old asks
   pub texts : List Sent
   pub of_batches : All (IsBatchText endpoints block (IsUnitOf q)) texts
-  pub of_stations : (graphs : List (List Triple)) → AreKnown before endpoints old graphs → AreStationsSent endpoints graphs block (stations q) (seeds q (union graphs) no_graphs []) texts
+  pub of_runs : (graphs : List (List Triple)) → AreKnown before endpoints old graphs → (services : List ℕ → List Triple) → Serve services endpoints graphs
+      → AreRunsSent endpoints graphs block (stations q) (seeds q (union graphs) services (places (down_in calls))) texts
   pub left : List Sent
-  pub sent : Sends (asks ++ texts) left exchanges
-  pub faultless : IfOk result (λ _. All (IsRead endpoints q old) exchanges)
-  pub answer : IfOk result (λ outcome. (graphs : List (List Triple)) → AreKnown before endpoints old graphs → outcome.answer ≡ answer_alone q (union graphs))
-  pub none_down : IfOk result (λ outcome. outcome.down ≡ [])
+  pub sent : Sends (asks ++ texts) left of_others
+  pub faultless : IfOk result (λ _. All (IsRead endpoints q old) of_others)
+  pub traffic : (graphs : List (List Triple)) → AreKnown before endpoints old graphs → (services : List ℕ → List Triple) → Serve services endpoints graphs
+      → (unsent : List Sent) × IsTraffic endpoints graphs block services (places (down_in calls)) q old unsent exchanges
+  pub answer : IfOk result (λ outcome. (graphs : List (List Triple)) → AreKnown before endpoints old graphs → (services : List ℕ → List Triple) → Serve services endpoints graphs
+      → outcome.answer ≡ answer q (union graphs) services (places outcome.down))
   pub known : KnowsServices endpoints q result
-  pub cause : IfErr result (HasFedCause before after endpoints q old texts exchanges block)
+  pub cause : IfErr result (HasFedCause before after endpoints q old calls texts exchanges block)
   pub held : HoldsBehind endpoints q old new exchanges result
   pub stays_true : (graphs : List (List Triple)) → AreKnown before endpoints old graphs → All (source.Tells graphs) new
 

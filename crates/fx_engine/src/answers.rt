@@ -1,44 +1,67 @@
 //! The answer of a query by its plan.
-ghost use Rattle.std.specs.Prelude.{◌≡◌, ◌<◌, ◌≤◌, All, IfErr, IfOk, IsPermutation, [], length, map, true};
+ghost use Rattle.std.specs.Prelude.{◌≡◌, ◌<◌, ◌≤◌, All, IfErr, IfOk, IsPermutation, length, map, true};
 ghost use Rattle.fx_algebra.specs.Answers.{with_inline as with_inline_of};
-ghost use Rattle.fx_algebra.specs.Occurrences.{services};
 ghost use Rattle.fx_outside.specs.Endpoints.{is_sendable};
 ghost use Rattle.fx_engine.specs.AnswersAsked as spec;
 ghost use Rattle.fx_engine.specs.Asked.{Asked};
-ghost use Rattle.fx_engine.specs.GroupsAsked.{CanBeAsked, units_in};
+ghost use Rattle.fx_engine.specs.GroupsAsked.{CanBeAsked};
+ghost use Rattle.fx_engine.specs.Tasks.{tasks_with};
 
 use crate::groups::{group_rows, known_to_rise};
+use crate::tasks::{RowsError, Task, tasks_of};
 use fx_algebra::{Answer, Inline, Query, Solution};
 use fx_outside::Endpoint;
 use fx_plan::Part;
 use fx_pool::FlowError;
 use fx_solutions::{answer_of_rows, inline_rows, join_with};
-use fx_terms::Memory;
+use fx_terms::{Items, Memory};
 use fx_wire::Wire;
 use std::alloc::Global;
 
-/// The answer of a query without SERVICE over the union of the endpoints' graphs, by the parts of its plan, in text order. The cause of a refusal is
-/// that of a batch of one of the plan's units.
-pub(crate) fn answer_by_plan<W: Wire + Send>(
+/// The answer of a query over the union of the endpoints' graphs, by the parts of its plan and the rows of its occurrences of SERVICE, both in text
+/// order. Where there are fewer of these, the others were refused. The cause of a refusal is that of `answer_by_plan`.
+pub(crate) fn answer_with<W: Wire + Send>(
     alloc: Global,
     query: &Query,
-    plan: &[Part],
+    plan: Vec<Part>,
+    found: Vec<Items<Solution>>,
     endpoints: &[Endpoint],
     block: u32,
     wires: &mut [W],
-) -> Result<Answer, FlowError>
+) -> Result<Answer, RowsError>
     requires wired { (0 < length wires.old) × (length wires.old ≤ 16) }
     requires sendable { All (λ e. is_sendable e ≡ true) endpoints.now }
     requires block { (0 < block) × (block ≤ 64) }
-    requires asked { All (CanBeAsked (length endpoints.now)) plan.now }
-    requires alone { services query.now ≡ [] }
-    ensures { Asked W.tells_log W.counts_alone (map W.seen wires.old) (map W.seen wires.new) endpoints.now (units_in plan.now) block (spec.AnswerGiven endpoints.now block plan.now query.now) (spec.AnswerDue endpoints.now block plan.now query.now) result }
+    requires asked { All (CanBeAsked (length endpoints.now)) (tasks_with plan.items found.items) }
+    ensures { Asked W.tells_log W.counts_alone (map W.seen wires.old) (map W.seen wires.new) endpoints.now (tasks_with plan.items found.items) block (spec.AnswerGiven endpoints.now block (tasks_with plan.items found.items) query.now) (spec.AnswerDue endpoints.now block (tasks_with plan.items found.items) query.now) result }
+{
+    match tasks_of(alloc, plan, found) {
+        Err(Memory) => Err(RowsError::Flow(FlowError::Memory)),
+        Ok(tasks) => answer_by_plan(alloc, query, tasks.as_slice(), endpoints, block, wires),
+    }
+}
+
+/// The answer of a query over the union of the endpoints' graphs, by its tasks, in text order. The cause of a refusal is that of a batch of one of the
+/// tasks' units, or an occurrence of SERVICE was refused.
+pub(crate) fn answer_by_plan<W: Wire + Send>(
+    alloc: Global,
+    query: &Query,
+    tasks: &[Task],
+    endpoints: &[Endpoint],
+    block: u32,
+    wires: &mut [W],
+) -> Result<Answer, RowsError>
+    requires wired { (0 < length wires.old) × (length wires.old ≤ 16) }
+    requires sendable { All (λ e. is_sendable e ≡ true) endpoints.now }
+    requires block { (0 < block) × (block ≤ 64) }
+    requires asked { All (CanBeAsked (length endpoints.now)) tasks.now }
+    ensures { Asked W.tells_log W.counts_alone (map W.seen wires.old) (map W.seen wires.new) endpoints.now tasks.now block (spec.AnswerGiven endpoints.now block tasks.now query.now) (spec.AnswerDue endpoints.now block tasks.now query.now) result }
 {
     let mut next = 0;
     match group_rows(
         alloc,
         &query.group,
-        plan,
+        tasks,
         &mut next,
         endpoints,
         block,
@@ -50,17 +73,17 @@ pub(crate) fn answer_by_plan<W: Wire + Send>(
 }
 
 // The answer of a query from the rows of its group.
-fn answer_from(alloc: Global, query: &Query, rows: Vec<Solution>) -> Result<Answer, FlowError>
+fn answer_from(alloc: Global, query: &Query, rows: Vec<Solution>) -> Result<Answer, RowsError>
     ensures given { IfOk result (spec.IsFromRows query.now rows.items) }
-    ensures memory { IfErr result (λ e. e ≡ FlowError.Memory) }
+    ensures memory { IfErr result (λ e. e ≡ RowsError.Flow FlowError.Memory) }
 {
     let Ok(all) = with_inline(alloc, &query.inline, rows) else {
-        return Err(FlowError::Memory);
+        return Err(RowsError::Flow(FlowError::Memory));
     };
     known_to_rise(all.as_slice());
     match answer_of_rows(alloc, query, all.as_slice()) {
         Ok(answer) => Ok(answer),
-        Err(Memory) => Err(FlowError::Memory),
+        Err(Memory) => Err(RowsError::Flow(FlowError::Memory)),
     }
 }
 

@@ -1,55 +1,52 @@
 //! The rows of groups over the union of the graphs of endpoints (SPARQL 1.1 sections 18.2.2 and 18.6).
 ghost use Rattle.std.specs.Prelude.{◌≡◌, ◌<◌, ◌≤◌, All, IfErr, IfOk, IsPermutation, IsTrue, OnOk, [], ◌∷◌, length, map, true};
-ghost use Rattle.fx_algebra.specs.Groups.{groups_services, part_services};
 ghost use Rattle.fx_algebra.specs.Operators.{extend as extend_of, filtered as filtered_of, inline_rows as inline_rows_of, join as join_of, left_join as left_join_of, minus as minus_of};
 ghost use Rattle.fx_algebra.specs.Solutions.{rises};
 ghost use Rattle.fx_outside.specs.Endpoints.{is_sendable};
-ghost use Rattle.fx_pool.specs.Flows.{rows_in};
 ghost use Rattle.fx_steps.specs.Optionals.{optional_rows};
 ghost use Rattle.fx_steps.specs.Steps.{solutions_of};
 ghost use Rattle.fx_engine.specs.Asked.{Asked};
 ghost use Rattle.fx_engine.specs.GroupsAsked as spec;
-ghost use Rattle.fx_engine.specs.GroupsAsked.{CanBeAsked, solutions_in, units_in};
+ghost use Rattle.fx_engine.specs.GroupsAsked.{CanBeAsked, found_in, solutions_in};
 ghost use Rattle.fx_engine.specs.SectionSteps.{group_of, part_of, part_patterns};
 
 use crate::optionals::or_themselves;
 use crate::sections::{filters_of, is_simple, keeps_run};
+use crate::tasks::{RowsError, Task};
 use fx_algebra::{Element, Expr, Group, Inline, Row, Solution};
 use fx_outside::Endpoint;
-use fx_plan::Part;
 use fx_pool::{FlowError, run_flow};
-use fx_solutions::{extend, filter, inline_rows, join_with, left_join_with, minus_with};
+use fx_solutions::{extend, filter, inline_rows, join, join_with, left_join_with, minus_with};
 use fx_terms::{Memory, Name};
 use fx_wire::Wire;
 use std::alloc::Global;
 
 /// The rows of a group over the union of the endpoints' graphs, in some order.
 ///
-/// The plan has the parts of the query that the group is of, in text order, and `next` is the place of the group's first part; it is moved behind the
+/// The tasks are those of the query that the group is of, in text order, and `next` is the place of the group's first task; it is moved behind the
 /// group's last. The group is gone through from left to right. The units of a run of triple patterns are asked for, from the rows before it on. A
 /// nested group, a UNION, a MINUS and an OPTIONAL begin with the one empty solution, but the run of an OPTIONAL whose group holds triple
-/// patterns and filters alone begins with the rows on its left. The filters of the group are applied at its end, those that went with
-/// units too.
+/// patterns and filters alone begins with the rows on its left. The rows before an occurrence of SERVICE are joined with those of its task, and nothing
+/// is asked for. The filters of the group are applied at its end, those that went with units too.
 ///
-/// The cause of a refusal is that of a batch of one of the plan's units. No later run is asked for then.
+/// The cause of a refusal is that of a batch of one of the tasks' units, or an occurrence of SERVICE was refused. No later run is asked for then.
 #[cycle(rows)]
 pub(crate) fn group_rows<W: Wire + Send>(
     alloc: Global,
     group: &Group,
-    plan: &[Part],
+    tasks: &[Task],
     next: &mut usize,
     endpoints: &[Endpoint],
     block: u32,
     wires: &mut [W],
-) -> Result<Vec<Solution>, FlowError>
+) -> Result<Vec<Solution>, RowsError>
     requires wired { (0 < length wires.old) × (length wires.old ≤ 16) }
     requires sendable { All (λ e. is_sendable e ≡ true) endpoints.now }
     requires block { (0 < block) × (block ≤ 64) }
-    requires asked { All (CanBeAsked (length endpoints.now)) plan.now }
-    requires alone { (group_of group.now).services ≡ 0 }
-    ensures { Asked W.tells_log W.counts_alone (map W.seen wires.old) (map W.seen wires.new) endpoints.now (units_in plan.now) block (spec.GroupGiven endpoints.now block plan.now next.old next.new group.now) (spec.GroupDue endpoints.now block plan.now next.old group.now) (solutions_in result) }
+    requires asked { All (CanBeAsked (length endpoints.now)) tasks.now }
+    ensures { Asked W.tells_log W.counts_alone (map W.seen wires.old) (map W.seen wires.new) endpoints.now tasks.now block (spec.GroupGiven endpoints.now block tasks.now next.old next.new group.now) (spec.GroupDue endpoints.now block tasks.now next.old group.now) (solutions_in result) }
 {
-    match unfiltered(alloc, group, plan, next, endpoints, block, wires) {
+    match unfiltered(alloc, group, tasks, next, endpoints, block, wires) {
         Err(error) => Err(error),
         Ok(rows) => filtered(alloc, group, rows),
     }
@@ -60,21 +57,20 @@ pub(crate) fn group_rows<W: Wire + Send>(
 fn unfiltered<W: Wire + Send>(
     alloc: Global,
     group: &Group,
-    plan: &[Part],
+    tasks: &[Task],
     next: &mut usize,
     endpoints: &[Endpoint],
     block: u32,
     wires: &mut [W],
-) -> Result<Vec<Solution>, FlowError>
+) -> Result<Vec<Solution>, RowsError>
     requires wired { (0 < length wires.old) × (length wires.old ≤ 16) }
     requires sendable { All (λ e. is_sendable e ≡ true) endpoints.now }
     requires block { (0 < block) × (block ≤ 64) }
-    requires asked { All (CanBeAsked (length endpoints.now)) plan.now }
-    requires alone { (group_of group.now).services ≡ 0 }
-    ensures { Asked W.tells_log W.counts_alone (map W.seen wires.old) (map W.seen wires.new) endpoints.now (units_in plan.now) block (spec.UnfilteredGiven endpoints.now block plan.now next.old next.new group.now) (spec.GroupDue endpoints.now block plan.now next.old group.now) (solutions_in result) }
+    requires asked { All (CanBeAsked (length endpoints.now)) tasks.now }
+    ensures { Asked W.tells_log W.counts_alone (map W.seen wires.old) (map W.seen wires.new) endpoints.now tasks.now block (spec.UnfilteredGiven endpoints.now block tasks.now next.old next.new group.now) (spec.GroupDue endpoints.now block tasks.now next.old group.now) (solutions_in result) }
 {
     let Ok(mut rows) = one_row(alloc) else {
-        return Err(FlowError::Memory);
+        return Err(RowsError::Flow(FlowError::Memory));
     };
     let mut in_run = false;
     for element in group.elements.as_slice() {
@@ -83,7 +79,7 @@ fn unfiltered<W: Wire + Send>(
             element,
             rows,
             &mut in_run,
-            plan,
+            tasks,
             next,
             endpoints,
             block,
@@ -93,7 +89,7 @@ fn unfiltered<W: Wire + Send>(
             Ok(found) => rows = found,
         }
     }
-    end_run(alloc, rows, in_run, plan, next, endpoints, block, wires)
+    end_run(alloc, rows, in_run, tasks, next, endpoints, block, wires)
 }
 
 // The rows behind an element, from those before it. A run that a triple pattern is in goes on until an operator comes, or the group ends.
@@ -103,18 +99,17 @@ fn after_element<W: Wire + Send>(
     element: &Element,
     before: Vec<Solution>,
     in_run: &mut bool,
-    plan: &[Part],
+    tasks: &[Task],
     next: &mut usize,
     endpoints: &[Endpoint],
     block: u32,
     wires: &mut [W],
-) -> Result<Vec<Solution>, FlowError>
+) -> Result<Vec<Solution>, RowsError>
     requires wired { (0 < length wires.old) × (length wires.old ≤ 16) }
     requires sendable { All (λ e. is_sendable e ≡ true) endpoints.now }
     requires block { (0 < block) × (block ≤ 64) }
-    requires asked { All (CanBeAsked (length endpoints.now)) plan.now }
-    requires alone { part_services (part_of element.now) ≡ 0 }
-    ensures { Asked W.tells_log W.counts_alone (map W.seen wires.old) (map W.seen wires.new) endpoints.now (units_in plan.now) block (spec.ElementGiven endpoints.now block plan.now next.old next.new in_run.old in_run.new element.now before.items) (spec.ElementDue endpoints.now block plan.now next.old in_run.old element.now before.items) (solutions_in result) }
+    requires asked { All (CanBeAsked (length endpoints.now)) tasks.now }
+    ensures { Asked W.tells_log W.counts_alone (map W.seen wires.old) (map W.seen wires.new) endpoints.now tasks.now block (spec.ElementGiven endpoints.now block tasks.now next.old next.new in_run.old in_run.new element.now before.items) (spec.ElementDue endpoints.now block tasks.now next.old in_run.old element.now before.items) (solutions_in result) }
 {
     if is_pattern(element) {
         *in_run = true;
@@ -123,11 +118,11 @@ fn after_element<W: Wire + Send>(
     if keeps_run(element) {
         return Ok(before);
     }
-    match end_run(alloc, before, *in_run, plan, next, endpoints, block, wires) {
+    match end_run(alloc, before, *in_run, tasks, next, endpoints, block, wires) {
         Err(error) => Err(error),
         Ok(rows) => {
             *in_run = false;
-            after_operator(alloc, element, rows, plan, next, endpoints, block, wires)
+            after_operator(alloc, element, rows, tasks, next, endpoints, block, wires)
         }
     }
 }
@@ -138,30 +133,29 @@ fn after_operator<W: Wire + Send>(
     alloc: Global,
     element: &Element,
     before: Vec<Solution>,
-    plan: &[Part],
+    tasks: &[Task],
     next: &mut usize,
     endpoints: &[Endpoint],
     block: u32,
     wires: &mut [W],
-) -> Result<Vec<Solution>, FlowError>
+) -> Result<Vec<Solution>, RowsError>
     requires wired { (0 < length wires.old) × (length wires.old ≤ 16) }
     requires sendable { All (λ e. is_sendable e ≡ true) endpoints.now }
     requires block { (0 < block) × (block ≤ 64) }
-    requires asked { All (CanBeAsked (length endpoints.now)) plan.now }
-    requires alone { part_services (part_of element.now) ≡ 0 }
-    ensures { Asked W.tells_log W.counts_alone (map W.seen wires.old) (map W.seen wires.new) endpoints.now (units_in plan.now) block (spec.OperatorGiven endpoints.now block plan.now next.old next.new element.now before.items) (spec.OperatorDue endpoints.now block plan.now next.old element.now before.items) (solutions_in result) }
+    requires asked { All (CanBeAsked (length endpoints.now)) tasks.now }
+    ensures { Asked W.tells_log W.counts_alone (map W.seen wires.old) (map W.seen wires.new) endpoints.now tasks.now block (spec.OperatorGiven endpoints.now block tasks.now next.old next.new element.now before.items) (spec.OperatorDue endpoints.now block tasks.now next.old element.now before.items) (solutions_in result) }
 {
     match element {
         Element::Triple(_) => Ok(before),
         Element::Filter(_) => Ok(before),
         Element::Optional(group) => {
-            optional(alloc, group, before, plan, next, endpoints, block, wires)
+            optional(alloc, group, before, tasks, next, endpoints, block, wires)
         }
         Element::Union(groups) => {
             match alternatives(
                 alloc,
                 groups.as_slice(),
-                plan,
+                tasks,
                 next,
                 endpoints,
                 block,
@@ -172,7 +166,7 @@ fn after_operator<W: Wire + Send>(
             }
         }
         Element::Minus(group) => {
-            match group_rows(alloc, group, plan, next, endpoints, block, wires) {
+            match group_rows(alloc, group, tasks, next, endpoints, block, wires) {
                 Err(error) => Err(error),
                 Ok(found) => lessened(alloc, before.as_slice(), found),
             }
@@ -183,7 +177,7 @@ fn after_operator<W: Wire + Send>(
             silent: _,
             iri: _,
             group: _,
-        } => Ok(before),
+        } => after_service(alloc, before.as_slice(), tasks, next),
     }
 }
 
@@ -193,23 +187,22 @@ fn optional<W: Wire + Send>(
     alloc: Global,
     group: &Group,
     before: Vec<Solution>,
-    plan: &[Part],
+    tasks: &[Task],
     next: &mut usize,
     endpoints: &[Endpoint],
     block: u32,
     wires: &mut [W],
-) -> Result<Vec<Solution>, FlowError>
+) -> Result<Vec<Solution>, RowsError>
     requires wired { (0 < length wires.old) × (length wires.old ≤ 16) }
     requires sendable { All (λ e. is_sendable e ≡ true) endpoints.now }
     requires block { (0 < block) × (block ≤ 64) }
-    requires asked { All (CanBeAsked (length endpoints.now)) plan.now }
-    requires alone { (group_of group.now).services ≡ 0 }
-    ensures { Asked W.tells_log W.counts_alone (map W.seen wires.old) (map W.seen wires.new) endpoints.now (units_in plan.now) block (spec.OperatorGiven endpoints.now block plan.now next.old next.new (Element.Optional group.now) before.items) (spec.OperatorDue endpoints.now block plan.now next.old (Element.Optional group.now) before.items) (solutions_in result) }
+    requires asked { All (CanBeAsked (length endpoints.now)) tasks.now }
+    ensures { Asked W.tells_log W.counts_alone (map W.seen wires.old) (map W.seen wires.new) endpoints.now tasks.now block (spec.OperatorGiven endpoints.now block tasks.now next.old next.new (Element.Optional group.now) before.items) (spec.OperatorDue endpoints.now block tasks.now next.old (Element.Optional group.now) before.items) (solutions_in result) }
 {
     if is_simple(group) {
-        return optional_run(alloc, group, before, plan, next, endpoints, block, wires);
+        return optional_run(alloc, group, before, tasks, next, endpoints, block, wires);
     }
-    match unfiltered(alloc, group, plan, next, endpoints, block, wires) {
+    match unfiltered(alloc, group, tasks, next, endpoints, block, wires) {
         Err(error) => Err(error),
         Ok(found) => left_joined(alloc, before.as_slice(), found, group),
     }
@@ -220,26 +213,25 @@ fn optional<W: Wire + Send>(
 fn alternatives<W: Wire + Send>(
     alloc: Global,
     groups: &[Group],
-    plan: &[Part],
+    tasks: &[Task],
     next: &mut usize,
     endpoints: &[Endpoint],
     block: u32,
     wires: &mut [W],
-) -> Result<Vec<Solution>, FlowError>
+) -> Result<Vec<Solution>, RowsError>
     requires wired { (0 < length wires.old) × (length wires.old ≤ 16) }
     requires sendable { All (λ e. is_sendable e ≡ true) endpoints.now }
     requires block { (0 < block) × (block ≤ 64) }
-    requires asked { All (CanBeAsked (length endpoints.now)) plan.now }
-    requires alone { groups_services (map group_of groups.now) ≡ 0 }
-    ensures { Asked W.tells_log W.counts_alone (map W.seen wires.old) (map W.seen wires.new) endpoints.now (units_in plan.now) block (spec.AlternativesGiven endpoints.now block plan.now next.old next.new groups.now) (spec.AlternativesDue endpoints.now block plan.now next.old groups.now) (solutions_in result) }
+    requires asked { All (CanBeAsked (length endpoints.now)) tasks.now }
+    ensures { Asked W.tells_log W.counts_alone (map W.seen wires.old) (map W.seen wires.new) endpoints.now tasks.now block (spec.AlternativesGiven endpoints.now block tasks.now next.old next.new groups.now) (spec.AlternativesDue endpoints.now block tasks.now next.old groups.now) (solutions_in result) }
 {
     let mut rows = Vec::new(alloc);
     for group in groups {
-        match group_rows(alloc, group, plan, next, endpoints, block, wires) {
+        match group_rows(alloc, group, tasks, next, endpoints, block, wires) {
             Err(error) => return Err(error),
             Ok(mut found) => {
                 if rows.append(&mut found).is_err() {
-                    return Err(FlowError::Memory);
+                    return Err(RowsError::Flow(FlowError::Memory));
                 }
             }
         }
@@ -252,18 +244,18 @@ fn optional_run<W: Wire + Send>(
     alloc: Global,
     group: &Group,
     before: Vec<Solution>,
-    plan: &[Part],
+    tasks: &[Task],
     next: &mut usize,
     endpoints: &[Endpoint],
     block: u32,
     wires: &mut [W],
-) -> Result<Vec<Solution>, FlowError>
+) -> Result<Vec<Solution>, RowsError>
     requires wired { (0 < length wires.old) × (length wires.old ≤ 16) }
     requires sendable { All (λ e. is_sendable e ≡ true) endpoints.now }
     requires block { (0 < block) × (block ≤ 64) }
-    requires asked { All (CanBeAsked (length endpoints.now)) plan.now }
+    requires asked { All (CanBeAsked (length endpoints.now)) tasks.now }
     requires simple { (group_of group.now).is_simple ≡ true }
-    ensures { Asked W.tells_log W.counts_alone (map W.seen wires.old) (map W.seen wires.new) endpoints.now (units_in plan.now) block (spec.OperatorGiven endpoints.now block plan.now next.old next.new (Element.Optional group.now) before.items) (spec.OperatorDue endpoints.now block plan.now next.old (Element.Optional group.now) before.items) (solutions_in result) }
+    ensures { Asked W.tells_log W.counts_alone (map W.seen wires.old) (map W.seen wires.new) endpoints.now tasks.now block (spec.OperatorGiven endpoints.now block tasks.now next.old next.new (Element.Optional group.now) before.items) (spec.OperatorDue endpoints.now block tasks.now next.old (Element.Optional group.now) before.items) (solutions_in result) }
 {
     known_to_rise(before.as_slice());
     if !has_pattern(group) {
@@ -272,7 +264,7 @@ fn optional_run<W: Wire + Send>(
     match after_run(
         alloc,
         before.as_slice(),
-        plan,
+        tasks,
         next,
         endpoints,
         block,
@@ -283,34 +275,38 @@ fn optional_run<W: Wire + Send>(
     }
 }
 
-// What comes of the run whose part of the plan is next, from these rows on: they are numbered from 0. Where one of its patterns has no source,
+// What comes of the run whose task is next, from these rows on: they are numbered from 0. Where one of its patterns has no source,
 // nothing does, and nothing is asked for.
 fn after_run<W: Wire + Send>(
     alloc: Global,
     rows: &[Solution],
-    plan: &[Part],
+    tasks: &[Task],
     next: &mut usize,
     endpoints: &[Endpoint],
     block: u32,
     wires: &mut [W],
-) -> Result<Vec<Row>, FlowError>
+) -> Result<Vec<Row>, RowsError>
     requires wired { (0 < length wires.old) × (length wires.old ≤ 16) }
     requires sendable { All (λ e. is_sendable e ≡ true) endpoints.now }
     requires block { (0 < block) × (block ≤ 64) }
-    requires asked { All (CanBeAsked (length endpoints.now)) plan.now }
-    ensures { Asked W.tells_log W.counts_alone (map W.seen wires.old) (map W.seen wires.new) endpoints.now (units_in plan.now) block (spec.RunGiven endpoints.now block plan.now next.old next.new rows.now) (spec.RunDue endpoints.now block plan.now next.old rows.now) (rows_in result) }
+    requires asked { All (CanBeAsked (length endpoints.now)) tasks.now }
+    ensures { Asked W.tells_log W.counts_alone (map W.seen wires.old) (map W.seen wires.new) endpoints.now tasks.now block (spec.RunGiven endpoints.now block tasks.now next.old next.new rows.now) (spec.RunDue endpoints.now block tasks.now next.old rows.now) (found_in result) }
 {
-    if *next >= plan.len() {
+    if *next >= tasks.len() {
         return Ok(Vec::new(alloc));
     }
-    let part = &plan[*next];
+    let task = &tasks[*next];
     *next += 1;
-    match part {
-        Part::Run { units, bound: _ } => {
-            run_flow(alloc, endpoints, units.as_slice(), rows, block, wires)
+    match task {
+        Task::Run { units } => {
+            match run_flow(alloc, endpoints, units.as_slice(), rows, block, wires) {
+                Err(error) => Err(RowsError::Flow(error)),
+                Ok(found) => Ok(found),
+            }
         }
-        Part::EmptyRun => Ok(Vec::new(alloc)),
-        Part::Service { iri: _ } => Ok(Vec::new(alloc)),
+        Task::EmptyRun => Ok(Vec::new(alloc)),
+        Task::Service { rows: _ } => Ok(Vec::new(alloc)),
+        Task::Refused => Ok(Vec::new(alloc)),
     }
 }
 
@@ -319,17 +315,17 @@ fn end_run<W: Wire + Send>(
     alloc: Global,
     before: Vec<Solution>,
     in_run: bool,
-    plan: &[Part],
+    tasks: &[Task],
     next: &mut usize,
     endpoints: &[Endpoint],
     block: u32,
     wires: &mut [W],
-) -> Result<Vec<Solution>, FlowError>
+) -> Result<Vec<Solution>, RowsError>
     requires wired { (0 < length wires.old) × (length wires.old ≤ 16) }
     requires sendable { All (λ e. is_sendable e ≡ true) endpoints.now }
     requires block { (0 < block) × (block ≤ 64) }
-    requires asked { All (CanBeAsked (length endpoints.now)) plan.now }
-    ensures { Asked W.tells_log W.counts_alone (map W.seen wires.old) (map W.seen wires.new) endpoints.now (units_in plan.now) block (spec.EndGiven endpoints.now block plan.now next.old next.new in_run before.items) (spec.EndDue endpoints.now block plan.now next.old in_run before.items) (solutions_in result) }
+    requires asked { All (CanBeAsked (length endpoints.now)) tasks.now }
+    ensures { Asked W.tells_log W.counts_alone (map W.seen wires.old) (map W.seen wires.new) endpoints.now tasks.now block (spec.EndGiven endpoints.now block tasks.now next.old next.new in_run before.items) (spec.EndDue endpoints.now block tasks.now next.old in_run before.items) (solutions_in result) }
 {
     if !in_run {
         return Ok(before);
@@ -338,7 +334,7 @@ fn end_run<W: Wire + Send>(
     match after_run(
         alloc,
         before.as_slice(),
-        plan,
+        tasks,
         next,
         endpoints,
         block,
@@ -350,6 +346,28 @@ fn end_run<W: Wire + Send>(
 }
 
 // ---- without requests
+
+// The rows behind an occurrence of SERVICE whose task is next, from those before it: these with its rows, unless it was refused.
+fn after_service(
+    alloc: Global,
+    before: &[Solution],
+    tasks: &[Task],
+    next: &mut usize,
+) -> Result<Vec<Solution>, RowsError>
+    ensures { spec.IsBehindService tasks.now next.old next.new before.now (solutions_in result) }
+{
+    if *next >= tasks.len() {
+        return Ok(Vec::new(alloc));
+    }
+    let task = &tasks[*next];
+    *next += 1;
+    match task {
+        Task::Run { units: _ } => Ok(Vec::new(alloc)),
+        Task::EmptyRun => Ok(Vec::new(alloc)),
+        Task::Service { rows } => with_rows(alloc, before, rows.as_slice()),
+        Task::Refused => Err(RowsError::Refused),
+    }
+}
 
 // The one empty solution.
 pub(crate) fn one_row(alloc: Global) -> Result<Vec<Solution>, Memory>
@@ -402,30 +420,30 @@ fn has_pattern(group: &Group) -> bool
 }
 
 // The solutions of rows.
-fn solutions(alloc: Global, rows: Vec<Row>) -> Result<Vec<Solution>, FlowError>
+fn solutions(alloc: Global, rows: Vec<Row>) -> Result<Vec<Solution>, RowsError>
     ensures given { IfOk result (λ solutions. solutions.items ≡ solutions_of rows.items) }
-    ensures memory { IfErr result (λ e. e ≡ FlowError.Memory) }
+    ensures memory { IfErr result (λ e. e ≡ RowsError.Flow FlowError.Memory) }
 {
     let mut solutions = Vec::new(alloc);
     for row in rows {
         if solutions.push(row.solution).is_err() {
-            return Err(FlowError::Memory);
+            return Err(RowsError::Flow(FlowError::Memory));
         }
     }
     Ok(solutions)
 }
 
 // The rows on which the filters of a group hold.
-fn filtered(alloc: Global, group: &Group, rows: Vec<Solution>) -> Result<Vec<Solution>, FlowError>
+fn filtered(alloc: Global, group: &Group, rows: Vec<Solution>) -> Result<Vec<Solution>, RowsError>
     ensures given { IfOk result (λ kept. kept.items ≡ filtered_of (group_of group.now).filters rows.items) }
-    ensures memory { IfErr result (λ e. e ≡ FlowError.Memory) }
+    ensures memory { IfErr result (λ e. e ≡ RowsError.Flow FlowError.Memory) }
 {
     let Ok(filters) = filters_of(alloc, group) else {
-        return Err(FlowError::Memory);
+        return Err(RowsError::Flow(FlowError::Memory));
     };
     match filter(alloc, rows.as_slice(), filters.as_slice()) {
         Ok(kept) => Ok(kept),
-        Err(Memory) => Err(FlowError::Memory),
+        Err(Memory) => Err(RowsError::Flow(FlowError::Memory)),
     }
 }
 
@@ -433,13 +451,28 @@ fn joined(
     alloc: Global,
     before: &[Solution],
     found: Vec<Solution>,
-) -> Result<Vec<Solution>, FlowError>
+) -> Result<Vec<Solution>, RowsError>
     ensures given { IfOk result (λ rows. IsPermutation (join_of before.now found.items) rows.items) }
-    ensures memory { IfErr result (λ e. e ≡ FlowError.Memory) }
+    ensures memory { IfErr result (λ e. e ≡ RowsError.Flow FlowError.Memory) }
 {
     match join_with(alloc, before, found) {
         Ok(rows) => Ok(rows),
-        Err(Memory) => Err(FlowError::Memory),
+        Err(Memory) => Err(RowsError::Flow(FlowError::Memory)),
+    }
+}
+
+// The join with rows that are kept.
+fn with_rows(
+    alloc: Global,
+    before: &[Solution],
+    found: &[Solution],
+) -> Result<Vec<Solution>, RowsError>
+    ensures given { IfOk result (λ rows. IsPermutation (join_of before.now found.now) rows.items) }
+    ensures memory { IfErr result (λ e. e ≡ RowsError.Flow FlowError.Memory) }
+{
+    match join(alloc, before, found) {
+        Ok(rows) => Ok(rows),
+        Err(Memory) => Err(RowsError::Flow(FlowError::Memory)),
     }
 }
 
@@ -447,13 +480,13 @@ fn lessened(
     alloc: Global,
     before: &[Solution],
     found: Vec<Solution>,
-) -> Result<Vec<Solution>, FlowError>
+) -> Result<Vec<Solution>, RowsError>
     ensures given { IfOk result (λ rows. rows.items ≡ minus_of before.now found.items) }
-    ensures memory { IfErr result (λ e. e ≡ FlowError.Memory) }
+    ensures memory { IfErr result (λ e. e ≡ RowsError.Flow FlowError.Memory) }
 {
     match minus_with(alloc, before, found) {
         Ok(rows) => Ok(rows),
-        Err(Memory) => Err(FlowError::Memory),
+        Err(Memory) => Err(RowsError::Flow(FlowError::Memory)),
     }
 }
 
@@ -462,13 +495,13 @@ fn extended(
     before: &[Solution],
     name: &Name,
     expr: &Expr,
-) -> Result<Vec<Solution>, FlowError>
+) -> Result<Vec<Solution>, RowsError>
     ensures given { IfOk result (λ rows. rows.items ≡ extend_of before.now name.now expr.now) }
-    ensures memory { IfErr result (λ e. e ≡ FlowError.Memory) }
+    ensures memory { IfErr result (λ e. e ≡ RowsError.Flow FlowError.Memory) }
 {
     match extend(alloc, before, name, expr) {
         Ok(rows) => Ok(rows),
-        Err(Memory) => Err(FlowError::Memory),
+        Err(Memory) => Err(RowsError::Flow(FlowError::Memory)),
     }
 }
 
@@ -476,13 +509,13 @@ fn with_inline(
     alloc: Global,
     before: &[Solution],
     inline: &Inline,
-) -> Result<Vec<Solution>, FlowError>
+) -> Result<Vec<Solution>, RowsError>
     ensures given { IfOk result (λ rows. IsPermutation (join_of before.now (inline_rows_of inline.now)) rows.items) }
-    ensures memory { IfErr result (λ e. e ≡ FlowError.Memory) }
+    ensures memory { IfErr result (λ e. e ≡ RowsError.Flow FlowError.Memory) }
 {
     match inline_rows(alloc, inline) {
         Ok(found) => joined(alloc, before, found),
-        Err(Memory) => Err(FlowError::Memory),
+        Err(Memory) => Err(RowsError::Flow(FlowError::Memory)),
     }
 }
 
@@ -492,16 +525,16 @@ fn left_joined(
     before: &[Solution],
     found: Vec<Solution>,
     group: &Group,
-) -> Result<Vec<Solution>, FlowError>
+) -> Result<Vec<Solution>, RowsError>
     ensures given { IfOk result (λ rows. IsPermutation (left_join_of before.now found.items (group_of group.now).filters) rows.items) }
-    ensures memory { IfErr result (λ e. e ≡ FlowError.Memory) }
+    ensures memory { IfErr result (λ e. e ≡ RowsError.Flow FlowError.Memory) }
 {
     let Ok(filters) = filters_of(alloc, group) else {
-        return Err(FlowError::Memory);
+        return Err(RowsError::Flow(FlowError::Memory));
     };
     match left_join_with(alloc, before, found, filters.as_slice()) {
         Ok(rows) => Ok(rows),
-        Err(Memory) => Err(FlowError::Memory),
+        Err(Memory) => Err(RowsError::Flow(FlowError::Memory)),
     }
 }
 
@@ -510,13 +543,13 @@ fn filters_alone(
     alloc: Global,
     before: &[Solution],
     group: &Group,
-) -> Result<Vec<Solution>, FlowError>
+) -> Result<Vec<Solution>, RowsError>
     ensures given { IfOk result (λ rows. IsPermutation (left_join_of before.now ([] ∷ []) (group_of group.now).filters) rows.items) }
-    ensures memory { IfErr result (λ e. e ≡ FlowError.Memory) }
+    ensures memory { IfErr result (λ e. e ≡ RowsError.Flow FlowError.Memory) }
 {
     match one_row(alloc) {
         Ok(one) => left_joined(alloc, before, one, group),
-        Err(Memory) => Err(FlowError::Memory),
+        Err(Memory) => Err(RowsError::Flow(FlowError::Memory)),
     }
 }
 
@@ -526,15 +559,15 @@ fn with_optional(
     group: &Group,
     before: Vec<Solution>,
     found: Vec<Row>,
-) -> Result<Vec<Solution>, FlowError>
+) -> Result<Vec<Solution>, RowsError>
     ensures given { IfOk result (λ rows. rows.items ≡ optional_rows (group_of group.now).filters 0 before.items found.items) }
-    ensures memory { IfErr result (λ e. e ≡ FlowError.Memory) }
+    ensures memory { IfErr result (λ e. e ≡ RowsError.Flow FlowError.Memory) }
 {
     let Ok(filters) = filters_of(alloc, group) else {
-        return Err(FlowError::Memory);
+        return Err(RowsError::Flow(FlowError::Memory));
     };
     match or_themselves(alloc, before, found, filters.as_slice()) {
         Ok(rows) => Ok(rows),
-        Err(Memory) => Err(FlowError::Memory),
+        Err(Memory) => Err(RowsError::Flow(FlowError::Memory)),
     }
 }

@@ -6,14 +6,17 @@ mod asks;
 mod choices;
 mod fault_texts;
 mod groups;
+mod invocations;
 pub mod laws;
 pub mod mediator;
 mod noted;
 mod optionals;
+mod outcomes;
 mod parts;
 mod planning;
 mod sections;
 mod services;
+mod tasks;
 mod unknown;
 
 pub use fault_texts::{fault_code, fault_words};

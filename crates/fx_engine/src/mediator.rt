@@ -1,11 +1,10 @@
 //! The mediator over several wires: the answer of a query over the union of the graphs of a registry's endpoints, and its plan.
 ghost use Rattle.std.specs.Prelude.{◌≡◌, ◌<◌, ◌≤◌, [], None, length, map, string_bytes, IfOk};
-ghost use Rattle.fx_algebra.specs.Occurrences.{services};
 ghost use Rattle.fx_engine.specs.Unknown.{unknown_of};
 ghost use Rattle.fx_engine.specs.Mediation.{Federated, HasName, IsNamed, IsPlaced, IsSpellable, Planned, parts_in};
 
-use crate::answers::answer_by_plan;
 use crate::choices::{Choice, choose_parts};
+use crate::outcomes::outcome_by_plan;
 use crate::unknown::unknown_service;
 use fx_algebra::{Answer, Query};
 use fx_outside::Endpoint;
@@ -90,6 +89,8 @@ impl MemberName {
 pub enum FedError {
     /// An exchange with the endpoint failed, and was counted as a fault at its address.
     Member { name: MemberName },
+    /// The exchange for a SERVICE without SILENT failed, and was counted as a fault at the address that is its IRI.
+    Service { iri: Iri },
     /// A reply of the endpoint is bad.
     BadReply { name: MemberName, bad: BadReply },
     /// A text for the endpoint has more than 67,108,864 bytes, so many, and wasn't sent.
@@ -100,12 +101,17 @@ pub enum FedError {
     Memory,
 }
 
-/// The answer of a query without SERVICE over the union of the graphs of the registry's endpoints, as if they were one graph.
+/// The answer of a query over the union of the graphs of the registry's endpoints, as if they were one graph.
 ///
-/// First each endpoint is asked which triple patterns fit its graph, unless the cache holds the answer. The endpoints whose graphs a pattern fits are its
-/// sources. The patterns of a run whose only source is one and the same endpoint are asked for together, each other pattern by itself, in the order
-/// of the plan that `plan_parts` gives, in batches of at most `block` rows. A run in which a pattern has no source is empty, and nothing more is asked
-/// for it. The errors come as `FedError` says.
+/// First each endpoint is asked which triple patterns outside SERVICE fit its graph, unless the cache holds the answer. The endpoints whose graphs a pattern
+/// fits are its sources. Then each occurrence of SERVICE is invoked, once, in text order: its group is asked for by one text, which goes to the endpoint that
+/// has its IRI as its address. Then the runs are asked for in text order. The patterns of a run whose only source is one and the same endpoint are asked for
+/// together, each other pattern by itself, in the order of the plan that `plan_parts` gives, in batches of at most `block` rows. A run in which a pattern
+/// has no source is empty, and nothing more is asked for it.
+///
+/// An occurrence of SERVICE SILENT whose exchange fails, whose reply is bad, whose text is too long or whose IRI is unknown gives the one empty solution,
+/// and is listed as down. A SERVICE without SILENT has to name an endpoint: `UnknownService` has the first that doesn't, before anything is asked; and its
+/// failure is the refusal, behind that of a run before it in the text. The errors come as `FedError` says.
 ///
 /// The cache learns after the last exchange. After a refusal it is as before; after want of memory each of its entries was there before, or is one
 /// of this call's answers.
@@ -120,7 +126,28 @@ pub fn federate<W: Wire + Send>(
     requires wired { (0 < length wires.old) × (length wires.old ≤ 16) }
     requires block { (0 < options.block) × (options.block ≤ 64) }
     requires spellable { IsSpellable query.now }
-    requires alone { services query.now ≡ [] }
+    ensures { Federated W.tells_log W.counts_alone (map W.seen wires.old) (map W.seen wires.new) registry.now query.now cache.old cache.new options.block result }
+{
+    match unknown_service(alloc, query, registry) {
+        Err(Memory) => Err(FedError::Memory),
+        Ok(Some(iri)) => Err(FedError::UnknownService { iri }),
+        Ok(None) => federate_known(alloc, query, registry, cache, options, wires),
+    }
+}
+
+// The same, where each SERVICE without SILENT names an endpoint.
+fn federate_known<W: Wire + Send>(
+    alloc: Global,
+    query: &Query,
+    registry: &Registry,
+    cache: &mut AskCache,
+    options: Options,
+    wires: &mut [W],
+) -> Result<Outcome, FedError>
+    requires wired { (0 < length wires.old) × (length wires.old ≤ 16) }
+    requires block { (0 < options.block) × (options.block ≤ 64) }
+    requires spellable { IsSpellable query.now }
+    requires known { unknown_of registry.now query.now ≡ None }
     ensures { Federated W.tells_log W.counts_alone (map W.seen wires.old) (map W.seen wires.new) registry.now query.now cache.old cache.new options.block result }
 {
     match choose_parts(alloc, query, registry, cache, wires) {
@@ -131,21 +158,11 @@ pub fn federate<W: Wire + Send>(
                 truths,
                 parts,
             },
-        ) => match answer_by_plan(
-            alloc,
-            query,
-            parts.as_slice(),
-            registry.endpoints(),
-            options.block,
-            wires,
-        ) {
-            Err(error) => Err(named(alloc, registry.endpoints(), error)),
-            Ok(answer) => match cache.learn(probes, truths.as_slice()) {
+        ) => match outcome_by_plan(alloc, query, parts, registry, options.block, wires) {
+            Err(error) => Err(error),
+            Ok(outcome) => match cache.learn(probes, truths.as_slice()) {
                 Err(Memory) => Err(FedError::Memory),
-                Ok(()) => Ok(Outcome {
-                    answer,
-                    down: Items::new(alloc),
-                }),
+                Ok(()) => Ok(outcome),
             },
         },
     }
@@ -204,7 +221,7 @@ fn plan_known<W: Wire + Send>(
 }
 
 // The refusal, with the name of the endpoint in place of its number.
-fn named(alloc: Global, endpoints: &[Endpoint], error: FlowError) -> FedError
+pub(crate) fn named(alloc: Global, endpoints: &[Endpoint], error: FlowError) -> FedError
     requires { IsPlaced (length endpoints.now) error }
     ensures { IsNamed endpoints.now error result }
 {
@@ -225,7 +242,7 @@ fn named(alloc: Global, endpoints: &[Endpoint], error: FlowError) -> FedError
     }
 }
 
-fn name_at(alloc: Global, endpoints: &[Endpoint], at: u32) -> Result<MemberName, Memory>
+pub(crate) fn name_at(alloc: Global, endpoints: &[Endpoint], at: u32) -> Result<MemberName, Memory>
     requires { at < length endpoints.now }
     ensures { IfOk result (HasName endpoints.now at) }
 {

@@ -3,8 +3,11 @@
 ghost use Rattle.std.specs.Prelude.{◌≡◌, ◌<◌, ◌≤◌, IfSome, length};
 ghost use Rattle.fx_engine.specs.Mediation.{IsSpellable};
 
-use fx_algebra::{Query, services};
-use fx_engine::{FedError, Options, federate, plan_parts};
+use fx_algebra::Query;
+use fx_engine::{
+    Down, DownCause, FedError, Options, Outcome, ReplyFault, fault_code, fault_words, federate,
+    plan_parts,
+};
 use fx_member::{FaultWire, GraphWire};
 use fx_notation::{escapes, notation, shown};
 use fx_plan::explain;
@@ -83,13 +86,44 @@ fn answered_by<W: Wire + Send>(
     requires wired { (0 < length wires.old) × (length wires.old ≤ 16) }
     requires spellable { IsSpellable query.now }
 {
-    let occurrences = services(alloc, query).ok()?;
-    if !occurrences.is_empty() || block == 0 || block > 64 {
+    if block == 0 || block > 64 {
         return None;
     }
     match federate(alloc, query, registry, cache, Options { block }, wires) {
-        Ok(outcome) => shown::answer(alloc, &outcome.answer),
+        Ok(outcome) => outcome_text(alloc, &outcome),
         Err(error) => refusal_text(alloc, &error),
+    }
+}
+
+// The answer, and behind it each SERVICE that is down.
+fn outcome_text(alloc: Global, outcome: &Outcome) -> Option<String> {
+    let mut text = shown::answer(alloc, &outcome.answer)?;
+    for down in outcome.down.as_slice() {
+        push_down(&mut text, down)?;
+    }
+    Some(text)
+}
+
+fn push_down(text: &mut String, down: &Down) -> Option<()> {
+    let (place, iri) = (down.place, down.iri.text());
+    write!(text, " down {place} {iri} ").ok()?;
+    push_cause(text, &down.why)
+}
+
+fn push_cause(text: &mut String, why: &DownCause) -> Option<()> {
+    match why {
+        DownCause::Failed => text.push_str("Failed").ok(),
+        DownCause::Bad(bad) => push_fault(text, bad.why),
+        DownCause::TooLong { length } => write!(text, "TooLong {length}").ok(),
+        DownCause::Unknown => text.push_str("Unknown").ok(),
+    }
+}
+
+fn push_fault(text: &mut String, why: ReplyFault) -> Option<()> {
+    let words = fault_words(why);
+    match fault_code(why) {
+        None => write!(text, "Bad {words}").ok(),
+        Some(code) => write!(text, "Bad {words} {code}").ok(),
     }
 }
 
@@ -170,6 +204,10 @@ fn refusal_text(alloc: Global, refusal: &FedError) -> Option<String> {
         FedError::Member { name } => {
             let name = name.as_str();
             format!(in alloc; "member {name} failed").ok()
+        }
+        FedError::Service { iri } => {
+            let iri = iri.text();
+            format!(in alloc; "service {iri} failed").ok()
         }
         FedError::BadReply { name, bad: _ } => {
             let name = name.as_str();

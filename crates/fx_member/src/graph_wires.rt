@@ -136,7 +136,7 @@ fn stores_of(alloc: Global, graphs: Vec<(Iri, Graph)>) -> Result<Vec<(Iri, Store
 {
     let mut stores = Vec::with_capacity(alloc, graphs.len())?;
     for (address, graph) in graphs {
-        stores.push((address, Store::load(graph)?))?;
+        stores.push((address, Store::load(alloc, graph)?))?;
     }
     Ok(stores)
 }
@@ -153,8 +153,7 @@ fn front_of_reply(
     ensures honest { IfOk result (λ reply. length reply.items < most → IsHonest store.now request.now reply.items) }
     ensures served { IfOk result (λ reply. spec.IsFrontServed (Some store.now) request.now most reply.items) }
 {
-    // Its contract tells that it holds a graph.
-    let _triples = store.triples();
+    store.known();
     let mut link = link_with(alloc, request)?;
     let whole = prepare(alloc, store, &mut link)?;
     let front = front(alloc, whole.bytes, most)?;

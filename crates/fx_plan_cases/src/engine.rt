@@ -4,8 +4,11 @@
 ghost use Rattle.std.specs.Prelude.{◌≡◌, ◌<◌, ◌≤◌, IfSome, length};
 ghost use Rattle.fx_engine.specs.Mediation.{IsSpellable};
 
-use fx_algebra::{Answer, Query, Solution, services};
-use fx_engine::{FedError, Options, ReplyFault, fault_code, fault_words, federate, plan_parts};
+use fx_algebra::{Answer, Query, Solution};
+use fx_engine::{
+    Down, DownCause, FedError, Options, Outcome, ReplyFault, fault_code, fault_words, federate,
+    plan_parts,
+};
 use fx_notation::escapes;
 use fx_plan::explain;
 use fx_print::print;
@@ -103,7 +106,6 @@ fn answered(
     }
 }
 
-// The same; nothing where the query has a SERVICE.
 fn answered_by(
     alloc: Global,
     query: &Query,
@@ -114,12 +116,8 @@ fn answered_by(
     requires wired { (0 < length wires.old) × (length wires.old ≤ 16) }
     requires spellable { IsSpellable query.now }
 {
-    let occurrences = services(alloc, query).ok()?;
-    if !occurrences.is_empty() {
-        return None;
-    }
     match federate(alloc, query, registry, cache, Options { block: 15 }, wires) {
-        Ok(outcome) => answer_text(alloc, &outcome.answer),
+        Ok(outcome) => outcome_text(alloc, &outcome),
         Err(error) => refusal_text(alloc, &error),
     }
 }
@@ -174,6 +172,10 @@ fn refusal_text(alloc: Global, refusal: &FedError) -> Option<String> {
             let name = name.as_str();
             format!(in alloc; "member {name} failed").ok()
         }
+        FedError::Service { iri } => {
+            let iri = iri.text();
+            format!(in alloc; "service {iri} failed").ok()
+        }
         FedError::BadReply { name, bad } => fault_text(alloc, name.as_str(), bad.why),
         FedError::RequestTooLong { name, length } => {
             let name = name.as_str();
@@ -192,6 +194,38 @@ fn fault_text(alloc: Global, name: &str, why: ReplyFault) -> Option<String> {
     match fault_code(why) {
         None => format!(in alloc; "bad reply from {name}: {words}").ok(),
         Some(code) => format!(in alloc; "bad reply from {name}: {words} {code}").ok(),
+    }
+}
+
+// The answer, and behind it each SERVICE that is down.
+fn outcome_text(alloc: Global, outcome: &Outcome) -> Option<String> {
+    let mut text = answer_text(alloc, &outcome.answer)?;
+    for down in outcome.down.as_slice() {
+        push_down(&mut text, down)?;
+    }
+    Some(text)
+}
+
+fn push_down(text: &mut String, down: &Down) -> Option<()> {
+    let (place, iri) = (down.place, down.iri.text());
+    write!(text, " down {place} {iri} ").ok()?;
+    push_cause(text, &down.why)
+}
+
+fn push_cause(text: &mut String, why: &DownCause) -> Option<()> {
+    match why {
+        DownCause::Failed => text.push_str("Failed").ok(),
+        DownCause::Bad(bad) => push_fault(text, bad.why),
+        DownCause::TooLong { length } => write!(text, "TooLong {length}").ok(),
+        DownCause::Unknown => text.push_str("Unknown").ok(),
+    }
+}
+
+fn push_fault(text: &mut String, why: ReplyFault) -> Option<()> {
+    let words = fault_words(why);
+    match fault_code(why) {
+        None => write!(text, "Bad {words}").ok(),
+        Some(code) => write!(text, "Bad {words} {code}").ok(),
     }
 }
 

@@ -26,7 +26,7 @@ use Rattle.fx_algebra.specs.BasicGraphPatterns.{parts_of, forced, value_of, boun
 use Rattle.fx_algebra.proofs.ForcedLemmas.{Extends, IsForced, forced_is, of_outcome, same_value}
 use Rattle.fx_algebra.proofs.JoinLemmas.{find-merge}
 use Rattle.fx_algebra.proofs.PairLemmas.{rises_with, rises_merge}
-use Rattle.fx_store.specs.Lookups.{against, place_by_predicate, place, is_or_free, is_one_variable, fits_subject, fits_predicate, fits_object, with_part, added, candidates}
+use Rattle.fx_store.specs.Lookups.{is_or_free, is_one_variable, fits_subject, fits_predicate, fits_object, with_part, added, has_parts, known_of}
 
 -- ---- tests
 
@@ -231,7 +231,7 @@ forced_added row cs up h = merged_parts row [] cs up h
 
 -- ---- the triples that may fit
 
-pub only_these : {X Y : Type 0} (f : X → Option Y) (q : X → Bool) (xs : List X) → ((x : X) → q x ≡ false → f x ≡ None) → filter_map f (filter q xs) ≡ filter_map f xs
+only_these : {X Y : Type 0} (f : X → Option Y) (q : X → Bool) (xs : List X) → ((x : X) → q x ≡ false → f x ≡ None) → filter_map f (filter q xs) ≡ filter_map f xs
 only_these f q [] h = refl
 only_these f q (x ∷ xs) h = pick (q x) refl (only_these f q xs h)
   where
@@ -243,46 +243,45 @@ value_kept : (s r : Bindings) (part : PatternTerm) (term : Term) → Extends s r
 value_kept s r (Variable name) term x e = x.has name term e
 value_kept s r (Constant constant) term x e = e
 
--- a part of a triple that fits is the pattern's value, where that is known
-pub against_known : (row r : Bindings) (part : PatternTerm) (term : Term) (value : Option Term) → Extends row r → value_of r part ≡ Some term → value_of row part ≡ value → against term value ≡ Equal
-against_known row r part term None x e f = refl
-against_known row r part term (Some v) x e f =
+-- a part of a triple that fits is the pattern's, where that is known
+has_part : (row r : Bindings) (part : PatternTerm) (term : Term) (value : Option Term) → Extends row r → value_of r part ≡ Some term → value_of row part ≡ value → is_or_free value term ≡ true
+has_part row r part term None x e f = refl
+has_part row r part term (Some v) x e f =
     let same : term ≡ v = same_value term v (sym e ∙ value_kept row r part v x f) in
-    ap (term_cmp term) (sym same) ∙ tied_itself terms_total term
+    ap (λ w. is_eq (term_cmp w term)) (sym same) ∙ ap is_eq (tied_itself terms_total term)
 
-predicate_place : (row r : Bindings) (p : Pattern) (t : Triple) (predicate : Option Term) → Extends row r → value_of r p.predicate ≡ Some (Iri t.predicate) → value_of r p.object ≡ Some t.object → value_of row p.predicate ≡ predicate
-    → place_by_predicate predicate (value_of row p.object) t ≡ Equal
-predicate_place row r p t None x e g f = refl
-predicate_place row r p t (Some v) x e g f =
-    ap (λ o. ordering_then o (against t.object (value_of row p.object))) (against_known row r p.predicate (Iri t.predicate) (Some v) x e f)
-    ∙ against_known row r p.object t.object (value_of row p.object) x g refl
+three : (a b c : Bool) → a ≡ true → b ≡ true → c ≡ true → (a && (b && c)) ≡ true
+three a b c e f g = ap (λ v. v && (b && c)) e ∙ ap (λ v. v && c) f ∙ g
 
--- a triple that fits has the place that the known parts have
-fit_place : (row r : Bindings) (p : Pattern) (t : Triple) (subject : Term) → value_of row p.subject ≡ Some subject → forced row (parts_of p t) ≡ Some r → place subject (value_of row p.predicate) (value_of row p.object) t ≡ Equal
-fit_place row r p t subject f e =
+-- a triple that fits has the parts that are known
+has_parts_if : (row r : Bindings) (p : Pattern) (t : Triple) → forced row (parts_of p t) ≡ Some r → has_parts (known_of p row) t ≡ true
+has_parts_if row r p t e =
     let is : IsForced row (parts_of p t) r = of_outcome (IsForced row (parts_of p t)) (forced row (parts_of p t)) r e (forced_is row (parts_of p t)) in
-    ap (λ o. ordering_then o (place_by_predicate (value_of row p.predicate) (value_of row p.object) t)) (against_known row r p.subject (Iri t.subject) (Some subject) is.extends is.values.0 f)
-    ∙ predicate_place row r p t (value_of row p.predicate) is.extends is.values.1.0 is.values.1.1.0 refl
+    three _ _ _
+    (has_part row r p.subject (Iri t.subject) (value_of row p.subject) is.extends is.values.0 refl)
+    (has_part row r p.predicate (Iri t.predicate) (value_of row p.predicate) is.extends is.values.1.0 refl)
+    (has_part row r p.object t.object (value_of row p.object) is.extends is.values.1.1.0 refl)
 
-pub none_elsewhere : (o : Option Bindings) (place : Ordering) → is_eq place ≡ false → ((r : Bindings) → o ≡ Some r → place ≡ Equal) → o ≡ None
-none_elsewhere None place e h = refl
-none_elsewhere (Some r) place e h = let same : place ≡ Equal = h r refl in cc
+none_unless : (o : Option Bindings) (b : Bool) → b ≡ false → ((r : Bindings) → o ≡ Some r → b ≡ true) → o ≡ None
+none_unless None b e h = refl
+none_unless (Some r) b e h = let other : b ≡ true = h r refl in cc
 
-fitting_at : (row : Bindings) (p : Pattern) (graph : List Triple) (subject : Option Term) → value_of row p.subject ≡ subject
-    → filter_map (λ t. forced row (parts_of p t)) (candidates graph subject (value_of row p.predicate) (value_of row p.object)) ≡ filter_map (λ t. forced row (parts_of p t)) graph
-fitting_at row p graph None e = refl
-fitting_at row p graph (Some subject) e =
-    only_these (λ t. forced row (parts_of p t)) (λ t. is_eq (place subject (value_of row p.predicate) (value_of row p.object) t)) graph
-    (λ t h. none_elsewhere (forced row (parts_of p t)) (place subject (value_of row p.predicate) (value_of row p.object) t) h (λ r f. fit_place row r p t subject e f))
+-- what doesn't have them doesn't fit
+not_fitting : (row : Bindings) (p : Pattern) (t : Triple) → has_parts (known_of p row) t ≡ false → forced row (parts_of p t) ≡ None
+not_fitting row p t h = none_unless (forced row (parts_of p t)) (has_parts (known_of p row) t) h (λ r e. has_parts_if row r p t e)
 
--- what fits is among the candidates
-pub fitting : (row : Bindings) (p : Pattern) (graph : List Triple)
-    → filter_map (λ t. forced row (parts_of p t)) (candidates graph (value_of row p.subject) (value_of row p.predicate) (value_of row p.object)) ≡ filter_map (λ t. forced row (parts_of p t)) graph
-fitting row p graph = fitting_at row p graph (value_of row p.subject) refl
+-- what fits is among those with the known parts
+pub fitting : (row : Bindings) (p : Pattern) (graph : List Triple) → filter_map (λ t. forced row (parts_of p t)) (filter (has_parts (known_of p row)) graph) ≡ filter_map (λ t. forced row (parts_of p t)) graph
+fitting row p graph = only_these (λ t. forced row (parts_of p t)) (has_parts (known_of p row)) graph (not_fitting row p)
+
+-- and where no triple has them, none fits
+pub none_fitting : (row : Bindings) (p : Pattern) (graph : List Triple) → ((t : Triple) → has_parts (known_of p row) t ≡ false) → [] ≡ filter_map (λ t. forced row (parts_of p t)) graph
+none_fitting row p [] h = refl
+none_fitting row p (t ∷ ts) h = none_fitting row p ts h ∙ ap (λ o. cons_option o (filter_map (λ t. forced row (parts_of p t)) ts)) (sym (not_fitting row p t (h t)))
 
 -- ---- one element more
 
-one_option : {X : Type 0} (o : Option X) → option_to_list o ≡ cons_option o []
+pub one_option : {X : Type 0} (o : Option X) → option_to_list o ≡ cons_option o []
 one_option None = refl
 one_option (Some x) = refl
 

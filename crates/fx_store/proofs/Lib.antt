@@ -1,6 +1,8 @@
 pub mod FitLemmas
-pub mod ObjectLemmas
 pub mod OnePlaceLemmas
 pub mod PlaceLemmas
 pub mod RunLemmas
+pub mod SearchLemmas
+pub mod SortLemmas
 pub mod StoreLemmas
+pub mod WalkLemmas

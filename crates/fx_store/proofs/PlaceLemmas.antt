@@ -1,47 +1,58 @@
 -- The places of a graph's triples in an order.
-use Rattle.std.proofs.Common.{◌≡◌, ◌∙◌, ap, sym, refl, ℕ, zero, suc, ◌+◌, ◌<◌, Bool, true, false, cond, List, [], ◌∷◌, ◌++◌, map, length, take, get_or, Option, Some, None, IsPermutation, arith, option_map}
-use Rattle.std.specs.List.{slice_get}
-use Rattle.std.specs.List.Sorted.{IsSortedBy}
+use Rattle.std.proofs.Common.{◌≡◌, ◌∙◌, ap, sym, refl, ℕ, zero, suc, ◌+◌, ◌<◌, ◌≤◌, Bool, true, false, cond, List, [], ◌∷◌, ◌++◌, map, length, take, get_or, Option, Some, None, IsPermutation, arith, option_map}
+use Rattle.std.specs.List.{slice_get, AllByRecursion}
+use Rattle.std.specs.List.Sorted.{IsSortedBy, IsStableBy, ties}
 use Rattle.std.specs.Option.{option_to_list}
 use Rattle.std.specs.declared.cmp.Ordering.{Ordering}
 use Rattle.std.specs.declared.cmp.Ordering.TheVariants.{Less, Equal, Greater}
-use Rattle.std.specs.Ordering.{is_le, is_lt, ordering_then}
-use Rattle.std.specs.Cmp.{IsTotalOrder}
-use Rattle.std.proofs.lemmas.Cmp.{then_total, on_total, lists_total}
-use Rattle.std.proofs.lemmas.List.Sorted.{IsPermutation-map}
+use Rattle.std.specs.Ordering.{is_le, is_lt, nat_cmp, ordering_then, ordering_reverse}
+use Rattle.std.specs.Cmp.{IsTotalOrder, IsStrictWeakOrder}
+use Rattle.std.proofs.lemmas.Cmp.{then_total, on_total, lists_total, tied_itself}
+use Rattle.std.proofs.lemmas.List.Elements.{All-from_recursion}
+use Rattle.std.proofs.lemmas.List.Sorted.{IsPermutation-map, All-permutation, ranks_by, ties_stay_sorted}
 use Rattle.std.proofs.lemmas.Option.{slice_get-map}
-use Rattle.fx_terms.specs.Texts.{text_cmp, texts_total}
-use Rattle.fx_terms.specs.Terms.{term_cmp}
-use Rattle.fx_terms.specs.Triples.{triple_cmp}
+use Rattle.fx_terms.specs.Terms.{terms_total}
+use Rattle.fx_terms.specs.declared.terms.Term.TheVariants.{Iri}
 use Rattle.fx_terms.specs.declared.triples.Triple.{Triple}
-use Rattle.fx_terms.proofs.OrderLemmas.{exact_triples}
+use Rattle.fx_terms.proofs.OrderLemmas.{exact_terms}
 use Rattle.fx_algebra.specs.Sequences.{sorted_by, insert_by}
-use Rattle.fx_algebra.proofs.OrderLemmas.{one_order}
-use Rattle.fx_store.specs.Objects.{object_cmp, objects_total}
-use Rattle.fx_store.specs.Orders.{further_cmp, found_cmp}
-use Rattle.fx_store.specs.declared.orders.Further.{Further}
-use Rattle.fx_store.specs.declared.orders.Further.TheVariants.{ByPredicate, ByObject}
+use Rattle.fx_algebra.proofs.OrderLemmas.{Le, Ascends, one_order, sorted_ascends}
+use Rattle.fx_store.specs.Orders.{next, term_at, part_cmp, two_cmp, order_cmp, found_cmp, AreFound}
+use Rattle.fx_store.specs.declared.orders.Part.{Part}
+use Rattle.fx_store.specs.declared.orders.Part.TheVariants.{Subject, Predicate, Object}
+use Rattle.fx_store.proofs.SearchLemmas.{there, stands}
+use Rattle.fx_store.proofs.SortLemmas.{sorted_twice}
 
 -- ---- the orders are total, and tell triples apart
 
-second : (o p : Ordering) → ordering_then o p ≡ Equal → p ≡ Equal
-second Equal p h = h
-second Less p h = cc
-second Greater p h = cc
+pub part_total : (part : Part) → IsTotalOrder (part_cmp part)
+part_total part = on_total (term_at part) terms_total
 
-further_total : (f : Further) → IsTotalOrder (further_cmp f)
-further_total ByPredicate = then_total (on_total (λ t. t.predicate) texts_total) objects_total
-further_total ByObject = objects_total
+pub order_total : (first : Part) → IsTotalOrder (order_cmp first)
+order_total first = then_total (part_total first) (then_total (part_total (next first)) (part_total (next (next first))))
 
-exact_object : (a b : Triple) → object_cmp a b ≡ Equal → a ≡ b
-exact_object a b e = exact_triples a b (second (term_cmp a.object b.object) (triple_cmp a b) e)
+both_tie : (o p : Ordering) → ordering_then o p ≡ Equal → (o ≡ Equal) × (p ≡ Equal)
+both_tie Equal p h = (refl, h)
+both_tie Less p h = absurd (cc)
+both_tie Greater p h = absurd (cc)
 
-exact : (f : Further) (a b : Triple) → further_cmp f a b ≡ Equal → a ≡ b
-exact ByPredicate a b e = exact_object a b (second (text_cmp a.predicate b.predicate) (object_cmp a b) e)
-exact ByObject a b e = exact_object a b e
+-- triples with the same parts are one
+pub of_parts : (a b : Triple) → Iri a.subject ≡ Iri b.subject → Iri a.predicate ≡ Iri b.predicate → a.object ≡ b.object → a ≡ b
+of_parts a b s p o = let subject : a.subject ≡ b.subject = cc in let predicate : a.predicate ≡ b.predicate = cc in (λ i. record { subject = subject i; predicate = predicate i; object = o i })
 
-pub found_total : (f : Further) → IsTotalOrder (found_cmp f)
-found_total f = on_total option_to_list (lists_total (further_total f))
+all_parts : (first : Part) (a b : Triple) → term_at first a ≡ term_at first b → term_at (next first) a ≡ term_at (next first) b → term_at (next (next first)) a ≡ term_at (next (next first)) b → a ≡ b
+all_parts Subject a b x y z = of_parts a b x y z
+all_parts Predicate a b x y z = of_parts a b z x y
+all_parts Object a b x y z = of_parts a b y z x
+
+pub exact : (first : Part) (a b : Triple) → order_cmp first a b ≡ Equal → a ≡ b
+exact first a b e =
+    let front = both_tie (part_cmp first a b) (two_cmp (next first) a b) e in
+    let back = both_tie (part_cmp (next first) a b) (part_cmp (next (next first)) a b) front.1 in
+    all_parts first a b (exact_terms _ _ front.0) (exact_terms _ _ back.0) (exact_terms _ _ back.1)
+
+pub found_total : {R : Triple → Triple → Ordering} → IsTotalOrder R → IsTotalOrder (found_cmp R)
+found_total o = on_total option_to_list (lists_total o)
 
 only : (o : Ordering) → ordering_then o Equal ≡ o
 only Less = refl
@@ -49,14 +60,14 @@ only Equal = refl
 only Greater = refl
 
 -- two triples that are found go by their order
-both_found : (f : Further) (a b : Triple) → found_cmp f (Some a) (Some b) ≡ further_cmp f a b
-both_found f a b = only (further_cmp f a b)
+both_found : (R : Triple → Triple → Ordering) (a b : Triple) → found_cmp R (Some a) (Some b) ≡ R a b
+both_found R a b = only (R a b)
 
-exact_found : (f : Further) (a b : Option Triple) → found_cmp f a b ≡ Equal → a ≡ b
+exact_found : (f : Part) (a b : Option Triple) → found_cmp (order_cmp f) a b ≡ Equal → a ≡ b
 exact_found f None None e = refl
 exact_found f None (Some b) e = cc
 exact_found f (Some a) None e = cc
-exact_found f (Some a) (Some b) e = ap Some (exact f a b (sym (both_found f a b) ∙ e))
+exact_found f (Some a) (Some b) e = ap Some (exact f a b (sym (both_found (order_cmp f) a b) ∙ e))
 
 -- ---- lists
 
@@ -93,20 +104,24 @@ sorted_map R g xs h k d low high =
 
 -- ---- places
 
-pub places_in_order : (f : Further) (graph : List Triple) (xs ys : List ℕ) → map (slice_get graph) xs ≡ map Some graph
-    → IsSortedBy (λ a b. is_lt (found_cmp f (slice_get graph a) (slice_get graph b))) ys → IsPermutation xs ys → map (slice_get graph) ys ≡ map Some (sorted_by (further_cmp f) graph)
-places_in_order f graph xs ys e up p =
-    one_order (found_cmp f) (found_total f) (λ o. Unit {0}) (λ a b p q. exact_found f a b) (map (slice_get graph) xs) (map (slice_get graph) ys) (λ k d h. tt)
-    (sorted_map (found_cmp f) (slice_get graph) ys up) (IsPermutation-map (slice_get graph) xs ys p)
-    ∙ ap (sorted_by (found_cmp f)) e ∙ sym (sorted_image (found_cmp f) (further_cmp f) Some (both_found f) graph)
+-- the triple at one place is below the one at another
+abbrev pub below : (Triple → Triple → Ordering) → List Triple → ℕ → ℕ → Bool
+below R graph a b = is_lt (found_cmp R (slice_get graph a) (slice_get graph b))
 
-next : (i : ℕ) → suc (i + 1) ≡ suc i + 1
-next i = omega arith
+places_in_order : (f : Part) (graph ts : List Triple) (xs ys : List ℕ) → map (slice_get graph) xs ≡ map Some ts
+    → IsSortedBy (below (order_cmp f) graph) ys → IsPermutation xs ys → map (slice_get graph) ys ≡ map Some (sorted_by (order_cmp f) ts)
+places_in_order f graph ts xs ys e up p =
+    one_order (found_cmp (order_cmp f)) (found_total (order_total f)) (λ o. Unit {0}) (λ a b p q. exact_found f a b) (map (slice_get graph) xs) (map (slice_get graph) ys) (λ k d h. tt)
+    (sorted_map (found_cmp (order_cmp f)) (slice_get graph) ys up) (IsPermutation-map (slice_get graph) xs ys p)
+    ∙ ap (sorted_by (found_cmp (order_cmp f))) e ∙ sym (sorted_image (found_cmp (order_cmp f)) (order_cmp f) Some (both_found (order_cmp f)) ts)
+
+one_up : (i : ℕ) → suc (i + 1) ≡ suc i + 1
+one_up i = omega arith
 
 pub one_more : (graph : List Triple) (i : ℕ) → i < length graph → map Some (take i graph) ++ slice_get graph i ∷ [] ≡ map Some (take (i + 1) graph)
 one_more [] i h = absurd (omega arith)
 one_more (t ∷ ts) zero h = refl
-one_more (t ∷ ts) (suc i) h = ap (λ v. Some t ∷ v) (one_more ts i (omega arith)) ∙ ap (λ n. map Some (take n (t ∷ ts))) (next i)
+one_more (t ∷ ts) (suc i) h = ap (λ v. Some t ∷ v) (one_more ts i (omega arith)) ∙ ap (λ n. map Some (take n (t ∷ ts))) (one_up i)
 
 -- ---- one place
 
@@ -114,28 +129,129 @@ out : {X : Type 0} (a b : Option X) → option_map Some a ≡ Some b → a ≡ b
 out (Some x) b e = cc
 out None b e = cc
 
-at : (xs : List ℕ) (k : ℕ) → k < length xs → slice_get xs k ≡ Some (get_or xs k 0)
-at [] k h = absurd (omega arith)
-at (x ∷ xs) zero h = refl
-at (x ∷ xs) (suc k) h = at xs k (omega arith)
+at : (xs : List ℕ) (k d : ℕ) → k < length xs → slice_get xs k ≡ Some (get_or xs k d)
+at [] k d h = absurd (omega arith)
+at (x ∷ xs) zero d h = refl
+at (x ∷ xs) (suc k) d h = at xs k d (omega arith)
+
+place_is_or : (order : List Triple) (graph : List Triple) (places : List ℕ) (k d : ℕ) → map (slice_get graph) places ≡ map Some order → k < length places → slice_get order k ≡ slice_get graph (get_or places k d)
+place_is_or order graph places k d e h =
+    out (slice_get order k) (slice_get graph (get_or places k d))
+    (sym (slice_get-map Some order k) ∙ ap (λ v. slice_get v k) (sym e) ∙ slice_get-map (slice_get graph) places k ∙ ap (option_map (slice_get graph)) (at places k d h))
 
 pub place_is : (order : List Triple) (graph : List Triple) (places : List ℕ) (k : ℕ) → map (slice_get graph) places ≡ map Some order → k < length places → slice_get order k ≡ slice_get graph (get_or places k 0)
-place_is order graph places k e h =
-    out (slice_get order k) (slice_get graph (get_or places k 0))
-    (sym (slice_get-map Some order k) ∙ ap (λ v. slice_get v k) (sym e) ∙ slice_get-map (slice_get graph) places k ∙ ap (option_map (slice_get graph)) (at places k h))
-
-there : {X : Type 0} (xs : List X) (k : ℕ) (x : X) → slice_get xs k ≡ Some x → k < length xs
-there [] k x e = cc
-there (y ∷ ys) zero x e = omega arith
-there (y ∷ ys) (suc k) x e = let rest = there ys k x e in omega (arith, rest)
-
-stands : {X : Type 0} (xs : List X) (k : ℕ) → k < length xs → (x : X) × (slice_get xs k ≡ Some x)
-stands [] k h = absurd (omega arith)
-stands (x ∷ xs) zero h = (x, refl)
-stands (x ∷ xs) (suc k) h = stands xs k (omega arith)
+place_is order graph places k e h = place_is_or order graph places k 0 e h
 
 pub place_within : (order : List Triple) (graph : List Triple) (places : List ℕ) (k : ℕ) → map (slice_get graph) places ≡ map Some order → k < length places → get_or places k 0 < length graph
 place_within order graph places k e h =
     let same : length order ≡ length places = sym (length-map-here Some order) ∙ ap length (sym e) ∙ length-map-here (slice_get graph) places in
     let found = stands order k (omega (arith, same, h)) in
     there graph (get_or places k 0) found.0 (sym (place_is order graph places k e h) ∙ found.1)
+
+-- ---- places of some triples, in the order of the graph
+
+turned_le : (o : Ordering) → is_le o ≡ true → is_lt (ordering_reverse o) ≡ false
+turned_le Less h = refl
+turned_le Equal h = refl
+turned_le Greater h = cc
+
+module _ (f : Part) where
+  -- a triple that stands behind another in order isn't below it
+  behind : (x y : Triple) → Le (order_cmp f) (order_total f) x y → is_lt (found_cmp (order_cmp f) (Some y) (Some x)) ≡ false
+  behind x y h = ap is_lt (both_found (order_cmp f) y x ∙ (order_total f).antisymm y x) ∙ turned_le (order_cmp f x y) h
+
+  all_behind : (x : Triple) (xs : List Triple) (k : ℕ) → AllByRecursion (Le (order_cmp f) (order_total f) x) xs → k < length xs → is_lt (found_cmp (order_cmp f) (slice_get xs k) (Some x)) ≡ false
+  all_behind x [] k h b = absurd (omega arith)
+  all_behind x (y ∷ ys) zero h b = behind x y h.0
+  all_behind x (y ∷ ys) (suc k) h b = all_behind x ys k h.1 (omega arith)
+
+  goes_up : (ts : List Triple) → Ascends (order_cmp f) (order_total f) ts → (a b : ℕ) → a ≤ b → b < length ts → below (order_cmp f) ts b a ≡ false
+  goes_up [] h a b le within = absurd (omega arith)
+  goes_up (x ∷ xs) h zero zero le within = ap is_lt (tied_itself (found_total (order_total f)) (Some x))
+  goes_up (x ∷ xs) h zero (suc b) le within = all_behind x xs b h.0 (omega arith)
+  goes_up (x ∷ xs) h (suc a) zero le within = absurd (omega arith)
+  goes_up (x ∷ xs) h (suc a) (suc b) le within = goes_up xs h.1 a b (omega arith) (omega arith)
+
+all_within : (graph : List Triple) (places : List ℕ) (ts : List Triple) → map (slice_get graph) places ≡ map Some ts → AllByRecursion (λ p. p < length graph) places
+all_within graph [] ts e = tt
+all_within graph (p ∷ ps) [] e = absurd (cc)
+all_within graph (p ∷ ps) (t ∷ ts) e = let here : slice_get graph p ≡ Some t = cc in (there graph p t here, all_within graph ps ts (cc))
+
+-- each of the places has a triple
+pub within : (graph : List Triple) (places : List ℕ) (ts : List Triple) → map (slice_get graph) places ≡ map Some ts → AreFound graph places
+within graph places ts e = All-from_recursion (λ p. p < length graph) places (all_within graph places ts e)
+
+not_below : (a b : ℕ) → is_lt (nat_cmp b a) ≡ false → a ≤ b
+not_below a b h = grind arith
+
+-- places that rise give the triples in the order of the graph
+pub places_sorted : (graph : List Triple) (ts : List Triple) (xs ys : List ℕ) → Ascends (order_cmp Subject) (order_total Subject) graph → map (slice_get graph) xs ≡ map Some ts
+    → IsSortedBy (λ a b. is_lt (nat_cmp a b)) ys → IsPermutation xs ys → map (slice_get graph) ys ≡ map Some (sorted_by (order_cmp Subject) ts)
+places_sorted graph ts xs ys h e up p =
+    let all : AreFound graph ys = All-permutation (λ p. p < length graph) xs ys p (within graph xs ts e) in
+    places_in_order Subject graph ts xs ys e
+    (λ k d low high. goes_up Subject graph h (get_or ys k d) (get_or ys (k + 1) d) (not_below (get_or ys k d) (get_or ys (k + 1) d) (up k d low high)) (all (k + 1) d high)) p
+
+-- there are as many places as triples
+pub place_count : (graph : List Triple) (places : List ℕ) (ts : List Triple) → map (slice_get graph) places ≡ map Some ts → length places ≡ length ts
+place_count graph places ts e = sym (length-map-here (slice_get graph) places) ∙ ap length e ∙ length-map-here Some ts
+
+-- ---- places in an order, sorted by its last part alone
+
+-- what isn't below by one part, nor by the two others where this one ties, isn't below by all three
+turned_third : (p back q r : Ordering) → back ≡ ordering_reverse p → is_lt p ≡ false → (is_lt back ≡ false → is_lt (ordering_then q (ordering_then r p)) ≡ false) → is_lt (ordering_then p (ordering_then q r)) ≡ false
+turned_third Less back q r e h k = absurd (cc)
+turned_third Greater back q r e h k = refl
+turned_third Equal back Less r e h k = k (ap is_lt e)
+turned_third Equal back Equal r e h k = ap is_lt (sym (only r)) ∙ k (ap is_lt e)
+turned_third Equal back Greater r e h k = refl
+
+round : (f : Part) → next (next (next f)) ≡ f
+round Subject = refl
+round Predicate = refl
+round Object = refl
+
+module _ (f : Part) where
+  both_up : (a b : Triple) → is_lt (part_cmp f b a) ≡ false → (is_lt (part_cmp f a b) ≡ false → is_lt (order_cmp (next f) b a) ≡ false) → is_lt (order_cmp f b a) ≡ false
+  both_up a b h k =
+      turned_third (part_cmp f b a) (part_cmp f a b) (part_cmp (next f) b a) (part_cmp (next (next f)) b a) ((part_total f).antisymm a b) h
+      (λ e. ap (λ g. is_lt (ordering_then (part_cmp (next f) b a) (ordering_then (part_cmp (next (next f)) b a) (part_cmp g b a)))) (sym (round f)) ∙ k e)
+
+  found_up : (a b : Option Triple) → is_lt (found_cmp (part_cmp f) b a) ≡ false → (is_lt (found_cmp (part_cmp f) a b) ≡ false → is_lt (found_cmp (order_cmp (next f)) b a) ≡ false)
+      → is_lt (found_cmp (order_cmp f) b a) ≡ false
+  found_up None None h k = refl
+  found_up None (Some b) h k = refl
+  found_up (Some a) None h k = absurd (cc)
+  found_up (Some a) (Some b) h k =
+      ap is_lt (both_found (order_cmp f) b a)
+      ∙ both_up a b (ap is_lt (sym (both_found (part_cmp f) b a)) ∙ h) (λ e. ap is_lt (sym (both_found (order_cmp (next f)) b a)) ∙ k (ap is_lt (both_found (part_cmp f) a b) ∙ e))
+
+  pub part_ranks : (graph : List Triple) → IsStrictWeakOrder (below (part_cmp f) graph)
+  part_ranks graph = ranks_by (on_total (slice_get graph) (found_total (part_total f))) (λ x. x)
+
+  order_ranks : (graph : List Triple) → IsStrictWeakOrder (below (order_cmp f) graph)
+  order_ranks graph = ranks_by (on_total (slice_get graph) (found_total (order_total f))) (λ x. x)
+
+  -- places of triples in order rise by it
+  rise : (graph ts : List Triple) (xs : List ℕ) → Ascends (order_cmp f) (order_total f) ts → map (slice_get graph) xs ≡ map Some ts → IsSortedBy (below (order_cmp f) graph) xs
+  rise graph ts xs h e k d low high =
+      let same : length xs ≡ length ts = place_count graph xs ts e in
+      let here = place_is_or ts graph xs k d e (omega (arith, high)) in
+      let behind = place_is_or ts graph xs (k + 1) d e high in
+      sym (λ i. is_lt (found_cmp (order_cmp f) (behind i) (here i)))
+      ∙ goes_up f ts h k (k + 1) (omega arith) (omega (arith, high, same))
+
+  neither : (lt : ℕ → ℕ → Bool) (a b : ℕ) → lt a b ≡ false → lt b a ≡ false → ties lt a b ≡ true
+  neither lt a b h k = cc
+
+-- places in the order that ends with a part, sorted by this part alone so that those that tie keep their order, are in the order that begins with it
+pub sorted_by_part : (f : Part) (graph : List Triple) (xs ys : List ℕ) → map (slice_get graph) xs ≡ map Some (sorted_by (order_cmp (next f)) graph)
+    → IsSortedBy (below (part_cmp f) graph) ys → IsStableBy (below (part_cmp f) graph) xs ys → IsPermutation xs ys → map (slice_get graph) ys ≡ map Some (sorted_by (order_cmp f) graph)
+sorted_by_part f graph xs ys e up stable p =
+    let before : IsSortedBy (below (order_cmp (next f)) graph) xs = rise (next f) graph (sorted_by (order_cmp (next f)) graph) xs (sorted_ascends (order_cmp (next f)) (order_total (next f)) graph) e in
+    places_in_order f graph (sorted_by (order_cmp (next f)) graph) xs ys e
+    (λ k d low high. found_up f (slice_get graph (get_or ys k d)) (slice_get graph (get_or ys (k + 1) d)) (up k d low high)
+    (λ g. ties_stay_sorted (below (order_cmp (next f)) graph) (below (part_cmp f) graph) (order_ranks (next f) graph) (part_ranks f graph) xs ys before stable k d high
+    (neither f (below (part_cmp f) graph) (get_or ys k d) (get_or ys (k + 1) d) g (up k d low high))))
+    p
+    ∙ ap (map Some) (sorted_twice (order_cmp (next f)) (order_cmp f) (order_total f) (exact f) graph)

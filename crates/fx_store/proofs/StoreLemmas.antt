@@ -1,20 +1,21 @@
 -- What a store gives for a pattern, as the definitions have it.
-use Rattle.std.proofs.Common.{◌≡◌, ◌∙◌, ◌↔◌, ◌⊎◌, ap, sym, subst, refl, T, ℕ, zero, suc, ◌+◌, ◌<◌, ◌≤◌, Bool, true, false, List, [], ◌∷◌, length, get_or, Contains, Result, Ok, Err, append-nil, arith, inl, inr}
-use Rattle.std.specs.List.{AllByRecursion, filter_map}
-use Rattle.std.specs.List.Sorted.{IsStrictlySortedBy, IsPartitionPoint, IsBinarySearchResult, IsSearchInRange}
-use Rattle.std.specs.Prelude.{is_ok, IsTrue}
-use Rattle.std.specs.Ordering.{is_lt, ordering_reverse}
-use Rattle.std.specs.declared.cmp.Ordering.TheVariants.{Less, Equal, Greater}
+use Rattle.std.proofs.Common.{◌≡◌, ◌∙◌, ◌↔◌, ap, sym, subst, refl, T, ℕ, zero, suc, ◌-◌, ◌<◌, ◌≤◌, Bool, true, false, ◌&&◌, cond, List, [], ◌∷◌, length, filter, get_or, Contains, append-nil, arith}
+use Rattle.std.specs.List.{filter_map}
+use Rattle.std.specs.Prelude.{IsTrue}
+use Rattle.std.specs.Ordering.{is_eq}
 use Rattle.std.proofs.lemmas.Cmp.{tied_itself}
-use Rattle.std.proofs.lemmas.List.Sorted.{searchable_from_sorted}
-use Rattle.fx_terms.specs.Triples.{triple_cmp, triples_total}
-use Rattle.fx_terms.proofs.OrderLemmas.{exact_triples}
+use Rattle.fx_terms.specs.Terms.{terms_total}
+use Rattle.fx_terms.specs.declared.terms.Term.{Term}
+use Rattle.fx_terms.specs.declared.terms.Term.TheVariants.{Iri}
 use Rattle.fx_terms.specs.declared.triples.Triple.{Triple}
 use Rattle.fx_terms.specs.declared.patterns.Pattern.{Pattern}
-use Rattle.fx_algebra.specs.Solutions.{Bindings, rises}
+use Rattle.fx_algebra.specs.Solutions.{Bindings, rises, same_term}
 use Rattle.fx_algebra.specs.BasicGraphPatterns.{bgp, forced, parts_of}
 use Rattle.fx_algebra.specs.Operators.{merges}
 use Rattle.fx_algebra.proofs.JoinLemmas.{join_extends}
+use Rattle.fx_store.specs.Lookups.{has_parts, known_all}
+use Rattle.fx_store.proofs.FitLemmas.{same_from}
+use Rattle.fx_store.proofs.PlaceLemmas.{of_parts}
 
 to_T : (b : Bool) → b ≡ true → T b
 to_T true h = tt
@@ -25,40 +26,50 @@ matches_are graph p s up = sym (append-nil (filter_map (λ t. forced s (parts_of
 
 -- ---- whether a triple is there
 
-later : (x : Triple) (xs : List Triple) (k : ℕ) (d : Triple) → AllByRecursion (λ y. triple_cmp x y ≡ Less) xs → k < length xs → triple_cmp x (get_or xs k d) ≡ Less
-later x [] k d h b = absurd (omega arith)
-later x (y ∷ ys) zero d h b = h.0
-later x (y ∷ ys) (suc k) d h b = later x ys k d h.1 (omega arith)
+itself : (v : Term) → same_term v v ≡ true
+itself v = ap is_eq (tied_itself terms_total v)
 
-after_less : (a b : Triple) → triple_cmp a b ≡ Less → is_lt (triple_cmp b a) ≡ false
-after_less a b e = ap is_lt (triples_total.antisymm b a ∙ ap ordering_reverse e)
+has_itself : (t : Triple) → has_parts (known_all t) t ≡ true
+has_itself t =
+    ap (λ b. b && (same_term (Iri t.predicate) (Iri t.predicate) && same_term t.object t.object)) (itself (Iri t.subject))
+    ∙ ap (λ b. b && same_term t.object t.object) (itself (Iri t.predicate))
+    ∙ itself t.object
 
-adjacent : (xs : List Triple) → IsStrictlySortedBy triple_cmp xs → (k : ℕ) (d : Triple) → suc k < length xs → is_lt (triple_cmp (get_or xs (suc k) d) (get_or xs k d)) ≡ false
-unfolding IsStrictlySortedBy
-adjacent [] h k d b = absurd (omega arith)
-adjacent (x ∷ xs) h zero d b = after_less x (get_or xs 0 d) (later x xs 0 d h.0 (omega arith))
-adjacent (x ∷ xs) h (suc k) d b = adjacent xs h.1 k d (omega arith)
+all_three : (a b c : Bool) → (a && (b && c)) ≡ true → (a ≡ true) × (b ≡ true) × (c ≡ true)
+all_three true true c h = (refl, refl, h)
+all_three true false c h = absurd (cc)
+all_three false b c h = absurd (cc)
 
-in_order : (xs : List Triple) → IsStrictlySortedBy triple_cmp xs → (k : ℕ) (d : Triple) → k + 1 < length xs → is_lt (triple_cmp (get_or xs (k + 1) d) (get_or xs k d)) ≡ false
-in_order xs h k d b = subst (λ (n : ℕ). is_lt (triple_cmp (get_or xs n d) (get_or xs k d)) ≡ false) {x = suc k} {y = k + 1} (omega arith) (adjacent xs h k d (omega arith))
+-- one triple alone has all parts of a triple
+only_itself : (t u : Triple) → has_parts (known_all t) u ≡ true → u ≡ t
+only_itself t u h =
+    let each = all_three (same_term (Iri t.subject) (Iri u.subject)) (same_term (Iri t.predicate) (Iri u.predicate)) (same_term t.object u.object) h in
+    sym (of_parts t u (same_from _ _ each.0) (same_from _ _ each.1) (same_from _ _ each.2))
 
--- what a binary search answers tells whether the triple is there
-pub found_or_not : (xs : List Triple) (t : Triple) (r : Result ℕ ℕ) → IsStrictlySortedBy triple_cmp xs → IsSearchInRange r (length xs) → IsBinarySearchResult (λ y. triple_cmp y t) xs r → (is_ok r ≡ true) ↔ Contains xs t
-found_or_not xs t (Ok k) up within at = (λ _. (k, within, exact_triples (get_or xs k t) t (at t)), λ _. refl)
-found_or_not xs t (Err i) up within at = (λ e. cc, λ c. absurd (nowhere c))
-  where
-    le_or_lt : (n m : ℕ) → (n ≤ m) ⊎ (m < n)
-    le_or_lt n m = grind arith
+module _ (t : Triple) (q : Triple → Bool) (itself : q t ≡ true) (only : (u : Triple) → q u ≡ true → u ≡ t) where
+  from_count : (xs : List Triple) → 0 < length (filter q xs) → Contains xs t
+  from_count [] h = absurd (omega arith)
+  from_count (x ∷ xs) h = pick (q x) refl h (from_count xs)
+    where
+      later : Contains xs t → Contains (x ∷ xs) t
+      later (k, b, e) = (suc k, omega arith, e)
 
-    parts : IsPartitionPoint (λ y. triple_cmp y t ≡ Less) (λ y. triple_cmp y t ≡ Greater) xs i
-    parts = at (searchable_from_sorted triples_total (λ y. y) xs t (λ k d low high. in_order xs up k d high))
+      pick : (b : Bool) → q x ≡ b → 0 < length (cond b (x ∷ filter q xs) (filter q xs)) → (0 < length (filter q xs) → Contains xs t) → Contains (x ∷ xs) t
+      pick true e h rest = (0, omega arith, only x e)
+      pick false e h rest = later (rest h)
 
-    itself : (k : ℕ) → get_or xs k t ≡ t → triple_cmp (get_or xs k t) t ≡ Equal
-    itself k e = ap (λ y. triple_cmp y t) e ∙ tied_itself triples_total t
+  no_fewer : (b : Bool) (x : Triple) (xs : List Triple) → length xs ≤ length (cond b (x ∷ xs) xs)
+  no_fewer true x xs = omega arith
+  no_fewer false x xs = omega arith
 
-    nowhere : Contains xs t → ⊥
-    nowhere (k, b, e) = by (le_or_lt i k)
-      where
-        by : (i ≤ k) ⊎ (k < i) → ⊥
-        by (inl a) = let one : Greater ≡ Equal = sym (parts.1 k t a b) ∙ itself k e in cc
-        by (inr a) = let one : Less ≡ Equal = sym (parts.0 k t (omega arith) a) ∙ itself k e in cc
+  counted : (xs : List Triple) (k : ℕ) → k < length xs → get_or xs k t ≡ t → 0 < length (filter q xs)
+  counted [] k b e = absurd (omega arith)
+  counted (x ∷ xs) zero b e = subst (λ (v : Bool). 0 < length (cond v (x ∷ filter q xs) (filter q xs))) (sym (ap q e ∙ itself)) (omega arith)
+  counted (x ∷ xs) (suc k) b e = let rest = counted xs k (omega arith) e in omega (arith, rest, no_fewer (q x) x (filter q xs))
+
+-- the triples with all parts of a triple tell whether it is there
+pub found_or_not : (graph : List Triple) (t : Triple) (start end : ℕ) → start ≤ end → end - start ≡ length (filter (has_parts (known_all t)) graph) → (start < end) ↔ Contains graph t
+found_or_not graph t start end a e = (
+  λ h. from_count t (has_parts (known_all t)) (has_itself t) (only_itself t) graph (omega (arith, a, e, h)),
+  λ c. let some = counted t (has_parts (known_all t)) (has_itself t) (only_itself t) graph c.0 c.1 c.2 in omega (arith, a, e, some),
+)

@@ -1,4 +1,4 @@
+pub mod Examples
 pub mod Lookups
-pub mod Objects
 pub mod Orders
 pub mod Stores

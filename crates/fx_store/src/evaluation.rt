@@ -1,121 +1,118 @@
-//! The evaluation of basic graph patterns (SPARQL 1.1 section 18.3).
-ghost use Rattle.std.specs.Prelude.{◌≡◌, ◌++◌, is_some, true, IfOk, OnOk, Some};
-ghost use Rattle.std.specs.List.{filter_map};
-ghost use Rattle.std.specs.List.Sorted.{IsSortedBy, IsStrictlySortedBy};
+//! One pattern beside one row (SPARQL 1.1 section 18.3): the triples that fit, and what the row is with each of them.
+ghost use Rattle.std.specs.Prelude.{◌≡◌, ◌≤◌, ◌+◌, ◌-◌, ◌++◌, is_some, length, true, IfOk, OnOk, Some};
+ghost use Rattle.std.specs.List.{filter_map, slice_get};
 ghost use Rattle.std.specs.Option.{option_copied, option_to_list};
-ghost use Rattle.std.specs.Ordering.{is_lt, is_le};
-ghost use Rattle.fx_terms.specs.Terms.{term_cmp};
-ghost use Rattle.fx_terms.specs.Triples.{triple_cmp};
 ghost use Rattle.fx_terms.specs.declared.terms.Term.TheVariants.{Iri as IriTerm};
 ghost use Rattle.fx_algebra.specs.Solutions.{same_term};
-ghost use Rattle.fx_algebra.specs.BasicGraphPatterns.{parts_of, forced, value_of};
-ghost use Rattle.fx_algebra.specs.Evaluation.{extended};
+ghost use Rattle.fx_algebra.specs.Sequences.{sorted_by};
+ghost use Rattle.fx_algebra.specs.BasicGraphPatterns.{parts_of, forced};
 ghost use Rattle.fx_store.specs.Lookups as spec;
-ghost use Rattle.fx_store.specs.Objects.{object_cmp, candidates_by_object};
+ghost use Rattle.fx_store.specs.Orders.{order_cmp, triples_of, AreFound, IsWithin};
+ghost use Rattle.fx_store.specs.declared.orders.Part.TheVariants.{Subject as BySubject};
 
-use crate::objects::{by_object, with_object};
+use crate::lookups::{Sought, run, value};
+use crate::orders::{Orders, Run, Steps};
 use fx_algebra::Solution;
-use fx_terms::{Graph, Iri, Memory, Name, Pattern, PatternTerm, Term, Triple};
+use fx_terms::{Iri, Memory, Name, Pattern, PatternTerm, Term, Triple};
 use std::alloc::Global;
-use std::cmp::Ordering;
+use std::sync::ledger::Ledger;
 
-// From how many rows on a join by object is worth a list of the triples in the order of their objects.
-const MANY: usize = 16;
-
-/// Each row with each triple that fits it, in the order of the rows and then of the triples. From row to row this is the join with
-/// the solutions of a pattern, so one pattern after another gives the join with those of a run of patterns.
-///
-/// Where a pattern's subject is known, only the run of triples with that subject is gone over, and of these only those with the
-/// predicate and the object, as far as these are known too. Where only the object is known, and rows are many, the triples are
-/// sorted by their objects first.
-pub fn extend_rows(
+/// A row with each triple that fits it, in the order of the triples.
+pub(crate) fn rows_of<L: Ledger>(
     alloc: Global,
-    graph: &Graph,
+    orders: &Orders,
     pattern: &Pattern,
-    rows: &[Solution],
+    row: &Solution,
+    steps: &mut Steps<L>,
 ) -> Result<Vec<Solution>, Memory>
-    ensures { IfOk result (λ more. more.items ≡ extended graph.now pattern.now rows.now) }
+    ensures rows { IfOk result (λ rows. rows.items ≡ filter_map (λ t. forced row.now (parts_of pattern.now t)) orders.now) }
+    ensures steps { steps.new ≤ steps.old + spec.most_steps orders.now pattern.now row.now }
 {
-    if rows.len() >= MANY && joins_by_object(pattern, rows) {
-        extend_by_object(alloc, graph, pattern, rows)
+    match Sought::of(pattern, row) {
+        None => Ok(Vec::new(alloc)),
+        Some(sought) => rows_with_parts(alloc, orders, &sought, pattern, row, steps),
+    }
+}
+
+// The same, by the parts that the pattern has under the row.
+fn rows_with_parts<L: Ledger>(
+    alloc: Global,
+    orders: &Orders,
+    sought: &Sought<'_>,
+    pattern: &Pattern,
+    row: &Solution,
+    steps: &mut Steps<L>,
+) -> Result<Vec<Solution>, Memory>
+    requires { sought.now ≡ spec.known_of pattern.now row.now }
+    ensures rows { IfOk result (λ rows. rows.items ≡ filter_map (λ t. forced row.now (parts_of pattern.now t)) orders.now) }
+    ensures steps { steps.new ≤ steps.old + spec.most_steps orders.now pattern.now row.now }
+{
+    orders.known();
+    let run = run(orders, sought, steps);
+    if sought.is_predicate_alone() {
+        rows_in_order(alloc, orders, run, pattern, row, steps)
     } else {
-        extend_by_subject(alloc, graph, pattern, rows)
+        rows_of_run(alloc, orders, run, pattern, row, steps)
     }
 }
 
-// Whether the first row leaves a pattern's subject free, and binds its object.
-fn joins_by_object(pattern: &Pattern, rows: &[Solution]) -> bool {
-    match rows.first() {
-        None => false,
-        Some(row) => {
-            value(&pattern.subject, row).is_none() && value(&pattern.object, row).is_some()
-        }
-    }
-}
-
-fn extend_by_subject(
+// A row with each triple of a run that fits it, in the order of the run.
+fn rows_of_run<L: Ledger>(
     alloc: Global,
-    graph: &Graph,
-    pattern: &Pattern,
-    rows: &[Solution],
-) -> Result<Vec<Solution>, Memory>
-    ensures { IfOk result (λ more. more.items ≡ extended graph.now pattern.now rows.now) }
-{
-    let mut more = Vec::new(alloc);
-    for row in rows {
-        let triples = candidates(graph, pattern, row);
-        add_fitting(alloc, &mut more, triples, pattern, row)?;
-    }
-    Ok(more)
-}
-
-fn extend_by_object(
-    alloc: Global,
-    graph: &Graph,
-    pattern: &Pattern,
-    rows: &[Solution],
-) -> Result<Vec<Solution>, Memory>
-    ensures { IfOk result (λ more. more.items ≡ extended graph.now pattern.now rows.now) }
-{
-    let index = by_object(alloc, graph.triples(), &pattern.predicate)?;
-    let mut more = Vec::new(alloc);
-    for row in rows {
-        let triples = candidates_by_object(graph, index.as_slice(), pattern, row);
-        add_fitting(alloc, &mut more, triples, pattern, row)?;
-    }
-    Ok(more)
-}
-
-// The triples that a pattern may be under a row: all of them, or those of the index with its object.
-fn candidates_by_object<'a>(
-    graph: &'a Graph,
-    index: &'a [Triple],
+    orders: &Orders,
+    run: Run,
     pattern: &Pattern,
     row: &Solution,
-) -> &'a [Triple]
-    requires { IsSortedBy (λ a b. is_lt (object_cmp a b)) index.now }
-    ensures { result.now ≡ candidates_by_object graph.now index.now (value_of row.now pattern.now.object) }
+    steps: &mut Steps<L>,
+) -> Result<Vec<Solution>, Memory>
+    requires { IsWithin run orders.now }
+    ensures rows { IfOk result (λ rows. rows.items ≡ filter_map (λ t. forced row.now (parts_of pattern.now t)) (triples_of run orders.now)) }
+    ensures steps { steps.new ≤ steps.old + (run.end - run.start) }
 {
-    match value(&pattern.object, row) {
-        None => graph.triples(),
-        Some(object) => with_object(index, object),
+    let mut rows = Vec::new(alloc);
+    for place in run.start..run.end {
+        let triple = orders.look(run.order, place, steps);
+        add_if_fitting(alloc, &mut rows, triple, pattern, row)?;
     }
+    Ok(rows)
 }
 
-// Adds a row with each triple that fits it.
-pub fn add_fitting(
+// The same in the order of subject, predicate, object.
+fn rows_in_order<L: Ledger>(
     alloc: Global,
-    rows: &mut Vec<Solution>,
-    triples: &[Triple],
+    orders: &Orders,
+    run: Run,
     pattern: &Pattern,
     row: &Solution,
-) -> Result<(), Memory>
-    ensures { OnOk result (rows.new.items ≡ rows.old.items ++ filter_map (λ t. forced row.now (parts_of pattern.now t)) triples.now) }
+    steps: &mut Steps<L>,
+) -> Result<Vec<Solution>, Memory>
+    requires { IsWithin run orders.now }
+    ensures rows { IfOk result (λ rows. rows.items ≡ filter_map (λ t. forced row.now (parts_of pattern.now t)) (sorted_by (order_cmp BySubject) (triples_of run orders.now))) }
+    ensures steps { steps.new ≤ steps.old + (run.end - run.start) }
 {
-    for triple in triples {
-        add_if_fitting(alloc, rows, triple, pattern, row)?;
+    let places = orders.places(alloc, run)?;
+    rows_at(alloc, orders, places.as_slice(), pattern, row, steps)
+}
+
+// A row with each of the triples at places of the graph that fits it.
+fn rows_at<L: Ledger>(
+    alloc: Global,
+    orders: &Orders,
+    places: &[usize],
+    pattern: &Pattern,
+    row: &Solution,
+    steps: &mut Steps<L>,
+) -> Result<Vec<Solution>, Memory>
+    requires { AreFound orders.now places.now }
+    ensures rows { IfOk result (λ rows. rows.items ≡ filter_map (λ t. forced row.now (parts_of pattern.now t)) (filter_map (slice_get orders.now) places.now)) }
+    ensures steps { steps.new ≤ steps.old + length places.now }
+{
+    let mut rows = Vec::new(alloc);
+    for place in places {
+        let triple = orders.look(0, *place as u64, steps);
+        add_if_fitting(alloc, &mut rows, triple, pattern, row)?;
     }
-    Ok(())
+    Ok(rows)
 }
 
 // Adds a row with a triple, if that fits it.
@@ -132,112 +129,6 @@ fn add_if_fitting(
         rows.push(with_triple(alloc, row, pattern, triple)?)?;
     }
     Ok(())
-}
-
-// The triples that a pattern may be under a row: all of them, or the run of those with its subject.
-pub fn candidates<'a>(graph: &'a Graph, pattern: &Pattern, row: &Solution) -> &'a [Triple]
-    ensures { result.now ≡ spec.candidates graph.now (value_of row.now pattern.now.subject) (value_of row.now pattern.now.predicate) (value_of row.now pattern.now.object) }
-{
-    let predicate = value(&pattern.predicate, row);
-    let object = value(&pattern.object, row);
-    match value(&pattern.subject, row) {
-        None => graph.triples(),
-        Some(subject) => run(graph.triples(), subject, predicate, object),
-    }
-}
-
-// The triples with a subject, a predicate and an object, as far as these are known. They stand together, so both ends are
-// searched for by halves.
-fn run<'a>(
-    triples: &'a [Triple],
-    subject: &Term,
-    predicate: Option<&Term>,
-    object: Option<&Term>,
-) -> &'a [Triple]
-    requires { IsStrictlySortedBy triple_cmp triples.now }
-    ensures { result.now ≡ spec.run triples.now subject.now (option_copied predicate.entry) (option_copied object.entry) }
-{
-    let start = triples.partition_point(|t| is_below(t, subject, predicate, object));
-    let rest = &triples[start..];
-    let end = rest.partition_point(|t| is_up_to(t, subject, predicate, object));
-    &rest[..end]
-}
-
-fn is_below(
-    triple: &Triple,
-    subject: &Term,
-    predicate: Option<&Term>,
-    object: Option<&Term>,
-) -> bool
-    ensures { result ≡ is_lt (spec.place subject.now (option_copied predicate.entry) (option_copied object.entry) triple.now) }
-{
-    place(triple, subject, predicate, object) == Ordering::Less
-}
-
-fn is_up_to(
-    triple: &Triple,
-    subject: &Term,
-    predicate: Option<&Term>,
-    object: Option<&Term>,
-) -> bool
-    ensures { result ≡ is_le (spec.place subject.now (option_copied predicate.entry) (option_copied object.entry) triple.now) }
-{
-    place(triple, subject, predicate, object) != Ordering::Greater
-}
-
-// Where a triple stands to those with a subject, a predicate and an object, as far as these are known.
-fn place(
-    triple: &Triple,
-    subject: &Term,
-    predicate: Option<&Term>,
-    object: Option<&Term>,
-) -> Ordering
-    ensures { result ≡ spec.place subject.now (option_copied predicate.entry) (option_copied object.entry) triple.now }
-{
-    match compare_iri(&triple.subject, subject) {
-        Ordering::Equal => place_by_predicate(triple, predicate, object),
-        order => order,
-    }
-}
-
-fn place_by_predicate(triple: &Triple, predicate: Option<&Term>, object: Option<&Term>) -> Ordering
-    ensures { result ≡ spec.place_by_predicate (option_copied predicate.entry) (option_copied object.entry) triple.now }
-{
-    let Some(predicate) = predicate else {
-        return Ordering::Equal;
-    };
-    match compare_iri(&triple.predicate, predicate) {
-        Ordering::Equal => place_by_object(triple, object),
-        order => order,
-    }
-}
-
-fn place_by_object(triple: &Triple, object: Option<&Term>) -> Ordering
-    ensures { result ≡ spec.against triple.now.object (option_copied object.entry) }
-{
-    match object {
-        None => Ordering::Equal,
-        Some(object) => triple.object.compare(object),
-    }
-}
-
-fn compare_iri(iri: &Iri, term: &Term) -> Ordering
-    ensures { result ≡ term_cmp (IriTerm iri.now) term.now }
-{
-    match term {
-        Term::Iri(other) => iri.cmp(other),
-        Term::Literal(_) => Ordering::Less,
-    }
-}
-
-// The term that a part is under a row, where it is one.
-fn value<'a>(part: &'a PatternTerm, row: &'a Solution) -> Option<&'a Term>
-    ensures { option_copied result ≡ value_of row.now part.now }
-{
-    match part {
-        PatternTerm::Variable(name) => row.get(name),
-        PatternTerm::Constant(term) => Some(term),
-    }
 }
 
 // Whether a triple fits a pattern under a row. It takes no memory.
@@ -286,7 +177,7 @@ fn is_or_free(value: Option<&Term>, term: &Term) -> bool
     }
 }
 
-pub fn is_or_free_iri(value: Option<&Term>, iri: &Iri) -> bool
+fn is_or_free_iri(value: Option<&Term>, iri: &Iri) -> bool
     ensures { result ≡ spec.is_or_free (option_copied value.entry) (IriTerm iri.now) }
 {
     match value {

@@ -2,7 +2,7 @@
 #![tactic(auto)]
 
 mod evaluation;
-mod objects;
+mod lookups;
 pub mod orders;
 pub mod stores;
 

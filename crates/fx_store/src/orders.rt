@@ -2,10 +2,11 @@
 ghost use Rattle.std.specs.Prelude.{◌≡◌, ◌+◌, ◌<◌, length, map, IfOk, Some};
 ghost use Rattle.std.specs.List.{slice_get};
 ghost use Rattle.std.specs.Option.{option_copied};
+ghost use Rattle.fx_terms.specs.Graphs.{IsGraph};
 ghost use Rattle.fx_algebra.specs.Sequences.{sorted_by};
 ghost use Rattle.fx_store.specs.Orders as spec;
+ghost use Rattle.fx_store.specs.declared.orders.Part.TheVariants.{Subject as BySubject};
 
-use crate::objects::compare as compare_by_object;
 use fx_terms::{Graph, Memory, Triple};
 use std::alloc::Global;
 use std::cmp::Ordering;
@@ -14,8 +15,8 @@ use std::sync::ledger::{Book, Ledger, Share};
 
 /// How many triples were looked at. Contracts see the number.
 ///
-/// It is made from the book of a ledger, so a call that is generic over the ledger can't make one of its own: it counts each look
-/// where its caller sees it. It takes no bytes.
+/// It is made from the book of a ledger, so a call that is generic over the ledger can't make another of that ledger: what it counts
+/// there its caller sees. It takes no bytes.
 #[derive(Drop)]
 pub struct Steps<L: Ledger> {
     book: Book<L>,
@@ -48,17 +49,26 @@ impl<L: Ledger> Steps<L> {
     }
 }
 
-// An order beside the graph's own.
+/// A part of a triple. Each order of triples begins with one and goes round: behind the object comes the subject.
 #[derive(Clone, Copy)]
-pub(crate) enum Further {
-    ByPredicate,
-    ByObject,
+pub(crate) enum Part {
+    Subject,
+    Predicate,
+    Object,
+}
+
+/// The triples of an order from one place up to another.
+#[derive(Clone, Copy)]
+pub(crate) struct Run {
+    pub order: u32,
+    pub start: u64,
+    pub end: u64,
 }
 
 /// A graph, and two further orders of the places of its triples. Contracts see the list of its triples.
 ///
 /// Order 0 is the graph's own, by subject, predicate, object; order 1 is by predicate, object, subject, and order 2 by object,
-/// subject, predicate.
+/// subject, predicate. Whichever parts of a triple are known, in one of them these come first.
 #[derive(Drop)]
 pub struct Orders {
     graph: Graph,
@@ -83,8 +93,10 @@ impl Orders {
     pub fn of(alloc: Global, graph: Graph) -> Result<Orders, Memory>
         ensures { IfOk result (λ orders. orders ≡ graph) }
     {
-        let by_predicate = places_by(alloc, graph.triples(), Further::ByPredicate)?;
-        let by_object = places_by(alloc, graph.triples(), Further::ByObject)?;
+        let by_subject = own_places(alloc, &graph)?;
+        let by_object = places_by(graph.triples(), Part::Object, by_subject)?;
+        let places = Vec::from_slice(alloc, by_object.as_slice())?;
+        let by_predicate = places_by(graph.triples(), Part::Predicate, places)?;
         Ok(Orders {
             graph,
             by_predicate,
@@ -111,6 +123,36 @@ impl Orders {
         &self.graph.triples()[place]
     }
 
+    /// That they are the triples of a graph, for a proof that needs to know. It does nothing.
+    pub fn known(&self)
+        ensures { IsGraph self.now }
+    {
+        let _triples = self.graph.triples();
+    }
+
+    /// Where order 0 has the triples of a run, in that order. It looks at no triple.
+    pub(crate) fn places(&self, alloc: Global, run: Run) -> Result<Vec<usize>, Memory>
+        requires { spec.IsWithin run self.now }
+        ensures { IfOk result (λ places. map (slice_get self.now) places.items ≡ map Some (sorted_by (spec.order_cmp BySubject) (spec.triples_of run self.now))) }
+    {
+        self.known();
+        let mut places = self.places_of(alloc, run)?;
+        places.sort()?;
+        Ok(places)
+    }
+
+    // The same in the order of the run.
+    fn places_of(&self, alloc: Global, run: Run) -> Result<Vec<usize>, Memory>
+        requires { spec.IsWithin run self.now }
+        ensures { IfOk result (λ places. map (slice_get self.now) places.items ≡ map Some (spec.triples_of run self.now)) }
+    {
+        let mut places = Vec::new(alloc);
+        for place in run.start..run.end {
+            places.push(self.place_in(run.order, place as usize))?;
+        }
+        Ok(places)
+    }
+
     // Where the graph has the triple at a place of an order.
     fn place_in(&self, order: u32, place: usize) -> usize
         requires order { order < 3 }
@@ -122,13 +164,13 @@ impl Orders {
             0 => place,
             1 => place_at(
                 self.graph.triples(),
-                Further::ByPredicate,
+                Part::Predicate,
                 self.by_predicate.as_slice(),
                 place,
             ),
             _ => place_at(
                 self.graph.triples(),
-                Further::ByObject,
+                Part::Object,
                 self.by_object.as_slice(),
                 place,
             ),
@@ -137,21 +179,30 @@ impl Orders {
 }
 
 // What stands at a place of a further order: the place of a triple.
-fn place_at(triples: &[Triple], _further: Further, places: &[usize], place: usize) -> usize
-    requires order { spec.AreInOrder (spec.further_cmp _further) triples.now places.now }
+fn place_at(triples: &[Triple], _first: Part, places: &[usize], place: usize) -> usize
+    requires order { spec.AreInOrder (spec.order_cmp _first) triples.now places.now }
     requires place { place < length triples.now }
-    ensures triple { slice_get (sorted_by (spec.further_cmp _further) triples.now) place ≡ slice_get triples.now result }
+    ensures triple { slice_get (sorted_by (spec.order_cmp _first) triples.now) place ≡ slice_get triples.now result }
     ensures within { result < length triples.now }
 {
     places[place]
 }
 
-// The places of triples in a further order.
-fn places_by(alloc: Global, triples: &[Triple], further: Further) -> Result<Vec<usize>, Memory>
-    ensures { IfOk result (λ places. spec.AreInOrder (spec.further_cmp further) triples.now places.items) }
+// The places of triples in the order that begins with a part, from those in the order that ends with it. The sort keeps the order of
+// those that tie, so it looks at this part alone.
+fn places_by(triples: &[Triple], first: Part, mut places: Vec<usize>) -> Result<Vec<usize>, Memory>
+    requires { spec.AreInOrder (spec.order_cmp (spec.next first)) triples.now places.items }
+    ensures { IfOk result (λ sorted. spec.AreInOrder (spec.order_cmp first) triples.now sorted.items) }
 {
-    let mut places = all_places(alloc, triples)?;
-    places.sort_by(|left, right| compare_at(triples, further, *left, *right))?;
+    places.sort_by(|left, right| compare_at(triples, first, *left, *right))?;
+    Ok(places)
+}
+
+// The places of a graph's triples in its own order.
+fn own_places(alloc: Global, graph: &Graph) -> Result<Vec<usize>, Memory>
+    ensures { IfOk result (λ places. spec.AreInOrder (spec.order_cmp BySubject) graph.now places.items) }
+{
+    let places = all_places(alloc, graph.triples())?;
     Ok(places)
 }
 
@@ -166,14 +217,14 @@ fn all_places(alloc: Global, triples: &[Triple]) -> Result<Vec<usize>, Memory>
     Ok(places)
 }
 
-fn compare_at(triples: &[Triple], further: Further, left: usize, right: usize) -> Ordering
-    ensures { result ≡ spec.found_cmp further (slice_get triples.now left) (slice_get triples.now right) }
+fn compare_at(triples: &[Triple], part: Part, left: usize, right: usize) -> Ordering
+    ensures { result ≡ spec.found_cmp (spec.part_cmp part) (slice_get triples.now left) (slice_get triples.now right) }
 {
-    compare_found(further, triples.get(left), triples.get(right))
+    compare_found(part, triples.get(left), triples.get(right))
 }
 
-fn compare_found(further: Further, left: Option<&Triple>, right: Option<&Triple>) -> Ordering
-    ensures { result ≡ spec.found_cmp further (option_copied left.entry) (option_copied right.entry) }
+fn compare_found(part: Part, left: Option<&Triple>, right: Option<&Triple>) -> Ordering
+    ensures { result ≡ spec.found_cmp (spec.part_cmp part) (option_copied left.entry) (option_copied right.entry) }
 {
     match left {
         None => match right {
@@ -182,24 +233,40 @@ fn compare_found(further: Further, left: Option<&Triple>, right: Option<&Triple>
         },
         Some(x) => match right {
             None => Ordering::Greater,
-            Some(y) => compare(further, x, y),
+            Some(y) => compare_part(part, x, y),
         },
     }
 }
 
-fn compare(further: Further, left: &Triple, right: &Triple) -> Ordering
-    ensures { result ≡ spec.further_cmp further left.now right.now }
+fn compare_part(part: Part, left: &Triple, right: &Triple) -> Ordering
+    ensures { result ≡ spec.part_cmp part left.now right.now }
 {
-    match further {
-        Further::ByPredicate => compare_by_predicate(left, right),
-        Further::ByObject => compare_by_object(left, right),
+    match part {
+        Part::Subject => left.subject.cmp(&right.subject),
+        Part::Predicate => left.predicate.cmp(&right.predicate),
+        Part::Object => left.object.cmp(&right.object),
     }
 }
 
-fn compare_by_predicate(left: &Triple, right: &Triple) -> Ordering
-    ensures { result ≡ spec.predicate_cmp left.now right.now }
+/// The part behind a part.
+pub(crate) fn next(part: Part) -> Part
+    ensures { result ≡ spec.next part }
 {
-    left.predicate
-        .cmp(&right.predicate)
-        .then(compare_by_object(left, right))
+    match part {
+        Part::Subject => Part::Predicate,
+        Part::Predicate => Part::Object,
+        Part::Object => Part::Subject,
+    }
+}
+
+/// The part that an order begins with.
+pub(crate) fn first_of(order: u32) -> Part
+    requires { order < 3 }
+    ensures { result ≡ spec.first_of order }
+{
+    match order {
+        0 => Part::Subject,
+        1 => Part::Predicate,
+        _ => Part::Object,
+    }
 }

@@ -1,24 +1,29 @@
 //! Stores.
-ghost use Rattle.std.specs.Prelude.{◌≡◌, ◌↔◌, true, Ok, IfOk, Contains};
+ghost use Rattle.std.specs.Prelude.{◌≡◌, ◌↔◌, ◌≤◌, ◌+◌, true, IfOk, Contains};
 ghost use Rattle.std.specs.List.{filter_map};
 ghost use Rattle.fx_terms.specs.Graphs.{IsGraph};
 ghost use Rattle.fx_algebra.specs.BasicGraphPatterns.{bgp, forced, parts_of};
 ghost use Rattle.fx_algebra.specs.Evaluation.{extended};
-ghost use Rattle.fx_algebra.specs.Operators.{join, merges};
+ghost use Rattle.fx_algebra.specs.Operators.{merges};
+ghost use Rattle.fx_store.specs.Lookups.{most_steps};
 ghost use Rattle.fx_store.specs.Stores.{alone};
 
-use crate::evaluation::{add_fitting, candidates, extend_rows};
+use crate::evaluation::rows_of;
+use crate::lookups::{Sought, run};
+use crate::orders::{Orders, Steps};
 use fx_algebra::Solution;
 use fx_terms::{Graph, Memory, Pattern, Triple};
 use std::alloc::Global;
-use std::marker::Model;
+use std::marker::{Brand, Model};
+use std::sync::ledger::{Blank, Ledger};
 
 /// A graph, in which the triples that fit a pattern are found. Contracts see the list of its triples.
 ///
-/// It is kept as that list, and looked up through its order where a pattern's subject is known.
+/// It is kept in three orders. Whichever parts of a pattern are known, one of them has the triples with these parts side by side,
+/// so they are found by halves.
 #[derive(Drop)]
 pub struct Store {
-    graph: Graph,
+    orders: Orders,
 }
 
 impl Model for Store {
@@ -27,30 +32,28 @@ impl Model for Store {
 
     ghost Value = { List TripleTree };
 
-    ghost view = { λ s. s.graph };
+    ghost view = { λ s. s.orders };
 }
 
 impl Store {
-    /// The store of a graph. It takes no memory, so `Memory` doesn't come: the answer is always `Ok`.
-    pub fn load(graph: Graph) -> Result<Store, Memory>
-        ensures { result ≡ Ok graph }
+    /// The store of a graph.
+    pub fn load(alloc: Global, graph: Graph) -> Result<Store, Memory>
+        ensures { IfOk result (λ store. store ≡ graph) }
     {
-        Ok(Store { graph })
+        Ok(Store {
+            orders: Orders::of(alloc, graph)?,
+        })
     }
 
-    /// The triples, in the order of subject, predicate, object, each once. It takes no memory.
-    pub fn triples(&self) -> &[Triple]
-        ensures all { result.now ≡ self.now }
-        ensures graph { IsGraph self.now }
+    /// That its triples are those of a graph, for a proof that needs to know. It does nothing.
+    pub fn known(&self)
+        ensures { IsGraph self.now }
     {
-        self.graph.triples()
+        self.orders.known();
     }
 
     /// A solution with each triple that fits a pattern under it: what it merges to with each solution of the pattern that it
     /// agrees with (SPARQL 1.1 section 18.3), in the order of the triples.
-    ///
-    /// Where the pattern's subject is known, only the run of triples with that subject is gone over, and of these only those with
-    /// the predicate and the object, as far as these are known too.
     pub fn matches(
         &self,
         alloc: Global,
@@ -60,18 +63,50 @@ impl Store {
         ensures fitting { IfOk result (λ more. more.items ≡ filter_map (λ t. forced solution.now (parts_of pattern.now t)) self.now) }
         ensures merged { IfOk result (λ more. more.items ≡ merges (bgp self.now (alone pattern.now)) solution.now) }
     {
+        self.matches_from::<Brand>(alloc, pattern, solution, Blank::new(1))
+    }
+
+    fn matches_from<L: Ledger>(
+        &self,
+        alloc: Global,
+        pattern: &Pattern,
+        solution: &Solution,
+        blank: Blank,
+    ) -> Result<Vec<Solution>, Memory>
+        requires name { blank.name ≡ L.name }
+        requires parts { blank.parts ≡ L.parts }
+        requires one { blank.parts ≡ 1 }
+        ensures fitting { IfOk result (λ more. more.items ≡ filter_map (λ t. forced solution.now (parts_of pattern.now t)) self.now) }
+        ensures merged { IfOk result (λ more. more.items ≡ merges (bgp self.now (alone pattern.now)) solution.now) }
+    {
+        let (book, share) = blank.open::<L>();
+        let mut steps = Steps::of(book, share);
+        self.matches_counted(alloc, pattern, solution, &mut steps)
+    }
+
+    /// The same, where each triple that is looked at is a step. It takes twice as many steps at most as the number of triples has
+    /// binary digits, and one for each triple that is equal to the pattern at each place where that has a constant, or a variable
+    /// that the solution binds.
+    pub fn matches_counted<L: Ledger>(
+        &self,
+        alloc: Global,
+        pattern: &Pattern,
+        solution: &Solution,
+        steps: &mut Steps<L>,
+    ) -> Result<Vec<Solution>, Memory>
+        ensures fitting { IfOk result (λ more. more.items ≡ filter_map (λ t. forced solution.now (parts_of pattern.now t)) self.now) }
+        ensures merged { IfOk result (λ more. more.items ≡ merges (bgp self.now (alone pattern.now)) solution.now) }
+        ensures steps { steps.new ≤ steps.old + most_steps self.now pattern.now solution.now }
+    {
         // Its contract tells that its names rise.
         let _pairs = solution.pairs();
-        let triples = candidates(&self.graph, pattern, solution);
-        let mut more = Vec::new(alloc);
-        add_fitting(alloc, &mut more, triples, pattern, solution)?;
-        Ok(more)
+        rows_of(alloc, &self.orders, pattern, solution, steps)
     }
 
     /// Each row with each triple that fits a pattern under it, in the order of the rows and then of the triples. From row to row
     /// this is the join with the solutions of the pattern, so one pattern after another gives the join with those of a run.
     ///
-    /// Where only the pattern's object is known, and rows are many, the triples are sorted by their objects first.
+    /// It looks the triples of each row up as `matches_counted` does.
     pub fn extend(
         &self,
         alloc: Global,
@@ -80,13 +115,59 @@ impl Store {
     ) -> Result<Vec<Solution>, Memory>
         ensures { IfOk result (λ more. more.items ≡ extended self.now pattern.now rows.now) }
     {
-        extend_rows(alloc, &self.graph, pattern, rows)
+        self.extend_from::<Brand>(alloc, pattern, rows, Blank::new(1))
+    }
+
+    fn extend_from<L: Ledger>(
+        &self,
+        alloc: Global,
+        pattern: &Pattern,
+        rows: &[Solution],
+        blank: Blank,
+    ) -> Result<Vec<Solution>, Memory>
+        requires name { blank.name ≡ L.name }
+        requires parts { blank.parts ≡ L.parts }
+        requires one { blank.parts ≡ 1 }
+        ensures { IfOk result (λ more. more.items ≡ extended self.now pattern.now rows.now) }
+    {
+        let (book, share) = blank.open::<L>();
+        let mut steps = Steps::of(book, share);
+        self.extend_counted(alloc, pattern, rows, &mut steps)
+    }
+
+    fn extend_counted<L: Ledger>(
+        &self,
+        alloc: Global,
+        pattern: &Pattern,
+        rows: &[Solution],
+        steps: &mut Steps<L>,
+    ) -> Result<Vec<Solution>, Memory>
+        ensures { IfOk result (λ more. more.items ≡ extended self.now pattern.now rows.now) }
+    {
+        let mut more = Vec::new(alloc);
+        for row in rows {
+            let mut found = self.matches_counted(alloc, pattern, row, steps)?;
+            more.append(&mut found)?;
+        }
+        Ok(more)
     }
 
     /// Whether a triple is in it. It takes no memory.
     pub fn has(&self, triple: &Triple) -> bool
         ensures { (result ≡ true) ↔ Contains self.now triple.now }
     {
-        self.graph.triples().binary_search(triple).is_ok()
+        self.has_from::<Brand>(triple, Blank::new(1))
+    }
+
+    fn has_from<L: Ledger>(&self, triple: &Triple, blank: Blank) -> bool
+        requires name { blank.name ≡ L.name }
+        requires parts { blank.parts ≡ L.parts }
+        requires one { blank.parts ≡ 1 }
+        ensures { (result ≡ true) ↔ Contains self.now triple.now }
+    {
+        let (book, share) = blank.open::<L>();
+        let mut steps = Steps::of(book, share);
+        let found = run(&self.orders, &Sought::triple(triple), &mut steps);
+        found.start < found.end
     }
 }

@@ -1,16 +1,19 @@
 //! The calls of `fx_store`.
+ghost use Rattle.std.specs.Prelude.{◌≡◌};
 
 use fx_algebra::Solution;
 use fx_notation::{notation, shown};
-use fx_store::Store;
-use fx_terms::{Pattern, Triple, write_iri, write_term};
+use fx_store::{Steps, Store};
+use fx_terms::{Pattern, Triple};
 use std::alloc::Global;
+use std::marker::Brand;
+use std::sync::ledger::{Blank, Ledger};
 
 /// What a call gives.
 pub fn answer(alloc: Global, call: &str, inputs: &[&str]) -> Option<String> {
     match (call, inputs) {
-        ("Store::triples", [graph]) => triples(alloc, graph),
         ("Store::matches", [graph, pattern, solution]) => matches(alloc, graph, pattern, solution),
+        ("Store::matches_counted of many", [count, pattern]) => counted(alloc, count, pattern),
         ("Store::extend of one row", [graph, pattern, row, count]) => {
             extend(alloc, graph, pattern, row, count)
         }
@@ -21,25 +24,7 @@ pub fn answer(alloc: Global, call: &str, inputs: &[&str]) -> Option<String> {
 
 /// The store of a graph.
 pub fn store(alloc: Global, graph: &str) -> Option<Store> {
-    Store::load(notation::graph(alloc, graph)?).ok()
-}
-
-fn triples(alloc: Global, graph: &str) -> Option<String> {
-    let store = store(alloc, graph)?;
-    let mut text = String::new(alloc);
-    for triple in store.triples() {
-        push_triple(&mut text, triple)?;
-    }
-    Some(text)
-}
-
-fn push_triple(text: &mut String, triple: &Triple) -> Option<()> {
-    write_iri(text, &triple.subject).ok()?;
-    text.push(' ').ok()?;
-    write_iri(text, &triple.predicate).ok()?;
-    text.push(' ').ok()?;
-    write_term(text, &triple.object).ok()?;
-    text.push(';').ok()
+    Store::load(alloc, notation::graph(alloc, graph)?).ok()
 }
 
 fn matches(alloc: Global, graph: &str, pattern: &str, solution: &str) -> Option<String> {
@@ -64,6 +49,46 @@ fn matches_text(
     solution: &Solution,
 ) -> Option<String> {
     let rows = store.matches(alloc, pattern, solution).ok()?;
+    shown::rows(alloc, rows.as_slice())
+}
+
+// The solutions of a pattern over as many triples, of one subject and one predicate, with the numbers from 0 on as objects.
+fn counted(alloc: Global, count: &str, pattern: &str) -> Option<String> {
+    let store = many(alloc, count)?;
+    let pattern = notation::pattern(alloc, pattern)?;
+    counted_from::<Brand>(alloc, &store, pattern.get(), Blank::new(1))
+}
+
+fn many(alloc: Global, count: &str) -> Option<Store> {
+    let count = count.parse::<usize>().ok()?;
+    let mut text = String::new(alloc);
+    for number in 0..count {
+        push_numbered(alloc, &mut text, number)?;
+    }
+    store(alloc, text.as_str())
+}
+
+fn push_numbered(alloc: Global, text: &mut String, number: usize) -> Option<()> {
+    let triple = format!(in alloc; "<http://e/s> <http://e/p> \"{number}\" . ").ok()?;
+    text.push_str(triple.as_str()).ok()
+}
+
+fn counted_from<L: Ledger>(
+    alloc: Global,
+    store: &Store,
+    pattern: &Pattern,
+    blank: Blank,
+) -> Option<String>
+    requires name { blank.name ≡ L.name }
+    requires parts { blank.parts ≡ L.parts }
+    requires one { blank.parts ≡ 1 }
+{
+    let (book, share) = blank.open::<L>();
+    let mut steps = Steps::of(book, share);
+    let solution = Solution::empty(alloc);
+    let rows = store
+        .matches_counted(alloc, pattern, &solution, &mut steps)
+        .ok()?;
     shown::rows(alloc, rows.as_slice())
 }
 

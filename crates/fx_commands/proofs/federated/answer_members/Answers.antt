@@ -1,14 +1,15 @@
 use Rattle.std.proofs.Common.{◌∙◌, sym}
 use Rattle.fx_commands.specs.Asking.{wires_seen}
 use Rattle.fx_commands.specs.FedRefusals.{fed_line}
-use Rattle.fx_commands.proofs.QueryLemmas.{fed_not_cut, fed_not_done, given_reported, none_counted, refusal_reported, refused_wrote, union_document, wrote_so}
+use Rattle.fx_commands.specs.Sinks.{sink_written}
+use Rattle.fx_commands.proofs.QueryLemmas.{cut_so, fed_not_cut, fed_not_done, given_done, given_reported, refusal_reported, refused_wrote, union_document, wrote_so}
 use Rattle.fx_commands.proofs.federated.answer_members.Goals as goal
 
 pub returns-in-Ok-clause-reported : goal.returns-in-Ok-clause-reported
 returns-in-Ok-clause-reported g c =
     let w = wires_seen g.W.Wire.tells_log g.W.Wire.counts_alone g.W.Wire.seen c.args.wires.now c.outcome.new.wires in
-    let told = c.write_answer.ensures.reported in
-    (told.0, given_reported w c.args.members.now c.args.query.now c.args.block c.in-Ok.outcome c.write_answer.result told.0 c.in-Ok.ensures.answered told.1, told.2)
+    let told = c.write_outcome.ensures.reported in
+    (told.0, given_reported w c.args.members.now c.args.query.now c.args.block c.in-Ok.outcome c.write_outcome.result told.0 c.in-Ok.ensures.answered told.1, told.2)
 
 pub returns-in-Err-clause-reported : goal.returns-in-Err-clause-reported
 returns-in-Err-clause-reported g c =
@@ -18,18 +19,25 @@ returns-in-Err-clause-reported g c =
 pub returns-in-Ok-clause-written : goal.returns-in-Ok-clause-written
 returns-in-Ok-clause-written g c = λ told.
     let w = wires_seen g.W.Wire.tells_log g.W.Wire.counts_alone g.W.Wire.seen c.args.wires.now c.outcome.new.wires in
-    wrote_so _ _ (λ text is. union_document w c.args.members.now c.args.query.now c.args.block c.in-Ok.outcome text c.in-Ok.ensures.answered is) c.write_answer.result _ _ (c.write_answer.ensures.written told)
+    wrote_so _ _ (λ text is. union_document w c.args.members.now c.args.query.now c.args.block c.in-Ok.outcome text c.in-Ok.ensures.answered is) c.write_outcome.result _ _ (c.write_outcome.ensures.written told)
 
 pub returns-in-Err-clause-written : goal.returns-in-Err-clause-written
 returns-in-Err-clause-written g c = λ told. refused_wrote _ c.in-Err.error _ _ c.fed_status.ensures
 
-pub returns-in-Ok-clause-endpoint_faults : goal.returns-in-Ok-clause-endpoint_faults
-returns-in-Ok-clause-endpoint_faults g c = λ alone done.
+pub returns-in-Ok-clause-done : goal.returns-in-Ok-clause-done
+returns-in-Ok-clause-done g c = λ done.
     let w = wires_seen g.W.Wire.tells_log g.W.Wire.counts_alone g.W.Wire.seen c.args.wires.now c.outcome.new.wires in
-    none_counted w c.args.members.now c.args.query.now c.args.block c.in-Ok.outcome c.in-Ok.ensures.answered alone
+    let out = sink_written g.O.Ends.tells_held g.O.Ends.held g.O.Ends.write_faults c.args.out.now c.write_outcome.new.out in
+    let err = sink_written g.E.Ends.tells_held g.E.Ends.held g.E.Ends.write_faults c.args.err.now c.write_outcome.new.err in
+    given_done w c.args.members.now c.args.query.now c.args.block c.in-Ok.outcome out err c.in-Ok.ensures.answered (c.write_outcome.ensures.done done)
 
-pub returns-in-Err-clause-endpoint_faults : goal.returns-in-Err-clause-endpoint_faults
-returns-in-Err-clause-endpoint_faults g c = λ alone done. absurd (fed_not_done c.in-Err.error (sym c.fed_status.ensures ∙ done))
+pub returns-in-Err-clause-done : goal.returns-in-Err-clause-done
+returns-in-Err-clause-done g c = λ done. absurd (fed_not_done c.in-Err.error (sym c.fed_status.ensures ∙ done))
+
+pub returns-in-Ok-clause-write_fault : goal.returns-in-Ok-clause-write_fault
+returns-in-Ok-clause-write_fault g c = λ cut.
+    let w = wires_seen g.W.Wire.tells_log g.W.Wire.counts_alone g.W.Wire.seen c.args.wires.now c.outcome.new.wires in
+    cut_so _ _ (λ text is. union_document w c.args.members.now c.args.query.now c.args.block c.in-Ok.outcome text c.in-Ok.ensures.answered is) _ _ (c.write_outcome.ensures.write_fault cut)
 
 pub returns-in-Err-clause-write_fault : goal.returns-in-Err-clause-write_fault
 returns-in-Err-clause-write_fault g c = λ cut. absurd (fed_not_cut c.in-Err.error (sym c.fed_status.ensures ∙ cut))

@@ -1,4 +1,4 @@
-use Rattle.std.proofs.Common.{sym, subst, refl, Ok, Err, inl, map}
+use Rattle.std.proofs.Common.{◌∙◌, sym, subst, refl, Ok, Err, inl, map}
 use Rattle.fx_algebra.specs.declared.queries.Query.{Query}
 use Rattle.fx_outside.proofs.CountLemmas.{stayed_both}
 use Rattle.fx_pool.proofs.WireLemmas.{after_itself}
@@ -9,10 +9,11 @@ use Rattle.fx_commands.specs.LocalSteps.{GivesQuery, query_line}
 use Rattle.fx_commands.specs.MemberSteps.{registry_line}
 use Rattle.fx_commands.specs.Query.{IsQueryReported, IsUnionAnswer}
 use Rattle.fx_commands.specs.RefusalStatuses.{query_status, registry_status}
+use Rattle.fx_commands.specs.Sinks.{sink_written}
 use Rattle.fx_commands.specs.declared.statuses.Status.{Status}
 use Rattle.fx_commands.specs.declared.statuses.Status.TheVariants as status
 use Rattle.fx_commands.proofs.CountLemmas.{only_later, only_read}
-use Rattle.fx_commands.proofs.QueryLemmas.{a_union, ask_reported, query_refused_before, query_since, query_wrote, registry_refused_before, registry_wrote, wrote_so}
+use Rattle.fx_commands.proofs.QueryLemmas.{a_union, answer_reported, cut_so, query_done, query_not_done, query_refused_before, query_since, query_wrote, registry_not_done, registry_refused_before, registry_wrote, wrote_so}
 use Rattle.fx_commands.proofs.federated.run_query.Goals as goal
 
 pub returns-in-Err-clause-reported : goal.returns-in-Err-clause-reported
@@ -23,7 +24,7 @@ returns-in-Err-clause-reported g c =
     let query = read c.args.query.now in
     let text = registry_line c.in-Err.refusal c.args.registry.now in (
       text,
-      subst (λ (s : Status). IsQueryReported w registry query c.args.block s text) (sym c.status.ensures) (inl (refl, inl (registry_refused_before registry query c.in-Err.refusal c.in-Err.ensures.outcome))),
+      subst (λ (s : Status). IsQueryReported w registry query c.args.block s text) (sym c.status.ensures) (inl (refl, registry_refused_before registry query c.in-Err.refusal c.in-Err.ensures.outcome)),
       c.write_registry_refusal.ensures,
     )
 
@@ -36,20 +37,20 @@ returns-in-Err-load_query-clause-reported g c =
     let text = query_line c.in-Err-load_query.refusal c.args.query.now in
     let since = query_since c.args.query.now _ _ ((g.F.Files.seen c.args.files.now).faults c.args.query.now) ((g.F.Files.seen c.load_registry.new.files).faults c.args.query.now) ((g.F.Files.seen c.load_query.new.files).faults c.args.query.now) (Err c.in-Err-load_query.refusal) (c.load_registry.ensures.same c.args.query.now) (c.load_registry.ensures.kept c.args.query.now) c.in-Err-load_query.ensures.outcome in (
       text,
-      subst (λ (s : Status). IsQueryReported w registry query c.args.block s text) (sym c.status-in-Err-load_query.ensures) (inl (refl, inl (query_refused_before registry query _ c.in-Err-load_query.refusal c.in-Ok.ensures.outcome since))),
+      subst (λ (s : Status). IsQueryReported w registry query c.args.block s text) (sym c.status-in-Err-load_query.ensures) (inl (refl, query_refused_before registry query _ c.in-Err-load_query.refusal c.in-Ok.ensures.outcome since)),
       c.write_query_refusal.ensures,
     )
 
 pub returns-clause-reported : goal.returns-clause-reported
 returns-clause-reported g c =
-    let w = wires_seen g.W.Wire.tells_log g.W.Wire.counts_alone g.W.Wire.seen c.args.wires.now c.ask_members.new.wires in
+    let w = wires_seen g.W.Wire.tells_log g.W.Wire.counts_alone g.W.Wire.seen c.args.wires.now c.answer_members.new.wires in
     let read = file_read (g.F.Files.seen c.args.files.now) (g.F.Files.seen c.load_query.new.files) in
     let registry = read c.args.registry.now in
     let query = read c.args.query.now in
-    let told = c.ask_members.ensures.reported in
+    let told = c.answer_members.ensures.reported in
     let since = query_since c.args.query.now _ _ ((g.F.Files.seen c.args.files.now).faults c.args.query.now) ((g.F.Files.seen c.load_registry.new.files).faults c.args.query.now) ((g.F.Files.seen c.load_query.new.files).faults c.args.query.now) (Ok c.in-Ok-load_query.asked) (c.load_registry.ensures.same c.args.query.now) (c.load_registry.ensures.kept c.args.query.now) c.in-Ok-load_query.ensures.outcome in (
       told.0,
-      ask_reported w registry query _ c.get.result.now c.args.block c.ask_members.result told.0 c.in-Ok.ensures.outcome (subst (λ (q : Query). GivesQuery query (Ok q)) (sym c.get.ensures) since) told.1,
+      answer_reported w registry query _ c.get.result.now c.args.block c.answer_members.result told.0 c.in-Ok.ensures.outcome (subst (λ (q : Query). GivesQuery query (Ok q)) (sym c.get.ensures) since) told.1,
       told.2,
     )
 
@@ -69,7 +70,32 @@ returns-clause-written g c = λ told.
     let registry = read c.args.registry.now in
     let query = read c.args.query.now in
     let since = query_since c.args.query.now _ _ ((g.F.Files.seen c.args.files.now).faults c.args.query.now) ((g.F.Files.seen c.load_registry.new.files).faults c.args.query.now) ((g.F.Files.seen c.load_query.new.files).faults c.args.query.now) (Ok c.in-Ok-load_query.asked) (c.load_registry.ensures.same c.args.query.now) (c.load_registry.ensures.kept c.args.query.now) c.in-Ok-load_query.ensures.outcome in
-    wrote_so _ _ (λ text k. a_union (map g.W.Wire.seen c.args.wires.now) registry query _ c.get.result.now text c.in-Ok.ensures.outcome (subst (λ (q : Query). GivesQuery query (Ok q)) (sym c.get.ensures) since) k) c.ask_members.result _ _ (c.ask_members.ensures.written told)
+    wrote_so _ _ (λ text k. a_union (map g.W.Wire.seen c.args.wires.now) registry query _ c.get.result.now text c.in-Ok.ensures.outcome (subst (λ (q : Query). GivesQuery query (Ok q)) (sym c.get.ensures) since) k) c.answer_members.result _ _ (c.answer_members.ensures.written told)
+
+pub returns-in-Err-clause-done : goal.returns-in-Err-clause-done
+returns-in-Err-clause-done g c = λ done. absurd (registry_not_done c.in-Err.refusal (sym c.status.ensures ∙ done))
+
+pub returns-in-Err-load_query-clause-done : goal.returns-in-Err-load_query-clause-done
+returns-in-Err-load_query-clause-done g c = λ done. absurd (query_not_done c.in-Err-load_query.refusal (sym c.status-in-Err-load_query.ensures ∙ done))
+
+pub returns-clause-done : goal.returns-clause-done
+returns-clause-done g c = λ done.
+    let w = wires_seen g.W.Wire.tells_log g.W.Wire.counts_alone g.W.Wire.seen c.args.wires.now c.answer_members.new.wires in
+    let read = file_read (g.F.Files.seen c.args.files.now) (g.F.Files.seen c.load_query.new.files) in
+    let registry = read c.args.registry.now in
+    let query = read c.args.query.now in
+    let since = query_since c.args.query.now _ _ ((g.F.Files.seen c.args.files.now).faults c.args.query.now) ((g.F.Files.seen c.load_registry.new.files).faults c.args.query.now) ((g.F.Files.seen c.load_query.new.files).faults c.args.query.now) (Ok c.in-Ok-load_query.asked) (c.load_registry.ensures.same c.args.query.now) (c.load_registry.ensures.kept c.args.query.now) c.in-Ok-load_query.ensures.outcome in
+    let out = sink_written g.O.Ends.tells_held g.O.Ends.held g.O.Ends.write_faults c.args.out.now c.answer_members.new.out in
+    let err = sink_written g.E.Ends.tells_held g.E.Ends.held g.E.Ends.write_faults c.args.err.now c.answer_members.new.err in
+    query_done w registry query _ c.get.result.now c.args.block out err c.in-Ok.ensures.outcome (subst (λ (q : Query). GivesQuery query (Ok q)) (sym c.get.ensures) since) (c.answer_members.ensures.done done)
+
+pub returns-clause-write_fault : goal.returns-clause-write_fault
+returns-clause-write_fault g c = λ cut.
+    let read = file_read (g.F.Files.seen c.args.files.now) (g.F.Files.seen c.load_query.new.files) in
+    let registry = read c.args.registry.now in
+    let query = read c.args.query.now in
+    let since = query_since c.args.query.now _ _ ((g.F.Files.seen c.args.files.now).faults c.args.query.now) ((g.F.Files.seen c.load_registry.new.files).faults c.args.query.now) ((g.F.Files.seen c.load_query.new.files).faults c.args.query.now) (Ok c.in-Ok-load_query.asked) (c.load_registry.ensures.same c.args.query.now) (c.load_registry.ensures.kept c.args.query.now) c.in-Ok-load_query.ensures.outcome in
+    cut_so _ _ (λ text k. a_union (map g.W.Wire.seen c.args.wires.now) registry query _ c.get.result.now text c.in-Ok.ensures.outcome (subst (λ (q : Query). GivesQuery query (Ok q)) (sym c.get.ensures) since) k) _ _ (c.answer_members.ensures.write_fault cut)
 
 pub returns-in-Err-clause-read_faults : goal.returns-in-Err-clause-read_faults
 returns-in-Err-clause-read_faults g c =

@@ -9,15 +9,16 @@ use Rattle.fx_commands.specs.Explain.{IsExplainWritten}
 use Rattle.fx_commands.specs.Headline.{Headline}
 use Rattle.fx_commands.specs.Lines.{Gains, usage_line, no_memory}
 use Rattle.fx_commands.specs.Local.{IsAnswer}
-use Rattle.fx_commands.specs.Query.{IsQueryWritten}
+use Rattle.fx_commands.specs.Query.{IsQueryWritten, IsUnionAnswer}
 use Rattle.fx_commands.specs.Runs.{Reports, wires_used}
-use Rattle.fx_commands.specs.Sinks.{sink_written}
+use Rattle.fx_commands.specs.Sinks.{IsCutShort, sink_written}
 use Rattle.fx_commands.specs.declared.statuses.Status.TheVariants as status
 use Rattle.fx_commands.proofs.CompletenessLemmas.{explain_completes, local_completes, member_completes, query_completes, want_completes}
 use Rattle.fx_commands.proofs.GainLemmas.{gains_alone}
 use Rattle.fx_commands.proofs.HeadlineLemmas.{explain_headline, local_headline, no_headline, query_headline}
-use Rattle.fx_commands.proofs.ReportLemmas.{usage_reported, memory_reported, nothing_written, file_reported, members_reported, members_written, plan_reported, plan_written, serving_reported}
-use Rattle.fx_commands.proofs.UsedLemmas.{on_same, on_taken, on_used, used_after}
+use Rattle.fx_commands.proofs.ReportLemmas.{file_counts, file_reported, members_counts, members_cut, members_reported, members_written, memory_reported, nothing_written, plan_counts, plan_reported, plan_written, serving_counts, serving_reported, usage_reported}
+use Rattle.fx_commands.proofs.SilentLemmas.{counts_down}
+use Rattle.fx_commands.proofs.UsedLemmas.{on_same, on_taken, on_used, used_after, used_counts_none, used_down}
 use Rattle.fx_commands.proofs.running.run.Goals as goal
 
 -- ---- words that are no command
@@ -111,6 +112,9 @@ returns-in-Ok-Local-clause-reported g c =
 pub returns-in-Ok-Local-clause-wired : goal.returns-in-Ok-Local-clause-wired
 returns-in-Ok-Local-clause-wired g c = after_itself (map g.W.Wire.seen c.args.wires.now)
 
+pub returns-in-Ok-Local-clause-endpoint_faults : goal.returns-in-Ok-Local-clause-endpoint_faults
+returns-in-Ok-Local-clause-endpoint_faults g c = λ alone done. file_counts _ _ _ _ c.in-Ok-Local.graph.now c.in-Ok-Local.query.now (rw c.in-Ok-Local.field-0-is at c.in-Ok-Local.ensures.asked)
+
 -- ---- `query`
 
 pub returns-in-Ok-Query-clause-headline : goal.returns-in-Ok-Query-clause-headline
@@ -125,7 +129,7 @@ returns-in-Ok-Query-clause-headline g c =
     on_used g.W.Wire.seen g.W.Wire.tells_log g.W.Wire.counts_alone (λ (w : WiresSeen). Headline read w a c.run_query.result out err) (wires_used a) c.in-Ok-Query.workers c.min.result c.args.wires.now c.split_at_mut-used.result.0.now c.split_at_mut-used.result.1.now c.run_query.new.wires
     (ap wires_used is) c.min.ensures c.split_at_mut-used.ensures.front c.split_at_mut-used.ensures.back
     (subst (λ (o : Option Asked). Headline read w o c.run_query.result out err) (sym is)
-    (query_headline w (read c.in-Ok-Query.registry.now) (read c.in-Ok-Query.query.now) c.in-Ok-Query.block c.run_query.result told.0 out err told.1 told.2 c.run_query.ensures.written))
+    (query_headline w (read c.in-Ok-Query.registry.now) (read c.in-Ok-Query.query.now) c.in-Ok-Query.block c.run_query.result told.0 out err told.1 told.2 c.run_query.ensures.done))
 
 pub returns-in-Ok-Query-clause-completes : goal.returns-in-Ok-Query-clause-completes
 returns-in-Ok-Query-clause-completes g c =
@@ -140,7 +144,7 @@ returns-in-Ok-Query-clause-completes g c =
     on_used g.W.Wire.seen g.W.Wire.tells_log g.W.Wire.counts_alone (λ (w : WiresSeen). Completes read w door door a c.run_query.result out err) (wires_used a) c.in-Ok-Query.workers c.min.result c.args.wires.now c.split_at_mut-used.result.0.now c.split_at_mut-used.result.1.now c.run_query.new.wires
     (ap wires_used is) c.min.ensures c.split_at_mut-used.ensures.front c.split_at_mut-used.ensures.back
     (subst (λ (o : Option Asked). Completes read w door door o c.run_query.result out err) (sym is)
-    (query_completes w (read c.in-Ok-Query.registry.now) (read c.in-Ok-Query.query.now) c.in-Ok-Query.block c.run_query.result told.0 out told.1 (λ cut. (c.run_query.ensures.write_fault cut).0)))
+    (query_completes w (read c.in-Ok-Query.registry.now) (read c.in-Ok-Query.query.now) c.in-Ok-Query.block c.run_query.result told.0 out err (IsUnionAnswer w.before (read c.in-Ok-Query.registry.now) (read c.in-Ok-Query.query.now)) told.1 c.run_query.ensures.write_fault))
 
 pub returns-in-Ok-Query-clause-reported : goal.returns-in-Ok-Query-clause-reported
 returns-in-Ok-Query-clause-reported g c =
@@ -171,7 +175,38 @@ returns-in-Ok-Query-clause-written g c = λ tells.
     (on_taken g.W.Wire.seen (λ (l : List Seen). IsQueryWritten l (read c.in-Ok-Query.registry.now) (read c.in-Ok-Query.query.now) c.run_query.result old new) (wires_used a) c.in-Ok-Query.workers c.min.result c.args.wires.now c.split_at_mut-used.result.0.now
     (ap wires_used is) c.min.ensures c.split_at_mut-used.ensures.front (c.run_query.ensures.written tells))
 
+pub returns-in-Ok-Query-clause-write_fault : goal.returns-in-Ok-Query-clause-write_fault
+returns-in-Ok-Query-clause-write_fault g c = λ cut.
+    let a = asked (map (λ w. string_bytes w) c.args.words.now) in
+    let is : a ≡ Some (over_members c.in-Ok-Query.registry.now c.in-Ok-Query.query.now c.in-Ok-Query.workers c.in-Ok-Query.block) = rw c.in-Ok-Query.field-0-is at c.in-Ok-Query.ensures.asked in
+    let read = file_read (g.F.Files.seen c.args.files.now) (g.F.Files.seen c.run_query.new.files) in
+    let out = sink_written g.O.Ends.tells_held g.O.Ends.held g.O.Ends.write_faults c.args.out.now c.run_query.new.out in
+    let err = sink_written g.E.Ends.tells_held g.E.Ends.held g.E.Ends.write_faults c.args.err.now c.run_query.new.err in
+    members_cut read (map g.W.Wire.seen (take (wires_used a) c.args.wires.now)) a c.in-Ok-Query.registry.now c.in-Ok-Query.query.now c.in-Ok-Query.workers c.in-Ok-Query.block out err is
+    (on_taken g.W.Wire.seen (λ (l : List Seen). IsCutShort (IsUnionAnswer l (read c.in-Ok-Query.registry.now) (read c.in-Ok-Query.query.now)) out err) (wires_used a) c.in-Ok-Query.workers c.min.result c.args.wires.now c.split_at_mut-used.result.0.now
+    (ap wires_used is) c.min.ensures c.split_at_mut-used.ensures.front (c.run_query.ensures.write_fault cut))
+
+pub returns-in-Ok-Query-clause-endpoint_faults : goal.returns-in-Ok-Query-clause-endpoint_faults
+returns-in-Ok-Query-clause-endpoint_faults g c = λ alone done.
+    let a = asked (map (λ w. string_bytes w) c.args.words.now) in
+    let is : a ≡ Some (over_members c.in-Ok-Query.registry.now c.in-Ok-Query.query.now c.in-Ok-Query.workers c.in-Ok-Query.block) = rw c.in-Ok-Query.field-0-is at c.in-Ok-Query.ensures.asked in
+    let w : WiresSeen = wires_seen g.W.Wire.tells_log g.W.Wire.counts_alone g.W.Wire.seen c.split_at_mut-used.result.0.now c.run_query.new.wires in
+    let read = file_read (g.F.Files.seen c.args.files.now) (g.F.Files.seen c.run_query.new.files) in
+    let out = sink_written g.O.Ends.tells_held g.O.Ends.held g.O.Ends.write_faults c.args.out.now c.run_query.new.out in
+    let err = sink_written g.E.Ends.tells_held g.E.Ends.held g.E.Ends.write_faults c.args.err.now c.run_query.new.err in
+    members_counts read a _ _ err c.in-Ok-Query.registry.now c.in-Ok-Query.query.now c.in-Ok-Query.workers c.in-Ok-Query.block is
+    (used_down g.W.Wire.seen (read c.in-Ok-Query.query.now) err c.args.wires.now c.split_at_mut-used.result.0.now c.split_at_mut-used.result.1.now c.run_query.new.wires c.split_at_mut-used.ensures.value
+    (counts_down w (read c.in-Ok-Query.registry.now) (read c.in-Ok-Query.query.now) c.in-Ok-Query.block out err (c.run_query.ensures.done done) alone))
+
 -- ---- `explain`
+
+pub returns-in-Ok-Explain-clause-endpoint_faults : goal.returns-in-Ok-Explain-clause-endpoint_faults
+returns-in-Ok-Explain-clause-endpoint_faults g c = λ alone done.
+    let a = asked (map (λ w. string_bytes w) c.args.words.now) in
+    let is : a ≡ Some (planned c.in-Ok-Explain.registry.now c.in-Ok-Explain.query.now) = rw c.in-Ok-Explain.field-0-is at c.in-Ok-Explain.ensures.asked in
+    let read = file_read (g.F.Files.seen c.args.files.now) (g.F.Files.seen c.run_explain.new.files) in
+    plan_counts read a _ _ _ c.in-Ok-Explain.registry.now c.in-Ok-Explain.query.now is
+    (used_counts_none g.W.Wire.seen c.args.wires.now c.split_at_mut-used-in-Ok-Explain.result.0.now c.split_at_mut-used-in-Ok-Explain.result.1.now c.run_explain.new.wires c.split_at_mut-used-in-Ok-Explain.ensures.value (c.run_explain.ensures.endpoint_faults alone done))
 
 pub returns-in-Ok-Explain-clause-written : goal.returns-in-Ok-Explain-clause-written
 returns-in-Ok-Explain-clause-written g c = λ tells.
@@ -262,3 +297,6 @@ returns-in-Ok-Member-clause-reported g c =
 
 pub returns-in-Ok-Member-clause-wired : goal.returns-in-Ok-Member-clause-wired
 returns-in-Ok-Member-clause-wired g c = after_itself (map g.W.Wire.seen c.args.wires.now)
+
+pub returns-in-Ok-Member-clause-endpoint_faults : goal.returns-in-Ok-Member-clause-endpoint_faults
+returns-in-Ok-Member-clause-endpoint_faults g c = λ alone done. serving_counts _ _ _ _ c.in-Ok-Member.graph.now c.in-Ok-Member.address.now c.in-Ok-Member.count (rw c.in-Ok-Member.field-0-is at c.in-Ok-Member.ensures.asked)

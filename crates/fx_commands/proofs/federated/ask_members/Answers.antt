@@ -1,9 +1,0 @@
-use Rattle.std.proofs.Common.{map}
-use Rattle.fx_pool.proofs.WireLemmas.{after_itself}
-use Rattle.fx_commands.proofs.federated.ask_members.Goals as goal
-
-pub returns-then-not-is_empty-clause-wired : goal.returns-then-not-is_empty-clause-wired
-returns-then-not-is_empty-clause-wired g c = after_itself (map g.W.Wire.seen c.args.wires.now)
-
-pub returns-in-Err-clause-wired : goal.returns-in-Err-clause-wired
-returns-in-Err-clause-wired g c = after_itself (map g.W.Wire.seen c.args.wires.now)

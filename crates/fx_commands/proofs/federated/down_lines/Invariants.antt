@@ -1,0 +1,7 @@
+use Rattle.std.proofs.Common.{◌≡◌, ◌++◌, drop}
+use Rattle.fx_commands.specs.Lines.{down_lines}
+use Rattle.fx_commands.proofs.federated.down_lines.Given as goal
+
+-- what is left completes the lines
+abbrev pub invariant-loop-one : goal.invariant-loop-one
+invariant-loop-one l = l.lines.items ++ down_lines (drop l.one-index l.down) ≡ down_lines l.down

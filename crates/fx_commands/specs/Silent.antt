@@ -1,0 +1,46 @@
+-- What is down of the occurrences of SERVICE SILENT of a query, and why.
+use Rattle.std.specs.Prelude.{◌≡◌, ◌≤◌, ◌+◌, ℕ, suc, false, List, [], ◌∷◌, ◌++◌, map, All, Contains, IsTrue, IsPermutation, bytes_eq, cond, if◌then◌else◌}
+use Rattle.fx_outside.specs.Endpoints.{EndpointParts}
+use Rattle.fx_algebra.specs.declared.queries.Query.{Query}
+use Rattle.fx_traffic.specs.Gains.{HaveGained, faults_at}
+use Rattle.fx_wire.specs.Exchanges.{Exchange}
+use Rattle.fx_engine.specs.Calls.{AreCalls, Call, IsPassed, Occurrence, down_in, failed, failure_of, occurrences}
+use Rattle.fx_engine.specs.Noted.{places}
+use Rattle.fx_engine.specs.Unknown.{is_registered}
+use Rattle.fx_engine.specs.declared.mediator.Down.{Down}
+use Rattle.fx_engine.specs.declared.mediator.DownCause.TheVariants as cause
+use Rattle.fx_commands.specs.Asking.{WiresSeen}
+
+-- an occurrence without SILENT has the IRI
+abbrev pub IsPlain : Query → List ℕ → Type 0
+IsPlain asked iri = (o : Occurrence) × Contains (occurrences asked) o × (o.silent ≡ false) × (o.iri ≡ iri)
+
+-- the numbers of occurrences that name no endpoint, from a number on
+abbrev pub unregistered : List EndpointParts → ℕ → List Occurrence → List ℕ
+unregistered endpoints n [] = []
+unregistered endpoints n (o ∷ os) = if is_registered endpoints o.iri then unregistered endpoints (suc n) os else n ∷ unregistered endpoints (suc n) os
+
+-- how many are down since an exchange at an address failed
+abbrev pub wires_failed : List ℕ → List Down → ℕ
+wires_failed address [] = 0
+wires_failed address (d ∷ noted) = cond {A = ℕ} (bytes_eq d.iri address) (failure_of (failed d.why)) 0 + wires_failed address noted
+
+-- Each occurrence of the query came to rows, or to a reason why it has none. Those with a reason are silent, and are what is down, by their numbers.
+pub record AreDown (asked : Query) (noted : List Down) : Type 0 where
+  pub calls : List Call
+  pub all_called : map (λ c. c.of) calls ≡ occurrences asked
+  pub passed : All IsPassed calls
+  pub noted_are : noted ≡ down_in calls
+
+-- Each came to that by its own exchanges alone, which are some of those that were made, and no address has more failed exchanges than its count of faults rose by. Where
+-- there is no other reason than that the IRI is no endpoint's, those are down of which this is so.
+pub record AreLicensed (w : WiresSeen) (endpoints : List EndpointParts) (asked : Query) (noted : List Down) : Type 0 where
+  pub down : AreDown asked noted
+  pub exchanges : List Exchange
+  pub gained : IsTrue w.tells → HaveGained w.before w.after exchanges
+  pub own : List Exchange
+  pub others : List Exchange
+  pub parted : IsPermutation (others ++ own) exchanges
+  pub come_to : AreCalls w.before endpoints down.calls own
+  pub counted : (address : List ℕ) → faults_at w.before address + wires_failed address noted ≤ faults_at w.after address
+  pub all_unknown : All (λ (d : Down). d.why ≡ cause.Unknown) noted → places noted ≡ unregistered endpoints 0 (occurrences asked)

@@ -1,0 +1,329 @@
+-- A query was asked over wires: its answer, or the cause of a refusal.
+use Rattle.std.proofs.Common.{◌≡◌, ◌∙◌, ap, sym, subst, refl, inl, inr, ◌⊎◌, ℕ, ◌+◌, ◌<◌, ◌≤◌, Bool, List, [], ◌∷◌, ◌++◌, length, map, None, Ok, Err, IfErr, IfOk, IsTrue, Result, append-nil, append_assoc, arith}
+use Rattle.std.specs.Prelude.{All, Contains, IsPermutation}
+use Rattle.std.specs.List.{zip}
+use Rattle.std.proofs.lemmas.List.Elements.{All-append, All-nil, All-weaker, Contains-append_left, Contains-append_right}
+use Rattle.std.proofs.lemmas.List.Sorted.{Contains-permutation, IsPermutation-append_right, IsPermutation-refl, IsPermutation-trans}
+use Rattle.fx_terms.specs.declared.triples.Triple.{Triple}
+use Rattle.fx_outside.specs.Endpoints.{EndpointParts}
+use Rattle.fx_algebra.specs.Answers.{answer as answer_of}
+use Rattle.fx_algebra.specs.Cuts.{seeds, stations}
+use Rattle.fx_algebra.specs.Graphs.{union}
+use Rattle.fx_algebra.specs.Solutions.{Bindings}
+use Rattle.fx_algebra.specs.Units.{sources}
+use Rattle.fx_algebra.specs.declared.queries.Query.{Query}
+use Rattle.fx_algebra.proofs.CutLemmas.{seeds_for_each}
+use Rattle.fx_plan.specs.declared.parts.Part.{Part}
+use Rattle.fx_pool.specs.Flows.{IsBatchRead}
+use Rattle.fx_pool.specs.declared.flows.FlowError.{FlowError}
+use Rattle.fx_pool.proofs.WireLemmas.{after_itself}
+use Rattle.fx_sources.specs.Probes.{Entry, chosen, learned, missing, told}
+use Rattle.fx_sources.specs.Sources as source
+use Rattle.fx_sources.specs.declared.probes.Probe.{Probe}
+use Rattle.fx_traffic.specs.Batches.{IsBatchText}
+use Rattle.fx_traffic.specs.Gains.{AreAfter, TellAll, faults_at}
+use Rattle.fx_traffic.specs.Sent.{Sent, Sends}
+use Rattle.fx_traffic.specs.Traffic.{AreAsked, IsServiceSent, IsTraffic}
+use Rattle.fx_traffic.proofs.GainLemmas.{gain_laws}
+use Rattle.fx_traffic.proofs.SentLemmas.{sent_laws}
+use Rattle.fx_wire.specs.Exchanges.{Exchange, Seen}
+use Rattle.fx_engine.specs.Asks.{AskedAll, IsAskRead}
+use Rattle.fx_engine.specs.Calls.{AreCalls, Call, IsPassed, Occurrence, down_in, failures_at, occurrences}
+use Rattle.fx_engine.specs.Mediation.{AreKnown, Federated, HasFedCause, HasPlanCause, HoldsBehind, IsNamed, IsRead, IsUnitOf, KnowsServices, Serve}
+use Rattle.fx_engine.specs.Noted.{places}
+use Rattle.fx_engine.specs.GroupsAsked.{CanBeAsked, units_in}
+use Rattle.fx_engine.specs.Outcomes.{HasOutcomeCause, HasRefusal, Outcomed}
+use Rattle.fx_engine.specs.RunsSent.{AreRunsSent}
+use Rattle.fx_engine.specs.Sections.{parts_by, parts_with, sections}
+use Rattle.fx_engine.specs.Tasks.{tasks_with}
+use Rattle.fx_engine.specs.Unknown.{unknown_of}
+use Rattle.fx_engine.specs.declared.mediator.FedError.{FedError}
+use Rattle.fx_engine.specs.declared.mediator.FedError.TheVariants as fed
+use Rattle.fx_engine.specs.declared.mediator.Outcome.{Outcome}
+use Rattle.fx_engine.specs.declared.tasks.Task.{Task}
+use Rattle.fx_engine.proofs.BatchCauseLemmas.{batch_cause_behind, read_of_query, texts_of_query}
+use Rattle.fx_engine.proofs.CallLemmas.{calls_earlier}
+use Rattle.fx_engine.proofs.ChoiceLemmas.{has_kept, has_learned, parts_are_by_graphs, plan_cause}
+use Rattle.fx_engine.proofs.MediationLemmas.{kept_true, known_named, learned_true, stays}
+use Rattle.fx_engine.proofs.RunsSentLemmas.{AreCalled, sent_by_all}
+use Rattle.fx_engine.proofs.StationLemmas.{no_run_sent}
+use Rattle.fx_engine.proofs.WiresLemmas.{AllTell, all_after, gained_both, still_tell_all}
+
+-- no ASK is asked
+pub none_asked : (es : List EndpointParts) (q : Query) (old : List Entry) → AreAsked es q old []
+none_asked es q old = record { probes = []; unasked = missing q (length es) old; lacked = IsPermutation-refl (missing q (length es) old); texts = refl }
+
+-- ---- the texts of occurrences
+
+none_called : (es : List EndpointParts) (os : List Occurrence) → AreCalled es os []
+none_called es [] = refl
+none_called es (o ∷ os) = ([], [], refl, inl refl, none_called es os)
+
+-- what is sent for occurrences that were invoked: each text once at most, and some of that
+record CalledTexts (es : List EndpointParts) (os : List Occurrence) (xs : List Exchange) : Type 0 where
+  texts : List Sent
+  left : List Sent
+  called : AreCalled es os texts
+  sent : Sends texts left xs
+
+called_texts : (wires : List Seen) (es : List EndpointParts) (calls : List Call) (others os : List Occurrence) (xs : List Exchange) → map (λ c. c.of) calls ++ others ≡ os → AreCalls wires es calls xs → CalledTexts es os xs
+called_texts wires es [] others os xs are h = record { texts = []; left = []; called = none_called es os; sent = subst (Sends [] []) (sym h) (IsPermutation-refl []) }
+called_texts wires es (c ∷ cs) others [] xs are h = absurd (cc)
+called_texts wires es (c ∷ cs) others (o ∷ os) xs are h =
+    let both : c.of ∷ (map (λ (d : Call). d.of) cs ++ others) ≡ o ∷ os = are in
+    let same : c.of ≡ o = cc in
+    let behind : map (λ (d : Call). d.of) cs ++ others ≡ os = cc in
+    let rest = called_texts wires es cs others os h.1 behind h.5 in
+    record {
+      texts = h.4.wanted ++ rest.texts;
+      left = h.4.left ++ rest.left;
+      called = (h.4.wanted, rest.texts, refl, subst (λ (v : Occurrence). (h.4.wanted ≡ []) ⊎ IsServiceSent es v.iri v.group h.4.wanted) same h.4.text, rest.called);
+      sent = subst (Sends (h.4.wanted ++ rest.texts) (h.4.left ++ rest.left)) (sym h.2) (sent_laws.together h.4.wanted h.4.left rest.texts rest.left h.0 h.1 h.4.sent rest.sent);
+    }
+
+-- all that a query sends, from what it sends for its runs and for its occurrences
+module _ (es : List EndpointParts) (graphs : List (List Triple)) (block : ℕ) (services : List ℕ → List Triple) (down : List ℕ) (q : Query) (old : List Entry) (wires : List Seen) where
+  traffic_of : (asks texts left : List Sent) (calls : List Call) (others : List Occurrence) (xs ys all : List Exchange) → AreAsked es q old asks → AreRunsSent es graphs block (stations q) (seeds q (union graphs) services down) texts → Sends (asks ++ texts) left xs
+      → map (λ c. c.of) calls ++ others ≡ occurrences q → AreCalls wires es calls ys → IsPermutation (xs ++ ys) all → (unsent : List Sent) × IsTraffic es graphs block services down q old unsent all
+  traffic_of asks texts left calls others xs ys all asked runs sent are called same =
+      let c = called_texts wires es calls others (occurrences q) ys are called in
+      let m = sent_by_all es graphs block (stations q) (seeds q (union graphs) services down) texts c.texts runs c.called in
+      let together : Sends ((asks ++ texts) ++ c.texts) (left ++ c.left) (xs ++ ys) = sent_laws.together (asks ++ texts) left c.texts c.left xs ys sent c.sent in
+      let moved : Sends ((asks ++ texts) ++ c.texts) (left ++ c.left) all = sent_laws.any_order ((asks ++ texts) ++ c.texts) (left ++ c.left) (xs ++ ys) all same together in
+      let other : IsPermutation (asks ++ (texts ++ c.texts)) (asks ++ m.all) = IsPermutation-append_right asks (texts ++ c.texts) m.all m.same in
+      let wanted : IsPermutation ((asks ++ texts) ++ c.texts) (asks ++ m.all) = subst (λ (v : List Sent). IsPermutation v (asks ++ m.all)) (sym (append_assoc asks texts c.texts)) other in
+      (left ++ c.left, record { asks = asks; asked = asked; texts = m.all; of_stations = m.sent; sent = IsPermutation-trans _ ((asks ++ texts) ++ c.texts) (asks ++ m.all) moved wanted })
+
+-- ---- nothing was asked
+
+-- where a SERVICE is unknown, or memory lacks
+pub federated_unasked : (tells alone : Bool) (wires : List Seen) (es : List EndpointParts) (q : Query) (old : List Entry) (block : ℕ) (e : FedError) → KnowsServices {X = Outcome} es q (Err e) → HasFedCause wires wires es q old [] [] [] block e
+    → Federated tells alone wires wires es q old old block (Err e)
+federated_unasked tells alone wires es q old block e known cause = record {
+  exchanges = [];
+  gained = λ told. gain_laws.nothing wires;
+  after_all = after_itself wires;
+  calls = [];
+  first = record { others = occurrences q; are = refl };
+  all_called = tt;
+  passed = tt;
+  down = tt;
+  counted = λ address. omega arith;
+  exact = λ is. tt;
+  of_calls = [];
+  of_others = [];
+  parted = IsPermutation-refl [];
+  are_calls = refl;
+  asks = [];
+  asked = none_asked es q old;
+  texts = [];
+  of_batches = All-nil (IsBatchText es block (IsUnitOf q));
+  of_runs = λ graphs known services serve. no_run_sent es graphs block (stations q) (seeds q (union graphs) services []) (seeds_for_each q (union graphs) services []);
+  left = [];
+  sent = IsPermutation-refl [];
+  faultless = tt;
+  traffic = λ graphs known services serve.
+      traffic_of es graphs block services [] q old wires [] [] [] [] (occurrences q) [] [] [] (none_asked es q old) (no_run_sent es graphs block (stations q) (seeds q (union graphs) services []) (seeds_for_each q (union graphs) services [])) (IsPermutation-refl []) refl refl (IsPermutation-refl []);
+  answer = tt;
+  known = known;
+  cause = cause;
+  held = stays Outcome es q old [] e;
+  stays_true = λ graphs is. is.entries_are;
+}
+
+-- ---- by what was asked first
+
+-- with the cause of a plan there is one of an answer
+fed_cause : (s t : List Seen) (es : List EndpointParts) (q : Query) (old : List Entry) (block : ℕ) (calls : List Call) (xs : List Exchange) (texts : List Sent) (e : FedError) → HasPlanCause s t es q old xs e → HasFedCause s t es q old calls texts xs block e
+fed_cause s t es q old block calls xs texts (fed.Member name) k = k
+fed_cause s t es q old block calls xs texts (fed.Service iri) k = absurd k
+fed_cause s t es q old block calls xs texts (fed.BadReply name bad) k = (k.0, k.1, k.2, inl k.3)
+fed_cause s t es q old block calls xs texts (fed.RequestTooLong name size) k = (k.0, k.1, k.2, inl k.3)
+fed_cause s t es q old block calls xs texts (fed.UnknownService iri) k = k
+fed_cause s t es q old block calls xs texts fed.Memory k = tt
+
+-- and so there is with that of an occurrence
+pub refusal_cause : (s t u : List Seen) → AreAfter s t → (es : List EndpointParts) (q : Query) (old : List Entry) (block : ℕ) (calls : List Call) (xs : List Exchange) (texts : List Sent) (e : FedError) → HasRefusal t u es calls e
+    → HasFedCause s u es q old calls texts xs block e
+refusal_cause s t u after es q old block calls xs texts (fed.Member name) k = absurd k
+refusal_cause s t u after es q old block calls xs texts (fed.Service iri) k =
+    let low : faults_at s iri ≤ faults_at t iri = gain_laws.never_fall s t iri after in
+    let rose : faults_at t iri < faults_at u iri = k.2 in
+    (k.0, k.1, omega (arith, low, rose))
+refusal_cause s t u after es q old block calls xs texts (fed.BadReply name bad) k = (k.0, k.1, k.2, inr (inr k.3))
+refusal_cause s t u after es q old block calls xs texts (fed.RequestTooLong name size) k = (k.0, k.1, k.2, inr (inr k.3))
+refusal_cause s t u after es q old block calls xs texts (fed.UnknownService iri) k = absurd k
+refusal_cause s t u after es q old block calls xs texts fed.Memory k = tt
+
+module _ (tells alone : Bool) (s t : List Seen) (es : List EndpointParts) (q : Query) (old : List Entry) (known : unknown_of es q ≡ None) (block : ℕ) where
+  abbrev probes : List Probe
+  probes = missing q (length es) old
+
+  abbrev StaysTrue : List Entry → Type 0
+  StaysTrue new = (graphs : List (List Triple)) → AreKnown s es old graphs → All (source.Tells graphs) new
+
+  pub federated_refused : (why : FlowError) (e : FedError) → AskedAll tells alone s t es probes (Err why) → IsNamed es why e → Federated tells alone s t es q old old block (Err e)
+  federated_refused why e h n =
+      let asked : AreAsked es q old h.wanted = record { probes = h.asked; unasked = h.unasked; lacked = h.split; texts = h.texts } in
+      let sent : Sends (h.wanted ++ []) h.left h.exchanges = subst (λ (v : List Sent). Sends v h.left h.exchanges) (sym (append-nil h.wanted)) h.sent in
+      let own : h.exchanges ++ [] ≡ h.exchanges = append-nil h.exchanges in
+      record {
+        exchanges = h.exchanges;
+        gained = h.gained;
+        after_all = h.after_all;
+        calls = [];
+        first = record { others = occurrences q; are = refl };
+        all_called = tt;
+        passed = tt;
+        down = tt;
+        counted = λ address. let low : faults_at s address ≤ faults_at t address = gain_laws.never_fall s t address h.after_all in omega (arith, low);
+        exact = λ is. tt;
+        of_calls = [];
+        of_others = h.exchanges;
+        parted = subst (λ (v : List Exchange). IsPermutation v h.exchanges) (sym own) (IsPermutation-refl h.exchanges);
+        are_calls = refl;
+        asks = h.wanted;
+        asked = asked;
+        texts = [];
+        of_batches = All-nil (IsBatchText es block (IsUnitOf q));
+        of_runs = λ graphs known services serve. no_run_sent es graphs block (stations q) (seeds q (union graphs) services []) (seeds_for_each q (union graphs) services []);
+        left = h.left;
+        sent = sent;
+        faultless = tt;
+        traffic = λ graphs known services serve.
+            traffic_of es graphs block services [] q old s h.wanted [] h.left [] (occurrences q) h.exchanges [] h.exchanges asked (no_run_sent es graphs block (stations q) (seeds q (union graphs) services []) (seeds_for_each q (union graphs) services [])) sent refl refl
+            (subst (λ (v : List Exchange). IsPermutation v h.exchanges) (sym own) (IsPermutation-refl h.exchanges));
+        answer = tt;
+        known = known_named Outcome es q why e n known;
+        cause = fed_cause s t es q old block [] h.exchanges [] e (plan_cause es q old s t h.exchanges why e h.cause n);
+        held = stays Outcome es q old h.exchanges e;
+        stays_true = λ graphs is. is.entries_are;
+      }
+
+  -- ---- and then by the plan
+
+  module _ (u : List Seen) (a : AllTell tells s) (b : AllTell tells t) (truths : List Bool) (h : AskedAll tells alone s t es probes (Ok truths)) (parts : List Part) (are : parts ≡ parts_by (sections q) (chosen q (length es) (told probes truths ++ old)))
+      (r : Result Outcome FedError) (k : Outcomed tells alone t u es q parts block r) where
+    by_graphs : (graphs : List (List Triple)) → AreKnown s es old graphs → parts ≡ parts_with (sources graphs) q
+    by_graphs graphs known = are ∙ parts_are_by_graphs s es q old graphs truths known.told known.entries_are h.many (h.told graphs known.told)
+
+    runs_sent : (graphs : List (List Triple)) → AreKnown s es old graphs → (services : List ℕ → List Triple) → Serve services es graphs → AreRunsSent es graphs block (stations q) (seeds q (union graphs) services (places (down_in k.calls))) k.texts
+    runs_sent graphs known services serve = k.runs graphs (still_tell_all s t h.after_all es graphs known.told) (by_graphs graphs known) services serve
+
+    abbrev Answered : Result Outcome FedError → Type 0
+    Answered o = IfOk o (λ outcome. (graphs : List (List Triple)) → AreKnown s es old graphs → (services : List ℕ → List Triple) → Serve services es graphs → outcome.answer ≡ answer_of q (union graphs) services (places outcome.down))
+
+    pub is_answered : (outcome : Outcome) → r ≡ Ok outcome → Answered (Ok outcome)
+    is_answered outcome same = λ graphs known services serve.
+        subst (λ (o : Result Outcome FedError). IfOk o (λ (c : Outcome). (graphs : List (List Triple)) → TellAll t es graphs → parts ≡ parts_with (sources graphs) q → (services : List ℕ → List Triple) → Serve services es graphs → c.answer ≡ answer_of q (union graphs) services (places c.down))) same k.answer graphs
+        (still_tell_all s t h.after_all es graphs known.told) (by_graphs graphs known) services serve
+
+    exactly : (o : Result Outcome FedError) → (IsTrue alone → IfOk o (λ _. (address : List ℕ) → faults_at u address ≡ faults_at t address + failures_at address k.calls)) → IsTrue alone → IfOk o (λ _. (address : List ℕ) → faults_at u address ≡ faults_at s address + failures_at address k.calls)
+    exactly (Ok outcome) f is = λ address.
+        let one : faults_at u address ≡ faults_at t address + failures_at address k.calls = f is address in
+        let same : faults_at t address ≡ faults_at s address = h.quiet is address in
+        omega (arith, one, same)
+    exactly (Err e) f is = tt
+
+    faultless : (o : Result Outcome FedError) → IfOk o (λ _. All (IsBatchRead (IsUnitOf q)) k.of_runs) → IfOk o (λ _. All (IsRead es q old) (h.exchanges ++ k.of_runs))
+    faultless (Ok outcome) read =
+        All-append (IsRead es q old) h.exchanges k.of_runs (All-weaker (IsAskRead probes) (IsRead es q old) (λ x r. inl r) h.exchanges h.faultless) (All-weaker (IsBatchRead (IsUnitOf q)) (IsRead es q old) (λ x r. inr r) k.of_runs read)
+    faultless (Err e) read = tt
+
+    abbrev Among : List Exchange → List Exchange → Type 0
+    Among xs all = (x : Exchange) → Contains xs x → Contains all x
+
+    pub federated : (o : Result Outcome FedError) (new : List Entry) → IfOk o (λ _. map (λ c. c.of) k.calls ≡ occurrences q) → IfOk o (λ _. All IsPassed k.calls) → IfOk o (λ outcome. outcome.down ≡ down_in k.calls)
+        → (IsTrue alone → IfOk o (λ _. (address : List ℕ) → faults_at u address ≡ faults_at t address + failures_at address k.calls)) → Answered o
+        → ((all : List Exchange) → Among k.exchanges all → IfErr o (HasFedCause s u es q old k.calls k.texts all block)) → ((all : List Exchange) → Among h.exchanges all → HoldsBehind es q old new all o)
+        → All (IsBatchText es block (IsUnitOf q)) k.texts → IfOk o (λ _. All (IsBatchRead (IsUnitOf q)) k.of_runs) → KnowsServices es q o → StaysTrue new → Federated tells alone s u es q old new block o
+    federated o new all_called passed down exact answer cause held of_batches read knows still =
+        let both = gained_both tells s t u h.exchanges k.exchanges h.gained k.gained in
+        let asked : AreAsked es q old h.wanted = record { probes = h.asked; unasked = h.unasked; lacked = h.split; texts = h.texts } in
+        let sent : Sends (h.wanted ++ k.texts) (h.left ++ k.left) (h.exchanges ++ k.of_runs) = sent_laws.together h.wanted h.left k.texts k.left h.exchanges k.of_runs h.sent k.sent in
+        let parted : IsPermutation ((h.exchanges ++ k.of_runs) ++ k.of_calls) both.all =
+        subst (λ (v : List Exchange). IsPermutation v both.all) (sym (append_assoc h.exchanges k.of_runs k.of_calls))
+        (IsPermutation-trans (h.exchanges ++ (k.of_runs ++ k.of_calls)) (h.exchanges ++ k.exchanges) both.all (IsPermutation-append_right h.exchanges (k.of_runs ++ k.of_calls) k.exchanges k.parted) both.same) in
+        let called : AreCalls s es k.calls k.of_calls = calls_earlier s t h.after_all es k.calls k.of_calls k.are_calls in
+        record {
+          exchanges = both.all;
+          gained = both.gained;
+          after_all = all_after tells s t u a b h.after_all k.after_all;
+          calls = k.calls;
+          first = k.first;
+          all_called = all_called;
+          passed = passed;
+          down = down;
+          counted = λ address.
+              let low : faults_at s address ≤ faults_at t address = gain_laws.never_fall s t address h.after_all in
+              let one : faults_at t address + failures_at address k.calls ≤ faults_at u address = k.counted address in
+              omega (arith, low, one);
+          exact = exactly o exact;
+          of_calls = k.of_calls;
+          of_others = h.exchanges ++ k.of_runs;
+          parted = parted;
+          are_calls = called;
+          asks = h.wanted;
+          asked = asked;
+          texts = k.texts;
+          of_batches = of_batches;
+          of_runs = runs_sent;
+          left = h.left ++ k.left;
+          sent = sent;
+          faultless = faultless o read;
+          traffic = λ graphs known services serve.
+              traffic_of es graphs block services (places (down_in k.calls)) q old s h.wanted k.texts (h.left ++ k.left) k.calls k.first.others (h.exchanges ++ k.of_runs) k.of_calls both.all asked (runs_sent graphs known services serve) sent k.first.are called parted;
+          answer = answer;
+          known = knows;
+          cause = cause both.all (λ x m. Contains-permutation (h.exchanges ++ k.exchanges) both.all x both.same (Contains-append_right h.exchanges k.exchanges x m));
+          held = held both.all (λ x m. Contains-permutation (h.exchanges ++ k.exchanges) both.all x both.same (Contains-append_left h.exchanges k.exchanges x m));
+          stays_true = still;
+        }
+
+    -- ---- each end
+
+    abbrev entries : List Entry
+    entries = told probes truths ++ old
+
+    module _ (can : (found : List (List Bindings)) → All (CanBeAsked (length es)) (tasks_with parts found)) where
+      abbrev tasks : List Task
+      tasks = tasks_with parts k.found
+
+      tasks_are : tasks ≡ tasks_with (parts_by (sections q) (chosen q (length es) entries)) k.found
+      tasks_are = ap (λ (v : List Part). tasks_with v k.found) are
+
+      its_texts : All (IsBatchText es block (IsUnitOf q)) k.texts
+      its_texts = texts_of_query es q (length es) entries k.found tasks tasks_are (can k.found) block k.texts k.of_batches
+
+      cause_so : (e : FedError) → HasOutcomeCause t u es parts k.found block k.calls k.texts k.exchanges e → (all : List Exchange) → Among k.exchanges all → HasFedCause s u es q old k.calls k.texts all block e
+      cause_so e (inl c) all among = batch_cause_behind es q old (length es) entries k.found tasks tasks_are (can k.found) block s t u h.after_all k.exchanges all among k.calls k.texts c.0 e c.1 c.2
+      cause_so e (inr c) all among = refusal_cause s t u h.after_all es q old block k.calls all k.texts e c
+
+      refusal_known : (e : FedError) → HasRefusal t u es k.calls e → KnowsServices {X = Outcome} es q (Err e)
+      refusal_known (fed.Member name) c = absurd c
+      refusal_known (fed.Service iri) c = known
+      refusal_known (fed.BadReply name bad) c = known
+      refusal_known (fed.RequestTooLong name size) c = known
+      refusal_known (fed.UnknownService iri) c = absurd c
+      refusal_known fed.Memory c = tt
+
+      knows_so : (e : FedError) → HasOutcomeCause t u es parts k.found block k.calls k.texts k.exchanges e → KnowsServices {X = Outcome} es q (Err e)
+      knows_so e (inl c) = known_named Outcome es q c.0 e c.2 known
+      knows_so e (inr c) = refusal_known e c
+
+      pub federated_stopped : (e : FedError) → r ≡ Err e → Federated tells alone s u es q old old block (Err e)
+      federated_stopped e same =
+          let why = subst (λ (o : Result Outcome FedError). IfErr o (HasOutcomeCause t u es parts k.found block k.calls k.texts k.exchanges)) same k.cause in
+          federated (Err e) old tt tt tt (λ is. tt) tt (cause_so e why) (λ all among. stays Outcome es q old all e) its_texts tt (knows_so e why) (λ graphs is. is.entries_are)
+
+      pub federated_lost : (new : List Entry) → All (λ (x : Entry). Contains old x ⊎ Contains (zip probes truths) x) new → Federated tells alone s u es q old new block (Err fed.Memory)
+      federated_lost new kept =
+          federated (Err fed.Memory) new tt tt tt (λ is. tt) tt (λ all among. tt) (λ all among. has_kept es q old h.exchanges all among truths h.answered new kept) its_texts tt tt (kept_true tells alone s t es q old known truths h new kept)
+
+      pub federated_given : (outcome : Outcome) → r ≡ Ok outcome → (new : List Entry) → new ≡ learned old probes truths → Federated tells alone s u es q old new block (Ok outcome)
+      federated_given outcome same new so =
+          let of_ok : (P : Outcome → Type 0) → IfOk r P → P outcome = λ P p. subst (λ (o : Result Outcome FedError). IfOk o P) same p in
+          federated (Ok outcome) new (of_ok (λ c. map (λ c. c.of) k.calls ≡ occurrences q) k.all_called) (of_ok (λ c. All IsPassed k.calls) k.passed) (of_ok (λ c. c.down ≡ down_in k.calls) k.down)
+          (λ is. of_ok (λ c. (address : List ℕ) → faults_at u address ≡ faults_at t address + failures_at address k.calls) (k.exact is)) (is_answered outcome same) (λ all among. tt)
+          (λ all among. has_learned es q old h.exchanges all among truths h.many h.answered new so) its_texts
+          (read_of_query es q (length es) entries k.found tasks tasks_are (can k.found) k.of_runs (of_ok (λ c. All (IsBatchRead (Contains (units_in tasks))) k.of_runs) k.faultless)) known (learned_true tells alone s t es q old known truths h new so)

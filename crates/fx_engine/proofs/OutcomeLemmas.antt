@@ -1,0 +1,173 @@
+-- A query's occurrences of SERVICE were invoked, and then its runs were asked for: its outcome, or the cause of a refusal.
+use Rattle.std.proofs.Common.{◌≡◌, ◌∙◌, ap, sym, subst, refl, ℕ, zero, suc, ◌+◌, ◌≤◌, Bool, List, [], ◌∷◌, ◌++◌, map, length, Some, All, Contains, IfErr, IfOk, IsTrue, Result, Ok, Err, append-nil, append_assoc, arith, slice_get}
+use Rattle.std.specs.List.{AllByRecursion}
+use Rattle.std.proofs.lemmas.List.{length-map, map-append}
+use Rattle.std.proofs.lemmas.List.Elements.{All-from_recursion, Contains-append_right, recursion_from_All}
+use Rattle.std.proofs.lemmas.List.Sorted.{Contains-permutation, IsPermutation-append_comm, IsPermutation-append_right, IsPermutation-trans}
+use Rattle.fx_terms.specs.declared.triples.Triple.{Triple}
+use Rattle.fx_outside.specs.Endpoints.{EndpointParts}
+use Rattle.fx_algebra.specs.Answers.{answer as answer_of}
+use Rattle.fx_algebra.specs.Cuts.{seeds, stations}
+use Rattle.fx_algebra.specs.Graphs.{union}
+use Rattle.fx_algebra.specs.Groups.{is_down}
+use Rattle.fx_algebra.specs.Occurrences.{services}
+use Rattle.fx_algebra.specs.Solutions.{Bindings}
+use Rattle.fx_algebra.specs.Units.{sources}
+use Rattle.fx_algebra.specs.declared.answers.Answer.{Answer}
+use Rattle.fx_algebra.specs.declared.queries.Query.{Query}
+use Rattle.fx_grammar.specs.Accepted.{Accepted}
+use Rattle.fx_plan.specs.declared.parts.Part.{Part}
+use Rattle.fx_pool.specs.Flows.{IsBatchRead}
+use Rattle.fx_traffic.specs.Gains.{TellAll, faults_at}
+use Rattle.fx_traffic.proofs.GainLemmas.{gain_laws}
+use Rattle.fx_traffic.proofs.NumberLemmas.{stations_have_the_numbers}
+use Rattle.fx_wire.specs.Exchanges.{Exchange, Seen}
+use Rattle.fx_engine.specs.AnswersAsked.{AnswerDue, AnswerGiven}
+use Rattle.fx_engine.specs.Asked.{Asked, Knows}
+use Rattle.fx_engine.specs.Calls.{AreCalls, AreFirst, Call, Came, IsCertain, IsPassed, Occurrence, Passes, down_in, failed, failures_at, lost, occurrences, rows_of, told}
+use Rattle.fx_engine.specs.GroupsAsked.{HasRows, Served, all_planned, units_in}
+use Rattle.fx_engine.specs.Invocations.{Calling}
+use Rattle.fx_engine.specs.Mediation.{Serve}
+use Rattle.fx_engine.specs.Noted.{places}
+use Rattle.fx_engine.specs.Outcomes.{HasOutcomeCause, Outcomed}
+use Rattle.fx_engine.specs.RunsSent.{AreRunsSent}
+use Rattle.fx_engine.specs.Sections.{part_with, parts_with, section_of}
+use Rattle.fx_engine.specs.Tasks.{tasks_with}
+use Rattle.fx_engine.specs.declared.mediator.FedError.{FedError}
+use Rattle.fx_engine.specs.declared.mediator.Outcome.{Outcome}
+use Rattle.fx_engine.specs.declared.tasks.RowsError.{RowsError}
+use Rattle.fx_engine.specs.declared.tasks.Task.{Task}
+use Rattle.fx_engine.proofs.DownLemmas.{down_at, has_gone}
+use Rattle.fx_engine.proofs.HandLemmas.{Fits, at_hand, calls_fit}
+use Rattle.fx_engine.proofs.TaskLemmas.{AreAtHand, tasks_are_planned}
+use Rattle.fx_engine.proofs.WiresLemmas.{AllTell, all_after, gained_both, still_tell_all}
+
+-- the front of a list
+in_front : {X : Type 0} (xs ys : List X) (i : ℕ) (x : X) → slice_get xs i ≡ Some x → slice_get (xs ++ ys) i ≡ Some x
+in_front [] ys i x h = absurd (cc)
+in_front (y ∷ xs) ys zero x h = h
+in_front (y ∷ xs) ys (suc i) x h = in_front xs ys i x h
+
+passes_certain : (silent : Bool) (came : Came) → Passes silent came → IsCertain came
+passes_certain silent (told rows) h = tt
+passes_certain silent (failed why) h = tt
+passes_certain silent lost h = h
+
+each_certain : (calls : List Call) → AllByRecursion IsPassed calls → AllByRecursion (λ (c : Call). IsCertain c.came) calls
+each_certain [] h = tt
+each_certain (c ∷ cs) h = (passes_certain c.of.silent c.came h.0, each_certain cs h.1)
+
+module _ (tells alone : Bool) (s t u : List Seen) (a : AllTell tells s) (b : AllTell tells t) (es : List EndpointParts) (q : Query) (text : List ℕ) (accepted : Accepted text q) (plan : List Part) (block : ℕ) (found : List (List Bindings)) (front rest : List Call)
+    (passed : All IsPassed front) (rows_are : found ≡ map rows_of front) (c : Calling tells alone s t es (front ++ rest)) (first : AreFirst (front ++ rest) (occurrences q)) where
+  abbrev calls : List Call
+  calls = front ++ rest
+
+  abbrev tasks : List Task
+  tasks = tasks_with plan found
+
+  -- ---- how SERVICE is served
+
+  module _ (graphs : List (List Triple)) (tell : TellAll s es graphs) (plan_is : plan ≡ parts_with (sources graphs) q) (its : List ℕ → List Triple) (serve : Serve its es graphs) where
+    abbrev served : Served
+    served = record { graphs = its; down = places (down_in calls); rows = λ i. slice_get found i }
+
+    front_fits : AllByRecursion (Fits its) front
+    front_fits = by front rest c.in_turn (recursion_from_All IsPassed front passed) c.are_calls
+      where
+        by : (xs ys : List Call) (all : List Exchange) → AllByRecursion IsPassed xs → AreCalls s es (xs ++ ys) all → AllByRecursion (Fits its) xs
+        by [] ys all p h = tt
+        by (x ∷ xs) ys all p h = ((calls_fit s es graphs its tell serve (x ∷ []) h.0 (p.0, tt) (h.0, [], sym (append-nil h.0), h.3, h.4, refl)).0, by xs ys h.1 p.1 h.5)
+
+    at_numbers : ((i : ℕ) → served.rows (0 + i) ≡ slice_get (map rows_of front) i) × ((i : ℕ) (c : Call) → slice_get front i ≡ Some c → is_down served.down (0 + i) ≡ has_gone c.of.silent c.came)
+    at_numbers = ((λ i. let same : 0 + i ≡ i = omega arith in ap (λ (n : ℕ). slice_get found n) same ∙ ap (λ (v : List (List Bindings)). slice_get v i) rows_are), λ i d is. down_at 0 calls i d (in_front front rest i d is))
+
+    behind_front : map (λ (c : Call). c.of) front ++ (map (λ (c : Call). c.of) rest ++ first.others) ≡ occurrences q
+    behind_front =
+        sym (append_assoc (map (λ (c : Call). c.of) front) (map (λ (c : Call). c.of) rest) first.others)
+        ∙ ap (λ (v : List Occurrence). v ++ first.others) (sym (map-append (λ (c : Call). c.of) front rest))
+        ∙ first.are
+
+    hands : AreAtHand served (stations q) (map rows_of front) × AllByRecursion (HasRows served) (stations q)
+    hands = at_hand served (stations q) 0 (services q) (stations_have_the_numbers text q accepted) front (map (λ (c : Call). c.of) rest ++ first.others) behind_front at_numbers front_fits
+
+    tasks_are : tasks ≡ all_planned served graphs (stations q)
+    tasks_are =
+        ap (λ (v : List Part). tasks_with v found) plan_is
+        ∙ ap (λ (v : List (List Bindings)). tasks_with (map (part_with (sources graphs)) (map section_of (stations q))) v) rows_are
+        ∙ tasks_are_planned served graphs (stations q) (map rows_of front) hands.0
+
+    rows_right : All (HasRows served) (stations q)
+    rows_right = All-from_recursion (HasRows served) (stations q) hands.1
+
+  -- ---- with what was asked for
+
+  module _ (r : Result Answer RowsError) (k : Asked tells alone t u es tasks block (AnswerGiven es block tasks q) (AnswerDue es block tasks q) r) where
+    behind_them : (graphs : List (List Triple)) → TellAll s es graphs → Knows (AnswerGiven es block tasks q) (AnswerDue es block tasks q) graphs k.wanted r
+    behind_them graphs tell = k.known graphs (still_tell_all s t c.after_all es graphs tell)
+
+    runs_for : (o : Result Answer RowsError) (graphs : List (List Triple)) (tell : TellAll s es graphs) (is : plan ≡ parts_with (sources graphs) q) (its : List ℕ → List Triple) (serve : Serve its es graphs) → Knows (AnswerGiven es block tasks q) (AnswerDue es block tasks q) graphs k.wanted o
+        → AreRunsSent es graphs block (stations q) (seeds q (union graphs) its (places (down_in calls))) k.wanted
+    runs_for (Ok answer) graphs tell is its serve known = (known (served graphs tell is its serve) (tasks_are graphs tell is its serve) (rows_right graphs tell is its serve)).0
+    runs_for (Err why) graphs tell is its serve known = known (served graphs tell is its serve) (tasks_are graphs tell is its serve) (rows_right graphs tell is its serve)
+
+    pub its_answer : (answer : Answer) → r ≡ Ok answer → (graphs : List (List Triple)) (tell : TellAll s es graphs) (is : plan ≡ parts_with (sources graphs) q) (its : List ℕ → List Triple) (serve : Serve its es graphs)
+        → answer ≡ answer_of q (union graphs) its (places (down_in calls))
+    its_answer answer same graphs tell is its serve =
+        let known = subst (Knows (AnswerGiven es block tasks q) (AnswerDue es block tasks q) graphs k.wanted) same (behind_them graphs tell) in
+        (known (served graphs tell is its serve) (tasks_are graphs tell is its serve) (rows_right graphs tell is its serve)).1
+
+    unfaulted : (o : Result Outcome FedError) → IfOk o (λ _. k.failed ≡ 0) → IfOk o (λ _. All IsPassed calls) → IsTrue alone → IfOk o (λ _. (address : List ℕ) → faults_at u address ≡ faults_at s address + failures_at address calls)
+    unfaulted (Ok outcome) none all is = λ address.
+        let low : faults_at t address ≤ faults_at u address = gain_laws.never_fall t u address k.went.after_all in
+        let high : faults_at u address ≤ faults_at t address + k.failed = k.went.counted is address in
+        let sure = All-from_recursion (λ (d : Call). IsCertain d.came) calls (each_certain calls (recursion_from_All IsPassed calls all)) in
+        let same : faults_at t address ≡ faults_at s address + failures_at address calls = c.exact is sure address in
+        omega (arith, low, high, same, none)
+    unfaulted (Err e) none all is = tt
+
+    abbrev Among : List Exchange → List Exchange → Type 0
+    Among xs all = (x : Exchange) → Contains xs x → Contains all x
+
+    pub outcomed : (o : Result Outcome FedError) → IfOk o (λ _. k.failed ≡ 0) → IfOk o (λ _. map (λ c. c.of) calls ≡ occurrences q) → IfOk o (λ _. All IsPassed calls) → IfOk o (λ outcome. outcome.down ≡ down_in calls)
+        → IfOk o (λ outcome. (graphs : List (List Triple)) → TellAll s es graphs → plan ≡ parts_with (sources graphs) q → (its : List ℕ → List Triple) → Serve its es graphs → outcome.answer ≡ answer_of q (union graphs) its (places outcome.down))
+        → IfOk o (λ _. All (IsBatchRead (Contains (units_in tasks))) k.exchanges)
+        → ((all : List Exchange) → Among k.exchanges all → IfErr o (HasOutcomeCause s u es plan found block calls k.wanted all))
+        → Outcomed tells alone s u es q plan block o
+    outcomed o none all_called all_passed down answer read cause =
+        let both = gained_both tells s t u c.exchanges k.exchanges c.gained k.went.gained in
+        record {
+          found = found;
+          exchanges = both.all;
+          gained = both.gained;
+          after_all = all_after tells s t u a b c.after_all k.went.after_all;
+          calls = calls;
+          first = first;
+          all_called = all_called;
+          passed = all_passed;
+          down = down;
+          counted = λ address.
+              let one : faults_at s address + failures_at address calls ≤ faults_at t address = c.counted address in
+              let low : faults_at t address ≤ faults_at u address = gain_laws.never_fall t u address k.went.after_all in
+              omega (arith, one, low);
+          exact = λ is. unfaulted o none all_passed is;
+          of_calls = c.in_turn;
+          of_runs = k.exchanges;
+          parted =
+              IsPermutation-trans (k.exchanges ++ c.in_turn) (k.exchanges ++ c.exchanges) both.all (IsPermutation-append_right k.exchanges c.in_turn c.exchanges c.same)
+              (IsPermutation-trans (k.exchanges ++ c.exchanges) (c.exchanges ++ k.exchanges) both.all (IsPermutation-append_comm k.exchanges c.exchanges) both.same);
+          are_calls = c.are_calls;
+          texts = k.wanted;
+          of_batches = k.of_batches;
+          left = k.left;
+          sent = k.sent;
+          faultless = read;
+          runs = λ graphs tell is its serve. runs_for r graphs tell is its serve (behind_them graphs tell);
+          answer = answer;
+          cause = cause both.all (λ x m. Contains-permutation (c.exchanges ++ k.exchanges) both.all x both.same (Contains-append_right c.exchanges k.exchanges x m));
+        }
+
+-- ---- what goes before
+
+-- the rows are as many as the occurrences
+pub rows_of_all : (q : Query) (calls : List Call) (rows : List (List Bindings)) → map (λ c. c.of) calls ≡ occurrences q → rows ≡ map rows_of calls → length rows ≡ length (occurrences q)
+rows_of_all q calls rows are is = ap length is ∙ length-map calls rows_of ∙ sym (length-map calls (λ (c : Call). c.of)) ∙ ap length are

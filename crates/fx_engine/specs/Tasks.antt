@@ -1,0 +1,15 @@
+-- What is to be done for the places of a query that requests are sent for: the parts of its plan, with the rows of its occurrences of SERVICE.
+use Rattle.std.specs.Prelude.{List, [], ◌∷◌}
+use Rattle.fx_algebra.specs.Solutions.{Bindings}
+use Rattle.fx_plan.specs.declared.parts.Part.{Part}
+use Rattle.fx_plan.specs.declared.parts.Part.TheVariants as part
+use Rattle.fx_engine.specs.declared.tasks.Task.{Task}
+use Rattle.fx_engine.specs.declared.tasks.Task.TheVariants as task
+
+-- The tasks of parts, with the rows of their occurrences of SERVICE in text order. Where there are fewer of these, the others were refused.
+abbrev pub tasks_with : List Part → List (List Bindings) → List Task
+tasks_with [] found = []
+tasks_with (part.Run units bound ∷ parts) found = task.Run units ∷ tasks_with parts found
+tasks_with (part.EmptyRun ∷ parts) found = task.EmptyRun ∷ tasks_with parts found
+tasks_with (part.Service iri ∷ parts) [] = task.Refused ∷ tasks_with parts []
+tasks_with (part.Service iri ∷ parts) (rows ∷ found) = task.Service rows ∷ tasks_with parts found

@@ -1,0 +1,68 @@
+//! What is to be done for a query, place by place.
+ghost use Rattle.std.specs.Prelude.{◌≡◌, ◌∷◌, IfOk, List};
+ghost use Rattle.std.specs.Vec.Iter.{into_iter_items};
+ghost use Rattle.fx_plan.specs.declared.parts.Part.{Part as PlanPart};
+ghost use Rattle.fx_engine.specs.Tasks as spec;
+
+use fx_algebra::{Solution, Unit};
+use fx_plan::Part;
+use fx_pool::FlowError;
+use fx_terms::{Items, Memory};
+use std::alloc::Global;
+use std::vec::IntoIter;
+
+/// What is to be done for a place of a query that requests are sent for.
+#[derive(Drop)]
+pub(crate) enum Task {
+    /// A run of triple patterns, by the units that it is asked for by.
+    Run { units: Items<Unit> },
+    /// A run in which a pattern has no source: nothing is asked for.
+    EmptyRun,
+    /// An occurrence of SERVICE with its rows.
+    Service { rows: Items<Solution> },
+    /// An occurrence of SERVICE that was refused, or that stands behind one that was.
+    Refused,
+}
+
+/// Why there are no rows.
+#[derive(Drop)]
+pub(crate) enum RowsError {
+    /// A batch of a run was refused, or memory ran out.
+    Flow(FlowError),
+    /// An occurrence of SERVICE has none.
+    Refused,
+}
+
+/// The tasks of a plan, in text order, with the rows of its occurrences of SERVICE in text order. Where there are fewer of these, the others were
+/// refused.
+pub(crate) fn tasks_of(
+    alloc: Global,
+    plan: Vec<Part>,
+    found: Vec<Items<Solution>>,
+) -> Result<Vec<Task>, Memory>
+    ensures { IfOk result (λ tasks. tasks.items ≡ spec.tasks_with plan.items found.items) }
+{
+    let mut left = found.into_iter();
+    let mut tasks = Vec::new(alloc);
+    for part in plan {
+        let task = task_of(part, &mut left);
+        if tasks.push(task).is_err() {
+            return Err(Memory);
+        }
+    }
+    Ok(tasks)
+}
+
+// The task of a part. An occurrence of SERVICE takes the next rows.
+fn task_of(part: Part, left: &mut IntoIter<Items<Solution>>) -> Task
+    ensures { (parts : List PlanPart) → spec.tasks_with (part ∷ parts) (into_iter_items left.old) ≡ result ∷ spec.tasks_with parts (into_iter_items left.new) }
+{
+    match part {
+        Part::Run { units, bound: _ } => Task::Run { units },
+        Part::EmptyRun => Task::EmptyRun,
+        Part::Service { iri: _ } => match left.next() {
+            Some(rows) => Task::Service { rows },
+            None => Task::Refused,
+        },
+    }
+}
