@@ -2,11 +2,16 @@
 //! the latter, and serves a file of triples as such an endpoint.
 #![tactic(auto)]
 
+ghost use Rattle.std.specs.Prelude.{◌<◌, IfOk, vec_len};
+
 use fx_commands::{CommandError, Refusal, Status, run, write_refusal};
 use fx_outside::{Folder, Listener, StdSink};
 use fx_wire::TcpWire;
 use std::process::ExitCode;
 use std::{env, io};
+
+// The most requests that may be under way at once.
+const WIRES: usize = 16;
 
 fn main(rt: HostRuntime) -> io::Result<ExitCode> {
     let status = match words(&rt) {
@@ -21,22 +26,37 @@ fn main(rt: HostRuntime) -> io::Result<ExitCode> {
 // Runs the command over the system's files, network and streams.
 fn run_words(rt: &HostRuntime, words: &[String]) -> io::Result<Status> {
     let for_files = rt.clone()?;
-    let for_wires = rt.clone()?;
     let for_door = rt.clone()?;
     let mut files = Folder::new(rt.alloc(), for_files);
-    let mut wires = [TcpWire::new(rt.alloc(), for_wires)];
+    let mut wires = wires(rt)?;
     let mut door = Listener::new(for_door);
     let mut out = StdSink::new(rt.stdout());
     let mut err = StdSink::new(rt.stderr());
     Ok(run(
+        rt,
         rt.alloc(),
         words,
         &mut files,
-        &mut wires,
+        wires.as_mut_slice(),
         &mut door,
         &mut out,
         &mut err,
     ))
+}
+
+// The wires that a command may use.
+fn wires(rt: &HostRuntime) -> io::Result<Vec<TcpWire<HostRuntime>>>
+    ensures { IfOk result (λ wires. 0 < vec_len wires) }
+{
+    let mut wires = vec![in rt.alloc(); wire(rt)?]?;
+    for _ in 1..WIRES {
+        wires.push(wire(rt)?)?;
+    }
+    Ok(wires)
+}
+
+fn wire(rt: &HostRuntime) -> io::Result<TcpWire<HostRuntime>> {
+    Ok(TcpWire::new(rt.alloc(), rt.clone()?))
 }
 
 // The end of a run for whose words there is no memory.

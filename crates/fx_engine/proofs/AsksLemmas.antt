@@ -128,33 +128,40 @@ module _ (tells alone : Bool) (es : List EndpointParts) where
             omega (arith, zero, all)
         quiet (Err e) are f = tt
 
-        done : (truths : List Bool) → rs ≡ map (λ truth. reply.Truth truth) truths → AreDone es (map job_of ps) (map (λ truth. reply.Truth truth) truths) h.exchanges
-        done truths are = subst (λ (v : List JobReply). AreDone es (map job_of ps) v h.exchanges) are h.done
+        -- the exchanges in the order of the probes
+        ordered : List Exchange
+        ordered = h.done.0
+
+        among_all : AllAmong ordered h.exchanges
+        among_all x m = Contains-permutation ordered h.exchanges x h.done.2 m
+
+        done : (truths : List Bool) → rs ≡ map (λ truth. reply.Truth truth) truths → AreDone es (map job_of ps) (map (λ truth. reply.Truth truth) truths) ordered
+        done truths are = subst (λ (v : List JobReply). AreDone es (map job_of ps) v ordered) are h.done.1
 
         many : (o : Result (List Bool) FlowError) → AreTruthsOf ps rs o → IfOk o (λ truths. length truths ≡ length ps)
-        many (Ok truths) are = sym (length-map truths (λ truth. reply.Truth truth)) ∙ ap length (sym are) ∙ as_many es ps rs h.exchanges h.done
+        many (Ok truths) are = sym (length-map truths (λ truth. reply.Truth truth)) ∙ ap length (sym are) ∙ as_many es ps rs ordered h.done.1
         many (Err e) are = tt
 
         faultless : (o : Result (List Bool) FlowError) → AreTruthsOf ps rs o → IfOk o (λ _. All (IsAskRead ps) h.exchanges)
-        faultless (Ok truths) are = all_read es ps ps (λ p m. m) truths h.exchanges (done truths are)
+        faultless (Ok truths) are = All-permutation (IsAskRead ps) ordered h.exchanges h.done.2 (all_read es ps ps (λ p m. m) truths ordered (done truths are))
         faultless (Err e) are = tt
 
         answered : (o : Result (List Bool) FlowError) → AreTruthsOf ps rs o → IfOk o (λ truths. All (IsAnsweredBy es h.exchanges) (zip ps truths))
-        answered (Ok truths) are = All-from_recursion (IsAnsweredBy es h.exchanges) (zip ps truths) (all_answered es ps truths h.exchanges h.exchanges (λ x m. m) (done truths are))
+        answered (Ok truths) are = All-from_recursion (IsAnsweredBy es h.exchanges) (zip ps truths) (all_answered es ps truths ordered h.exchanges among_all (done truths are))
         answered (Err e) are = tt
 
         told : (o : Result (List Bool) FlowError) → AreTruthsOf ps rs o → IfOk o (λ truths. (graphs : List (List Triple)) → TellAll s es graphs → All (source.Tells graphs) (zip ps truths))
         told (Ok truths) are = λ graphs tells_all.
             All-from_recursion (source.Tells graphs) (zip ps truths)
-            (all_told es s graphs tells_all ps truths h.exchanges h.exchanges (λ x m. m) h.honest (recursion_from_All (λ (p : Probe). IsTriple p.key.pattern) ps triples) (done truths are))
+            (all_told es s graphs tells_all ps truths ordered h.exchanges among_all h.honest (recursion_from_All (λ (p : Probe). IsTriple p.key.pattern) ps triples) (done truths are))
         told (Err e) are = tt
 
         refused : (e : FlowError) → IsRefused ps rs e → HasProbeCause s t es ps h.exchanges e
         refused e it =
             let m = among_from (zip ps rs) (it.probe, it.reply) it.among in
-            let d = done_at es ps rs h.exchanges it.probe it.reply h.done m in
+            let d = done_at es ps rs ordered it.probe it.reply h.done.1 m in
             let among : Contains ps it.probe = contains_from ps it.probe (among_probes es ps rs it.probe it.reply m) in
-            cause es it.probe d.own h.exchanges d.more s t ps h.honest (All-contains (λ (p : Probe). IsTriple p.key.pattern) ps it.probe triples among) among it.reply e d.done
+            cause es it.probe d.own h.exchanges (λ x own. among_all x (d.more x own)) s t ps h.honest (All-contains (λ (p : Probe). IsTriple p.key.pattern) ps it.probe triples among) among it.reply e d.done
             (λ failed.
             let one : 1 ≤ failures_at es d.done.endpoint.iri (map job_of ps) rs = failed_counts es d.done.endpoint it.probe d.done.found ps rs (subst (λ (r : JobReply). Among (it.probe, r) (zip ps rs)) failed m) in
             let more : faults_at s d.done.endpoint.iri + failures_at es d.done.endpoint.iri (map job_of ps) rs ≤ faults_at t d.done.endpoint.iri = h.counted d.done.endpoint.iri in

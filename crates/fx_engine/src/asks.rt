@@ -12,6 +12,8 @@ use fx_sources::{Probe, ask_text};
 use fx_terms::Memory;
 use fx_wire::Wire;
 use std::alloc::Global;
+use std::sync::Wait;
+use std::thread::Threads;
 
 /// The most probes that are asked for at once.
 const MOST: usize = 65_536;
@@ -22,7 +24,8 @@ const MOST: usize = 65_536;
 /// failed, and was counted as a fault at its address; `BadReply`, with the first fault of what was replied; `RequestTooLong`, the text has more
 /// than 67,108,864 bytes, and wasn't sent; or it is `Memory`. The probes are asked for in pieces of 65,536. Other probes of the piece in which one has no
 /// answer may be asked for as well, and of a later piece none is.
-pub(crate) fn ask_all<W: Wire + Send>(
+pub(crate) fn ask_all<R: Threads + Wait + Sync, W: Wire + Send>(
+    rt: &R,
     alloc: Global,
     probes: &[Probe],
     endpoints: &[Endpoint],
@@ -38,7 +41,7 @@ pub(crate) fn ask_all<W: Wire + Send>(
     let mut start = 0;
     while start < probes.len() {
         let end = start + (probes.len() - start).min(MOST);
-        match ask_some(alloc, &probes[start..end], endpoints, wires) {
+        match ask_some(rt, alloc, &probes[start..end], endpoints, wires) {
             Err(error) => return Err(error),
             Ok(mut more) => {
                 if truths.append(&mut more).is_err() {
@@ -52,7 +55,8 @@ pub(crate) fn ask_all<W: Wire + Send>(
 }
 
 // What the endpoints answer to probes that are asked for at once.
-fn ask_some<W: Wire + Send>(
+fn ask_some<R: Threads + Wait + Sync, W: Wire + Send>(
+    rt: &R,
     alloc: Global,
     probes: &[Probe],
     endpoints: &[Endpoint],
@@ -67,7 +71,7 @@ fn ask_some<W: Wire + Send>(
 {
     match jobs_of(alloc, probes) {
         Err(Memory) => Err(FlowError::Memory),
-        Ok(jobs) => match run_jobs(alloc, endpoints, jobs.as_slice(), wires) {
+        Ok(jobs) => match run_jobs(rt, alloc, endpoints, jobs.as_slice(), wires) {
             Err(Memory) => Err(FlowError::Memory),
             Ok(replies) => truths_of(alloc, probes, replies),
         },

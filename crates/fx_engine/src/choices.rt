@@ -14,6 +14,8 @@ use fx_sources::{AskCache, Probe, Registry, missing};
 use fx_terms::Memory;
 use fx_wire::Wire;
 use std::alloc::Global;
+use std::sync::Wait;
+use std::thread::Threads;
 
 /// The probes that a cache lacked for a query, with their answers, and the parts of the query by these and the cache.
 #[derive(Drop)]
@@ -25,7 +27,8 @@ pub(crate) struct Choice {
 
 /// The parts of a query over the endpoints of a registry. Each endpoint is asked which triple patterns fit its graph, unless the cache holds the
 /// answer, and nothing else is asked. The errors come as in `ask_all`.
-pub(crate) fn choose_parts<W: Wire + Send>(
+pub(crate) fn choose_parts<R: Threads + Wait + Sync, W: Wire + Send>(
+    rt: &R,
     alloc: Global,
     query: &Query,
     registry: &Registry,
@@ -40,7 +43,7 @@ pub(crate) fn choose_parts<W: Wire + Send>(
     let Ok(probes) = missing(alloc, query, registry, cache) else {
         return Err(FlowError::Memory);
     };
-    match ask_all(alloc, probes.as_slice(), registry.endpoints(), wires) {
+    match ask_all(rt, alloc, probes.as_slice(), registry.endpoints(), wires) {
         Err(error) => Err(error),
         Ok(truths) => match parts_by(
             alloc,

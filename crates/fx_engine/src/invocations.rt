@@ -12,6 +12,8 @@ use fx_sources::Registry;
 use fx_terms::{Iri, Items};
 use fx_wire::Wire;
 use std::alloc::Global;
+use std::sync::Wait;
+use std::thread::Threads;
 
 /// What occurrences of SERVICE came to, in text order: the rows of each, which are the one empty solution where it is down, and those that are down. The
 /// number of an occurrence is its place in the rows.
@@ -26,7 +28,8 @@ pub(crate) struct Invoked {
 /// It ends with the first occurrence without SILENT that has no rows: the reason is the refusal, and what stands in `invoked` is of the occurrences
 /// before that.
 #[cycle(invocations)]
-pub(crate) fn invoke_group<W: Wire + Send>(
+pub(crate) fn invoke_group<R: Threads + Wait + Sync, W: Wire + Send>(
+    rt: &R,
     alloc: Global,
     group: &Group,
     registry: &Registry,
@@ -38,7 +41,7 @@ pub(crate) fn invoke_group<W: Wire + Send>(
     ensures { spec.Invoked W.tells_log W.counts_alone (map W.seen wires.old) (map W.seen wires.new) registry.now (spec.in_group group.now) invoked.old.down.items invoked.new.down.items invoked.old.rows.items invoked.new.rows.items result }
 {
     for element in group.elements.as_slice() {
-        match invoke_element(alloc, element, registry, invoked, wires) {
+        match invoke_element(rt, alloc, element, registry, invoked, wires) {
             Ok(()) => {}
             Err(error) => return Err(error),
         }
@@ -48,7 +51,8 @@ pub(crate) fn invoke_group<W: Wire + Send>(
 
 // The same of an element.
 #[cycle(invocations)]
-fn invoke_element<W: Wire + Send>(
+fn invoke_element<R: Threads + Wait + Sync, W: Wire + Send>(
+    rt: &R,
     alloc: Global,
     element: &Element,
     registry: &Registry,
@@ -62,22 +66,23 @@ fn invoke_element<W: Wire + Send>(
     match element {
         Element::Triple(_) => Ok(()),
         Element::Filter(_) => Ok(()),
-        Element::Optional(group) => invoke_group(alloc, group, registry, invoked, wires),
+        Element::Optional(group) => invoke_group(rt, alloc, group, registry, invoked, wires),
         Element::Union(groups) => {
-            invoke_groups(alloc, groups.as_slice(), registry, invoked, wires)
+            invoke_groups(rt, alloc, groups.as_slice(), registry, invoked, wires)
         }
-        Element::Minus(group) => invoke_group(alloc, group, registry, invoked, wires),
+        Element::Minus(group) => invoke_group(rt, alloc, group, registry, invoked, wires),
         Element::Bind { expr: _, name: _ } => Ok(()),
         Element::Values(_) => Ok(()),
         Element::Service { silent, iri, group } => {
-            invoke_one(alloc, *silent, iri, group, registry, invoked, wires)
+            invoke_one(rt, alloc, *silent, iri, group, registry, invoked, wires)
         }
     }
 }
 
 // The same of groups, one after the other.
 #[cycle(invocations)]
-fn invoke_groups<W: Wire + Send>(
+fn invoke_groups<R: Threads + Wait + Sync, W: Wire + Send>(
+    rt: &R,
     alloc: Global,
     groups: &[Group],
     registry: &Registry,
@@ -89,7 +94,7 @@ fn invoke_groups<W: Wire + Send>(
     ensures { spec.Invoked W.tells_log W.counts_alone (map W.seen wires.old) (map W.seen wires.new) registry.now (flat_map spec.in_group groups.now) invoked.old.down.items invoked.new.down.items invoked.old.rows.items invoked.new.rows.items result }
 {
     for group in groups {
-        match invoke_group(alloc, group, registry, invoked, wires) {
+        match invoke_group(rt, alloc, group, registry, invoked, wires) {
             Ok(()) => {}
             Err(error) => return Err(error),
         }
@@ -98,7 +103,8 @@ fn invoke_groups<W: Wire + Send>(
 }
 
 // The same of one occurrence.
-fn invoke_one<W: Wire + Send>(
+fn invoke_one<R: Threads + Wait + Sync, W: Wire + Send>(
+    rt: &R,
     alloc: Global,
     silent: bool,
     iri: &Iri,
@@ -113,6 +119,7 @@ fn invoke_one<W: Wire + Send>(
 {
     let number = invoked.rows.len() as u64;
     match rows_or_down(
+        rt,
         alloc,
         number,
         silent,

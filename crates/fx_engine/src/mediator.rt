@@ -15,6 +15,8 @@ use fx_terms::{Iri, Items, Memory};
 use fx_wire::Wire;
 use std::alloc::Global;
 use std::marker::Model;
+use std::sync::Wait;
+use std::thread::Threads;
 
 /// How a query is asked.
 #[derive(Clone, Copy)]
@@ -115,7 +117,8 @@ pub enum FedError {
 ///
 /// The cache learns after the last exchange. After a refusal it is as before; after want of memory each of its entries was there before, or is one
 /// of this call's answers.
-pub fn federate<W: Wire + Send>(
+pub fn federate<R: Threads + Wait + Sync, W: Wire + Send>(
+    rt: &R,
     alloc: Global,
     query: &Query,
     registry: &Registry,
@@ -131,12 +134,13 @@ pub fn federate<W: Wire + Send>(
     match unknown_service(alloc, query, registry) {
         Err(Memory) => Err(FedError::Memory),
         Ok(Some(iri)) => Err(FedError::UnknownService { iri }),
-        Ok(None) => federate_known(alloc, query, registry, cache, options, wires),
+        Ok(None) => federate_known(rt, alloc, query, registry, cache, options, wires),
     }
 }
 
 // The same, where each SERVICE without SILENT names an endpoint.
-fn federate_known<W: Wire + Send>(
+fn federate_known<R: Threads + Wait + Sync, W: Wire + Send>(
+    rt: &R,
     alloc: Global,
     query: &Query,
     registry: &Registry,
@@ -150,7 +154,7 @@ fn federate_known<W: Wire + Send>(
     requires known { unknown_of registry.now query.now ≡ None }
     ensures { Federated W.tells_log W.counts_alone (map W.seen wires.old) (map W.seen wires.new) registry.now query.now cache.old cache.new options.block result }
 {
-    match choose_parts(alloc, query, registry, cache, wires) {
+    match choose_parts(rt, alloc, query, registry, cache, wires) {
         Err(error) => Err(named(alloc, registry.endpoints(), error)),
         Ok(
             Choice {
@@ -158,7 +162,7 @@ fn federate_known<W: Wire + Send>(
                 truths,
                 parts,
             },
-        ) => match outcome_by_plan(alloc, query, parts, registry, options.block, wires) {
+        ) => match outcome_by_plan(rt, alloc, query, parts, registry, options.block, wires) {
             Err(error) => Err(error),
             Ok(outcome) => match cache.learn(probes, truths.as_slice()) {
                 Err(Memory) => Err(FedError::Memory),
@@ -174,7 +178,8 @@ fn federate_known<W: Wire + Send>(
 /// Each endpoint is asked which triple patterns fit its graph, unless the cache holds the answer, and nothing else is asked. The cache learns the
 /// answers after the last exchange, and the errors come as in `federate`. Endpoints of SERVICE are not asked, but each SERVICE without SILENT has to name
 /// one of the registry: `UnknownService` has the first that doesn't, before anything is asked.
-pub fn plan_parts<W: Wire + Send>(
+pub fn plan_parts<R: Threads + Wait + Sync, W: Wire + Send>(
+    rt: &R,
     alloc: Global,
     query: &Query,
     registry: &Registry,
@@ -188,12 +193,13 @@ pub fn plan_parts<W: Wire + Send>(
     match unknown_service(alloc, query, registry) {
         Err(Memory) => Err(FedError::Memory),
         Ok(Some(iri)) => Err(FedError::UnknownService { iri }),
-        Ok(None) => plan_known(alloc, query, registry, cache, wires),
+        Ok(None) => plan_known(rt, alloc, query, registry, cache, wires),
     }
 }
 
 // The same, where each SERVICE without SILENT names an endpoint.
-fn plan_known<W: Wire + Send>(
+fn plan_known<R: Threads + Wait + Sync, W: Wire + Send>(
+    rt: &R,
     alloc: Global,
     query: &Query,
     registry: &Registry,
@@ -205,7 +211,7 @@ fn plan_known<W: Wire + Send>(
     requires known { unknown_of registry.now query.now ≡ None }
     ensures { Planned W.tells_log W.counts_alone (map W.seen wires.old) (map W.seen wires.new) registry.now query.now cache.old cache.new (parts_in result) }
 {
-    match choose_parts(alloc, query, registry, cache, wires) {
+    match choose_parts(rt, alloc, query, registry, cache, wires) {
         Err(error) => Err(named(alloc, registry.endpoints(), error)),
         Ok(
             Choice {

@@ -11,10 +11,13 @@ use fx_sources::Registry;
 use fx_terms::{Iri, Items};
 use fx_wire::Wire;
 use std::alloc::Global;
+use std::sync::Wait;
+use std::thread::Threads;
 
 /// The rows of the occurrence of SERVICE of this number. Where it is silent and has none, it gives the one empty solution, and is noted behind what was down;
 /// where it is plain and has none, the reason is the refusal.
-pub(crate) fn rows_or_down<W: Wire + Send>(
+pub(crate) fn rows_or_down<R: Threads + Wait + Sync, W: Wire + Send>(
+    rt: &R,
     alloc: Global,
     number: u64,
     silent: bool,
@@ -28,7 +31,7 @@ pub(crate) fn rows_or_down<W: Wire + Send>(
     requires servable { IsServable group.now }
     ensures { spec.OccurrenceAsked W.tells_log W.counts_alone (map W.seen wires.old) (map W.seen wires.new) registry.now number silent iri.now group.now down.old.items down.new.items result }
 {
-    match ask_service(alloc, iri, group, registry, wires) {
+    match ask_service(rt, alloc, iri, group, registry, wires) {
         Ok(rows) => Ok(rows),
         Err(error) => {
             if silent {

@@ -25,12 +25,15 @@ use fx_sources::Registry;
 use fx_terms::{Items, Memory};
 use fx_wire::Wire;
 use std::alloc::Global;
+use std::sync::Wait;
+use std::thread::Threads;
 
 /// The outcome of a query over the union of the endpoints' graphs, by the parts of its plan, in text order.
 ///
 /// Each occurrence of SERVICE is invoked first, in text order, up to the first without SILENT that has no rows. Then the runs are asked for, in text order, up
 /// to that occurrence: a refusal of a run before it comes first.
-pub(crate) fn outcome_by_plan<W: Wire + Send>(
+pub(crate) fn outcome_by_plan<R: Threads + Wait + Sync, W: Wire + Send>(
+    rt: &R,
     alloc: Global,
     query: &Query,
     plan: Vec<Part>,
@@ -50,7 +53,7 @@ pub(crate) fn outcome_by_plan<W: Wire + Send>(
         rows: Vec::new(alloc),
         down: Vec::new(alloc),
     };
-    match invoke_group(alloc, &query.group, registry, &mut invoked, wires) {
+    match invoke_group(rt, alloc, &query.group, registry, &mut invoked, wires) {
         Ok(()) => answer_all(alloc, query, plan, invoked, registry, block, wires),
         Err(error) => refuse(alloc, query, plan, invoked, error, registry, block, wires),
     }

@@ -14,6 +14,8 @@ use fx_sources::Registry;
 use fx_terms::{Iri, Items, Memory, Name};
 use fx_wire::Wire;
 use std::alloc::Global;
+use std::sync::Wait;
+use std::thread::Threads;
 
 /// Why an occurrence of SERVICE has no rows. An endpoint stands under its number in the registry.
 #[derive(Drop)]
@@ -34,7 +36,8 @@ pub(crate) enum ServiceError {
 ///
 /// The text of its group, a SELECT with the group's scope as its columns, is sent once to the endpoint of the registry whose address is the IRI, character
 /// by character. It is sent nowhere else, and nothing is sent where the registry has no such endpoint or the text is longer than 67,108,864 bytes.
-pub(crate) fn ask_service<W: Wire + Send>(
+pub(crate) fn ask_service<R: Threads + Wait + Sync, W: Wire + Send>(
+    rt: &R,
     alloc: Global,
     iri: &Iri,
     group: &Group,
@@ -47,12 +50,13 @@ pub(crate) fn ask_service<W: Wire + Send>(
 {
     match registry.find(iri) {
         None => Err(ServiceError::Unknown),
-        Some(at) => ask_at(alloc, at, group, registry, wires),
+        Some(at) => ask_at(rt, alloc, at, group, registry, wires),
     }
 }
 
 // The rows of a group at the endpoint of this number.
-fn ask_at<W: Wire + Send>(
+fn ask_at<R: Threads + Wait + Sync, W: Wire + Send>(
+    rt: &R,
     alloc: Global,
     at: u32,
     group: &Group,
@@ -66,7 +70,7 @@ fn ask_at<W: Wire + Send>(
 {
     match jobs_of(alloc, at, group) {
         Err(Memory) => Err(ServiceError::Memory),
-        Ok(jobs) => match run_jobs(alloc, registry.endpoints(), jobs.as_slice(), wires) {
+        Ok(jobs) => match run_jobs(rt, alloc, registry.endpoints(), jobs.as_slice(), wires) {
             Err(Memory) => Err(ServiceError::Memory),
             Ok(replies) => rows_of(at, replies),
         },

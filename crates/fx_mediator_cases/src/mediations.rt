@@ -18,32 +18,46 @@ use fx_wire::Wire;
 use std::alloc::Global;
 use std::fmt::Write;
 use std::str::from_utf8;
+use std::sync::Wait;
+use std::thread::Threads;
 
 /// What a call gives.
-pub fn answer(alloc: Global, call: &str, inputs: &[&str]) -> Option<String> {
+pub fn answer<R: Threads + Wait + Sync>(
+    rt: &R,
+    alloc: Global,
+    call: &str,
+    inputs: &[&str],
+) -> Option<String> {
     match (call, inputs) {
-        ("federate", [query, block, graphs @ ..]) => federated(alloc, query, block, graphs),
+        ("federate", [query, block, graphs @ ..]) => federated(rt, alloc, query, block, graphs),
         ("answer of federate", [query, block, graphs @ ..]) => {
             let mut wires = wires_of(alloc, graphs)?;
-            asked(alloc, query, block, graphs.len(), wires.as_mut_slice())
+            asked(rt, alloc, query, block, graphs.len(), wires.as_mut_slice())
         }
         ("federate in turn", [first, second, steps @ ..]) => {
-            federated_in_turn(alloc, &[*first, *second], steps)
+            federated_in_turn(rt, alloc, &[*first, *second], steps)
         }
-        ("plan_parts", [query, graphs @ ..]) => planned(alloc, query, graphs),
+        ("plan_parts", [query, graphs @ ..]) => planned(rt, alloc, query, graphs),
         _ => None,
     }
 }
 
 // How many ASKs and how many other texts each member was sent, and the answer.
-fn federated(alloc: Global, query: &str, block: &str, graphs: &[&str]) -> Option<String> {
+fn federated<R: Threads + Wait + Sync>(
+    rt: &R,
+    alloc: Global,
+    query: &str,
+    block: &str,
+    graphs: &[&str],
+) -> Option<String> {
     let mut wires = wires_of(alloc, graphs)?;
-    let answer = asked(alloc, query, block, graphs.len(), wires.as_mut_slice())?;
+    let answer = asked(rt, alloc, query, block, graphs.len(), wires.as_mut_slice())?;
     told(alloc, wires.as_slice(), graphs.len(), answer.as_str())
 }
 
 // The answer, or the refusal.
-fn asked(
+fn asked<R: Threads + Wait + Sync>(
+    rt: &R,
     alloc: Global,
     query: &str,
     block: &str,
@@ -56,12 +70,13 @@ fn asked(
     let registry = registry_of(alloc, members)?;
     let text = escapes::text(alloc, query)?;
     match parse(alloc, text.as_bytes()) {
-        Ok(query) => answered(alloc, &query, block, &registry, wires),
+        Ok(query) => answered(rt, alloc, &query, block, &registry, wires),
         Err(_) => None,
     }
 }
 
-fn answered(
+fn answered<R: Threads + Wait + Sync>(
+    rt: &R,
     alloc: Global,
     query: &Query,
     block: u32,
@@ -72,10 +87,11 @@ fn answered(
     requires spellable { IsSpellable query.now }
 {
     let mut cache = AskCache::new(alloc).ok()?;
-    answered_by(alloc, query, block, registry, &mut cache, wires)
+    answered_by(rt, alloc, query, block, registry, &mut cache, wires)
 }
 
-fn answered_by<W: Wire + Send>(
+fn answered_by<R: Threads + Wait + Sync, W: Wire + Send>(
+    rt: &R,
     alloc: Global,
     query: &Query,
     block: u32,
@@ -89,7 +105,7 @@ fn answered_by<W: Wire + Send>(
     if block == 0 || block > 64 {
         return None;
     }
-    match federate(alloc, query, registry, cache, Options { block }, wires) {
+    match federate(rt, alloc, query, registry, cache, Options { block }, wires) {
         Ok(outcome) => outcome_text(alloc, &outcome),
         Err(error) => refusal_text(alloc, &error),
     }
@@ -97,7 +113,7 @@ fn answered_by<W: Wire + Send>(
 
 // The answer, and behind it each SERVICE that is down.
 fn outcome_text(alloc: Global, outcome: &Outcome) -> Option<String> {
-    let mut text = shown::answer(alloc, &outcome.answer)?;
+    let mut text = shown::answer(rt, alloc, &outcome.answer)?;
     for down in outcome.down.as_slice() {
         push_down(&mut text, down)?;
     }
@@ -128,7 +144,12 @@ fn push_fault(text: &mut String, why: ReplyFault) -> Option<()> {
 }
 
 // Queries that are answered one after the other with one cache, each with the numbers of the exchanges that are to fail behind it.
-fn federated_in_turn(alloc: Global, graphs: &[&str], steps: &[&str]) -> Option<String> {
+fn federated_in_turn<R: Threads + Wait + Sync>(
+    rt: &R,
+    alloc: Global,
+    graphs: &[&str],
+    steps: &[&str],
+) -> Option<String> {
     let registry = registry_of(alloc, graphs.len())?;
     let mut cache = AskCache::new(alloc).ok()?;
     let mut text = String::new(alloc);
@@ -139,14 +160,15 @@ fn federated_in_turn(alloc: Global, graphs: &[&str], steps: &[&str]) -> Option<S
         if !text.is_empty() {
             text.push_str(" || ").ok()?;
         }
-        let told = told_next(alloc, query, fails, graphs, &registry, &mut cache)?;
+        let told = told_next(rt, alloc, query, fails, graphs, &registry, &mut cache)?;
         text.push_str(told.as_str()).ok()?;
     }
     Some(text)
 }
 
 // The answer, or the refusal, and how many answers to ASKs the cache holds then.
-fn told_next(
+fn told_next<R: Threads + Wait + Sync>(
+    rt: &R,
     alloc: Global,
     query: &str,
     fails: &str,
@@ -157,7 +179,7 @@ fn told_next(
     let mut wires = [failing_wire(alloc, graphs, fails)?];
     let text = escapes::text(alloc, query)?;
     let answer = match parse(alloc, text.as_bytes()) {
-        Ok(query) => answered_by(alloc, &query, 15, registry, cache, &mut wires)?,
+        Ok(query) => answered_by(rt, alloc, &query, 15, registry, cache, &mut wires)?,
         Err(_) => return None,
     };
     let held = cache.len();
@@ -165,25 +187,37 @@ fn told_next(
 }
 
 // How many ASKs and how many other texts each member was sent, and the text of the plan.
-fn planned(alloc: Global, query: &str, graphs: &[&str]) -> Option<String> {
+fn planned<R: Threads + Wait + Sync>(
+    rt: &R,
+    alloc: Global,
+    query: &str,
+    graphs: &[&str],
+) -> Option<String> {
     let mut wires = wires_of(alloc, graphs)?;
-    let plan = explained(alloc, query, graphs.len(), wires.as_mut_slice())?;
+    let plan = explained(rt, alloc, query, graphs.len(), wires.as_mut_slice())?;
     told(alloc, wires.as_slice(), graphs.len(), plan.as_str())
 }
 
 // The text of the plan, or the refusal.
-fn explained(alloc: Global, query: &str, members: usize, wires: &mut [GraphWire]) -> Option<String>
+fn explained<R: Threads + Wait + Sync>(
+    rt: &R,
+    alloc: Global,
+    query: &str,
+    members: usize,
+    wires: &mut [GraphWire],
+) -> Option<String>
     requires { (0 < length wires.old) × (length wires.old ≤ 16) }
 {
     let registry = registry_of(alloc, members)?;
     let text = escapes::text(alloc, query)?;
     match parse(alloc, text.as_bytes()) {
-        Ok(query) => planned_by(alloc, &query, &registry, wires),
+        Ok(query) => planned_by(rt, alloc, &query, &registry, wires),
         Err(_) => None,
     }
 }
 
-fn planned_by(
+fn planned_by<R: Threads + Wait + Sync>(
+    rt: &R,
     alloc: Global,
     query: &Query,
     registry: &Registry,
@@ -193,7 +227,7 @@ fn planned_by(
     requires spellable { IsSpellable query.now }
 {
     let mut cache = AskCache::new(alloc).ok()?;
-    match plan_parts(alloc, query, registry, &mut cache, wires) {
+    match plan_parts(rt, alloc, query, registry, &mut cache, wires) {
         Ok(parts) => explain(alloc, parts.as_slice(), registry.endpoints()).ok(),
         Err(error) => refusal_text(alloc, &error),
     }

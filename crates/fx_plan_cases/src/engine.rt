@@ -19,15 +19,22 @@ use fx_wire::ScriptWire;
 use std::alloc::Global;
 use std::fmt::Write;
 use std::str::from_utf8;
+use std::sync::Wait;
+use std::thread::Threads;
 
 const REGISTRY: &str = "A http://127.0.0.1:8001/sparql\nB http://127.0.0.1:8002/sparql\n";
 
 /// What a call gives.
-pub fn answer(alloc: Global, call: &str, inputs: &[&str]) -> Option<String> {
+pub fn answer<R: Threads + Wait + Sync>(
+    rt: &R,
+    alloc: Global,
+    call: &str,
+    inputs: &[&str],
+) -> Option<String> {
     match (call, inputs) {
-        ("federate", [query, first, second]) => federated(alloc, query, first, second),
-        ("federate with one cache", steps) => federated_in_turn(alloc, steps),
-        ("plan_parts", [query, first, second]) => planned(alloc, query, first, second),
+        ("federate", [query, first, second]) => federated(rt, alloc, query, first, second),
+        ("federate with one cache", steps) => federated_in_turn(rt, alloc, steps),
+        ("plan_parts", [query, first, second]) => planned(rt, alloc, query, first, second),
         ("print", [query]) => printed(alloc, query),
         _ => None,
     }
@@ -41,10 +48,16 @@ fn printed(alloc: Global, field: &str) -> Option<String> {
 }
 
 // How many exchanges were answered, and the answer.
-fn federated(alloc: Global, query: &str, first: &str, second: &str) -> Option<String> {
+fn federated<R: Threads + Wait + Sync>(
+    rt: &R,
+    alloc: Global,
+    query: &str,
+    first: &str,
+    second: &str,
+) -> Option<String> {
     let mut wires = wires_of(alloc, first, second)?;
     let mut cache = AskCache::new(alloc).ok()?;
-    let answer = answered(alloc, query, &mut cache, wires.as_mut_slice())?;
+    let answer = answered(rt, alloc, query, &mut cache, wires.as_mut_slice())?;
     let count = exchanges(wires.as_slice())?;
     format!(in alloc; "{count} exchanges: {answer}").ok()
 }
@@ -58,7 +71,11 @@ fn exchanges(wires: &[ScriptWire]) -> Option<u64> {
 }
 
 // Queries that are answered one after the other with one cache, each with the replies of the endpoints behind it.
-fn federated_in_turn(alloc: Global, steps: &[&str]) -> Option<String> {
+fn federated_in_turn<R: Threads + Wait + Sync>(
+    rt: &R,
+    alloc: Global,
+    steps: &[&str],
+) -> Option<String> {
     let mut cache = AskCache::new(alloc).ok()?;
     let mut text = String::new(alloc);
     for step in steps.chunks(3) {
@@ -68,14 +85,15 @@ fn federated_in_turn(alloc: Global, steps: &[&str]) -> Option<String> {
         if !text.is_empty() {
             text.push_str(" || ").ok()?;
         }
-        let told = told(alloc, &mut cache, query, first, second)?;
+        let told = told(rt, alloc, &mut cache, query, first, second)?;
         text.push_str(told.as_str()).ok()?;
     }
     Some(text)
 }
 
 // What is sent, the answer, and how many entries the cache holds then.
-fn told(
+fn told<R: Threads + Wait + Sync>(
+    rt: &R,
     alloc: Global,
     cache: &mut AskCache,
     query: &str,
@@ -83,14 +101,15 @@ fn told(
     second: &str,
 ) -> Option<String> {
     let mut wires = wires_of(alloc, first, second)?;
-    let answer = answered(alloc, query, cache, wires.as_mut_slice())?;
+    let answer = answered(rt, alloc, query, cache, wires.as_mut_slice())?;
     let sent = sent(alloc, wires.as_slice())?;
     let held = cache.len();
     format!(in alloc; "{sent} => {answer} holds {held}").ok()
 }
 
 // What a query answers, or its refusal.
-fn answered(
+fn answered<R: Threads + Wait + Sync>(
+    rt: &R,
     alloc: Global,
     field: &str,
     cache: &mut AskCache,
@@ -101,12 +120,13 @@ fn answered(
     let registry = Registry::read(alloc, REGISTRY.as_bytes()).ok()?;
     let text = escapes::text(alloc, field)?;
     match parse(alloc, text.as_bytes()) {
-        Ok(query) => answered_by(alloc, &query, &registry, cache, wires),
+        Ok(query) => answered_by(rt, alloc, &query, &registry, cache, wires),
         Err(_) => None,
     }
 }
 
-fn answered_by(
+fn answered_by<R: Threads + Wait + Sync>(
+    rt: &R,
     alloc: Global,
     query: &Query,
     registry: &Registry,
@@ -116,24 +136,39 @@ fn answered_by(
     requires wired { (0 < length wires.old) × (length wires.old ≤ 16) }
     requires spellable { IsSpellable query.now }
 {
-    match federate(alloc, query, registry, cache, Options { block: 15 }, wires) {
+    match federate(
+        rt,
+        alloc,
+        query,
+        registry,
+        cache,
+        Options { block: 15 },
+        wires,
+    ) {
         Ok(outcome) => outcome_text(alloc, &outcome),
         Err(error) => refusal_text(alloc, &error),
     }
 }
 
 // The text of the plan, or the refusal.
-fn planned(alloc: Global, field: &str, first: &str, second: &str) -> Option<String> {
+fn planned<R: Threads + Wait + Sync>(
+    rt: &R,
+    alloc: Global,
+    field: &str,
+    first: &str,
+    second: &str,
+) -> Option<String> {
     let registry = Registry::read(alloc, REGISTRY.as_bytes()).ok()?;
     let mut wires = wires_of(alloc, first, second)?;
     let text = escapes::text(alloc, field)?;
     match parse(alloc, text.as_bytes()) {
-        Ok(query) => planned_by(alloc, &query, &registry, wires.as_mut_slice()),
+        Ok(query) => planned_by(rt, alloc, &query, &registry, wires.as_mut_slice()),
         Err(_) => None,
     }
 }
 
-fn planned_by(
+fn planned_by<R: Threads + Wait + Sync>(
+    rt: &R,
     alloc: Global,
     query: &Query,
     registry: &Registry,
@@ -143,7 +178,7 @@ fn planned_by(
     requires spellable { IsSpellable query.now }
 {
     let mut cache = AskCache::new(alloc).ok()?;
-    match plan_parts(alloc, query, registry, &mut cache, wires) {
+    match plan_parts(rt, alloc, query, registry, &mut cache, wires) {
         Ok(parts) => explain(alloc, parts.as_slice(), registry.endpoints()).ok(),
         Err(error) => refusal_text(alloc, &error),
     }

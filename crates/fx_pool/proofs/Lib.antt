@@ -1,6 +1,14 @@
 pub mod JobLemmas
 pub mod RunLemmas
 pub mod WireLemmas
+pub mod ViewLemmas
+pub mod ClaimLemmas
+pub mod NumberLemmas
+pub mod MoveLemmas
+pub mod WorkLemmas
+pub mod ShareLemmas
+pub mod BesideLemmas
+pub mod OrderLemmas
 pub mod HonestLemmas
 pub mod FaultLemmas
 pub mod AskJobLemmas

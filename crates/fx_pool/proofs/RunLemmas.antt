@@ -16,12 +16,12 @@ use Rattle.fx_pool.specs.Runs.{AreOfJobs, WireDid, jobs_at}
 use Rattle.fx_pool.specs.declared.jobs.Job.{Job}
 use Rattle.fx_pool.specs.declared.jobs.JobReply.{JobReply}
 
-wanted_both : (es : List EndpointParts) (js ks : List Job) (ss ts : List Sent) → AreWanted es js ss → AreWanted es ks ts → AreWanted es (js ++ ks) (ss ++ ts)
+pub wanted_both : (es : List EndpointParts) (js ks : List Job) (ss ts : List Sent) → AreWanted es js ss → AreWanted es ks ts → AreWanted es (js ++ ks) (ss ++ ts)
 wanted_both es [] ks ss ts h k = subst (λ (v : List Sent). AreWanted es ks (v ++ ts)) (sym h) k
 wanted_both es (j ∷ js) ks [] ts h k = absurd h
 wanted_both es (j ∷ js) ks (s ∷ ss) ts h k = (h.0, wanted_both es js ks ss ts h.1 k)
 
-of_both : (es : List EndpointParts) (js ks : List Job) (xs ys : List Exchange) → AreOfJobs es js xs → AreOfJobs es ks ys → AreOfJobs es (js ++ ks) (xs ++ ys)
+pub of_both : (es : List EndpointParts) (js ks : List Job) (xs ys : List Exchange) → AreOfJobs es js xs → AreOfJobs es ks ys → AreOfJobs es (js ++ ks) (xs ++ ys)
 of_both es js ks xs ys h k = record {
   wanted = h.wanted ++ k.wanted;
   of_jobs = wanted_both es js ks h.wanted k.wanted h.of_jobs k.of_jobs;
@@ -29,14 +29,14 @@ of_both es js ks xs ys h k = record {
   sent = sent_laws.together h.wanted h.left k.wanted k.left xs ys h.sent k.sent;
 }
 
-done_both : (es : List EndpointParts) (js ks : List Job) (rs qs : List JobReply) (xs ys : List Exchange) → AreDone es js rs xs → AreDone es ks qs ys → AreDone es (js ++ ks) (rs ++ qs) (xs ++ ys)
+pub done_both : (es : List EndpointParts) (js ks : List Job) (rs qs : List JobReply) (xs ys : List Exchange) → AreDone es js rs xs → AreDone es ks qs ys → AreDone es (js ++ ks) (rs ++ qs) (xs ++ ys)
 done_both es [] ks [] qs xs ys h k = subst (λ (v : List Exchange). AreDone es ks qs (v ++ ys)) (sym h) k
 done_both es [] ks (r ∷ rs) qs xs ys h k = absurd h
 done_both es (j ∷ js) ks [] qs xs ys h k = absurd h
 done_both es (j ∷ js) ks (r ∷ rs) qs xs ys h k =
     (h.0, h.1 ++ ys, ap (λ (v : List Exchange). v ++ ys) h.2 ∙ append_assoc h.0 h.1 ys, h.3, done_both es js ks rs qs h.1 ys h.4 k)
 
-failures_both : (es : List EndpointParts) (address : List ℕ) (js ks : List Job) (rs qs : List JobReply) (xs : List Exchange) → AreDone es js rs xs → failures_at es address (js ++ ks) (rs ++ qs) ≡ failures_at es address js rs + failures_at es address ks qs
+pub failures_both : (es : List EndpointParts) (address : List ℕ) (js ks : List Job) (rs qs : List JobReply) (xs : List Exchange) → AreDone es js rs xs → failures_at es address (js ++ ks) (rs ++ qs) ≡ failures_at es address js rs + failures_at es address ks qs
 failures_both es address [] ks [] qs xs h = omega arith
 failures_both es address [] ks (r ∷ rs) qs xs h = absurd h
 failures_both es address (j ∷ js) ks [] qs xs h = absurd h
@@ -44,7 +44,7 @@ failures_both es address (j ∷ js) ks (r ∷ rs) qs xs h =
     let rest : failures_at es address (js ++ ks) (rs ++ qs) ≡ failures_at es address js rs + failures_at es address ks qs = failures_both es address js ks rs qs h.1 h.4 in
     omega (arith, rest)
 
-jobs_both : (es : List EndpointParts) (address : List ℕ) (js ks : List Job) → jobs_at es address (js ++ ks) ≡ jobs_at es address js + jobs_at es address ks
+pub jobs_both : (es : List EndpointParts) (address : List ℕ) (js ks : List Job) → jobs_at es address (js ++ ks) ≡ jobs_at es address js + jobs_at es address ks
 jobs_both es address [] ks = omega arith
 jobs_both es address (j ∷ js) ks = let rest : jobs_at es address (js ++ ks) ≡ jobs_at es address js + jobs_at es address ks = jobs_both es address js ks in omega (arith, rest)
 
@@ -112,7 +112,7 @@ did_nothing alone s es = record {
   exact = λ is address. omega arith;
 }
 
-all_wanted : (es : List EndpointParts) (js : List Job) → AllByRecursion (λ j. j.at < length es) js → (ss : List Sent) × AreWanted es js ss
+pub all_wanted : (es : List EndpointParts) (js : List Job) → AllByRecursion (λ j. j.at < length es) js → (ss : List Sent) × AreWanted es js ss
 all_wanted es [] h = ([], refl)
 all_wanted es (j ∷ js) h = by (slice_get_cases es j.at).1 (all_wanted es js h.1)
   where
@@ -154,23 +154,3 @@ replies_lost alone s t es js rs h = record {
   few = h.few;
   exact = λ is. tt;
 }
-
--- ---- the turns of a loop
-
-module _ (alone : Bool) (s t u : Seen) (es : List EndpointParts) (jobs : List Job) (k : ℕ) (j : Job) (more : take (k + 1) jobs ≡ take k jobs ++ j ∷ []) (rs : List JobReply) (h : WireDid alone s t es (take k jobs) (Some rs)) where
-  pub one_more : (r : JobReply) → WireDid alone t u es (j ∷ []) (Some (r ∷ [])) → WireDid alone s u es (take (k + 1) jobs) (Some (rs ++ r ∷ []))
-  one_more r d = subst (λ (v : List Job). WireDid alone s u es v (Some (rs ++ r ∷ []))) (sym more) (did_both alone s t u es (take k jobs) (j ∷ []) rs h (Some (r ∷ [])) d)
-
-  rest_left : All (λ i. i.at < length es) jobs → WireDid alone s u es (take k jobs ++ j ∷ []) None → WireDid alone s u es jobs None
-  rest_left within d =
-      subst (λ (v : List Job). WireDid alone s u es v None) (take-append-drop (k + 1) jobs)
-      (more_left alone s u es (take (k + 1) jobs) (drop (k + 1) jobs) (recursion_from_All (λ i. i.at < length es) (drop (k + 1) jobs) (All-drop (λ i. i.at < length es) (k + 1) jobs within))
-      (subst (λ (v : List Job). WireDid alone s u es v None) (sym more) d))
-
-  -- the call ends at a job that isn't answered
-  pub stopped : All (λ i. i.at < length es) jobs → WireDid alone t u es (j ∷ []) None → WireDid alone s u es jobs None
-  stopped within d = rest_left within (did_both alone s t u es (take k jobs) (j ∷ []) rs h None d)
-
-  -- or behind one that is
-  pub lost : All (λ i. i.at < length es) jobs → (r : JobReply) → WireDid alone t u es (j ∷ []) (Some (r ∷ [])) → WireDid alone s u es jobs None
-  lost within r d = stopped within (replies_lost alone t u es (j ∷ []) (r ∷ []) d)

@@ -2,6 +2,7 @@
 use Rattle.std.proofs.Common.{◌≡◌, ◌∙◌, sym, subst, refl, ℕ, ◌+◌, ◌<◌, ◌≤◌, Bool, List, [], ◌∷◌, map, Option, Some, None, IfSome, IsTrue, length, get_or, slice_set, arith, append-nil}
 use Rattle.std.specs.List.{AllByRecursion}
 use Rattle.std.proofs.lemmas.List.Elements.{All-from_recursion, recursion_from_All}
+use Rattle.std.proofs.lemmas.List.Sorted.{IsPermutation-refl}
 use Rattle.std.proofs.lemmas.List.Sums.{sum_by-cons}
 use Rattle.fx_terms.specs.Graphs.{IsGraph}
 use Rattle.fx_terms.specs.declared.triples.Triple.{Triple}
@@ -10,9 +11,9 @@ use Rattle.fx_traffic.specs.Gains.{AreAfter, faults_at}
 use Rattle.fx_traffic.proofs.GainLemmas.{gain_laws}
 use Rattle.fx_wire.specs.Exchanges.{Exchange, Seen}
 use Rattle.fx_wire.specs.Honest.{IsHonest}
-use Rattle.fx_pool.specs.Jobs.{failures_at}
+use Rattle.fx_pool.specs.Jobs.{AreDone, failures_at}
 use Rattle.fx_pool.specs.Posting.{IsHonestAt}
-use Rattle.fx_pool.specs.Runs.{IsHonestOver, WireDid, WiresDid, jobs_at}
+use Rattle.fx_pool.specs.Runs.{AreDoneInSome, IsHonestOver, WireDid, WiresDid, jobs_at}
 use Rattle.fx_pool.specs.declared.jobs.Job.{Job}
 use Rattle.fx_pool.specs.declared.jobs.JobReply.{JobReply}
 
@@ -38,12 +39,16 @@ wires_did tells alone w t others es js o same h = record {
   honest = All-from_recursion (IsHonestOver (w ∷ others)) h.exchanges (honest_over w others h.exchanges (recursion_from_All (IsHonestAt w.graph) h.exchanges h.honest));
   left = (record { logged = λ told. (h.exchanges, h.logged told); same = h.same; kept = h.kept }, after_itself others);
   of_jobs = h.of_jobs;
-  done = h.done;
+  done = done o h.done;
   counted = counted o h.counted;
   few = λ is address. let few : t.faults address ≤ w.faults address + jobs_at es address js = h.few is address in omega (arith, few, all w address, all t address);
   exact = λ is. exact o (h.exact is);
 }
   where
+    done : (o : Option (List JobReply)) → IfSome o (λ rs. AreDone es js rs h.exchanges) → IfSome o (λ rs. AreDoneInSome es js rs h.exchanges)
+    done (Some rs) k = (h.exchanges, k, IsPermutation-refl h.exchanges)
+    done None k = tt
+
     all : (first : Seen) (address : List ℕ) → faults_at (first ∷ others) address ≡ first.faults address + faults_at others address
     all first address = sum_by-cons (λ (s : Seen). s.faults address) first others
 

@@ -1,5 +1,5 @@
 -- What doing jobs leaves of a wire, and of several.
-use Rattle.std.specs.Prelude.{◌≡◌, ◌≤◌, ◌+◌, ◌++◌, ℕ, Bool, List, [], ◌∷◌, Option, Some, None, IfSome, IsTrue, All, Result, Ok, Err, cond, slice_get, length}
+use Rattle.std.specs.Prelude.{◌≡◌, ◌≤◌, ◌+◌, ◌++◌, ℕ, Bool, List, [], ◌∷◌, Option, Some, None, IfSome, IsPermutation, IsTrue, All, Result, Ok, Err, cond, slice_get, length}
 use Rattle.std.specs.declared.alloc.Global.{Global}
 use Rattle.std.specs.declared.vec.Vec.{Vec}
 use Rattle.fx_terms.specs.Graphs.{IsGraph}
@@ -48,6 +48,10 @@ pub record WireDid (alone : Bool) (before after : Seen) (endpoints : List Endpoi
 
 -- ---- several
 
+-- each job has one reply, in their order, where the exchanges stand in some other
+abbrev pub AreDoneInSome : List EndpointParts → List Job → List JobReply → List Exchange → Type 0
+AreDoneInSome endpoints js rs xs = (ordered : List Exchange) × AreDone endpoints js rs ordered × IsPermutation ordered xs
+
 -- where all wires tell the graph of its address, the reply is honest, if it is whole
 abbrev pub IsHonestOver : List Seen → Exchange → Type 0
 IsHonestOver wires x = (graph : List Triple) → Tell wires x.at.iri graph → IsGraph graph × (length x.reply ≤ 67108864 → IsHonest graph x.request x.reply)
@@ -60,7 +64,7 @@ pub record WiresDid (tells alone : Bool) (before after : List Seen) (endpoints :
   pub honest : All (IsHonestOver before) exchanges
   pub left : AreAfter before after
   pub of_jobs : AreOfJobs endpoints js exchanges
-  pub done : IfSome replies (λ rs. AreDone endpoints js rs exchanges)
+  pub done : IfSome replies (λ rs. AreDoneInSome endpoints js rs exchanges)
   pub counted : IfSome replies (λ rs. (address : List ℕ) → faults_at before address + failures_at endpoints address js rs ≤ faults_at after address)
   pub few : IsTrue alone → (address : List ℕ) → faults_at after address ≤ faults_at before address + jobs_at endpoints address js
   pub exact : IsTrue alone → IfSome replies (λ rs. (address : List ℕ) → faults_at after address ≡ faults_at before address + failures_at endpoints address js rs)

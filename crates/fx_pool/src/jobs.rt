@@ -97,6 +97,13 @@ pub enum JobReply {
     TooLong { length: u64 },
 }
 
+// A job that was done, by its number, with what came of it.
+#[derive(Drop)]
+pub(crate) struct Done {
+    pub(crate) number: u64,
+    pub(crate) reply: JobReply,
+}
+
 impl Work {
     ghost use Rattle.std.specs.Prelude.{◌≡◌};
     ghost use Rattle.fx_pool.specs.Jobs.{kind_of, text_of};

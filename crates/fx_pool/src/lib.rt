@@ -1,13 +1,18 @@
 //! Jobs for endpoints, done over wires.
 #![tactic(auto)]
 
+pub mod claims;
 pub mod faults;
 pub mod flows;
 pub mod jobs;
 pub mod laws;
+mod ordering;
 mod posting;
 mod reading;
 pub mod running;
+mod sharing;
+pub mod tasks;
+mod working;
 
 pub use faults::ReplyFault;
 pub use flows::{FlowError, run_flow};

@@ -5,17 +5,23 @@ ghost use Rattle.fx_pool.specs.Jobs.{IsReplyTo, Tells};
 ghost use Rattle.fx_pool.specs.Runs.{WireDid, WiresDid, all_replies, one_reply};
 ghost use Rattle.fx_pool.specs.Telling.{GivesFoundReply, GivesTableReply, GivesTold, GivesTruthReply};
 
+use crate::claims::{known, opened};
 use crate::faults::ReadError;
 use crate::jobs::{BadReply, Job, JobReply, Work};
+use crate::ordering::in_order;
 use crate::posting::{Posted, post};
 use crate::reading::{read_found, read_table, read_truth};
+use crate::sharing::share;
 use fx_bound::Batch;
 use fx_outside::Endpoint;
 use fx_terms::{Items, Memory, Name};
 use fx_wire::Wire;
 use std::alloc::Global;
+use std::sync::Wait;
+use std::thread::Threads;
 
-/// Does jobs for endpoints over wires, and gives one reply for each, in their order. Today the first wire does all of them.
+/// Does jobs for endpoints over wires, each wire by a worker of its own, and gives one reply for each, in their order. A worker that is free does the
+/// next job that no other has begun.
 ///
 /// A job whose text has more than 67,108,864 bytes is `TooLong`, and nothing is sent for it. Else its text is sent to its endpoint, once: the
 /// reply is `Failed` where that exchange failed, which its wire counted as a fault at the endpoint's address; `Bad` with the first fault of what
@@ -23,7 +29,8 @@ use std::alloc::Global;
 ///
 /// Where wires tell their logs, they gained exactly the exchanges that the replies answer to. `Memory` comes where memory runs out: then some of
 /// the jobs were done, none of them twice.
-pub fn run_jobs<W: Wire + Send>(
+pub fn run_jobs<R: Threads + Wait + Sync, W: Wire + Send>(
+    rt: &R,
     alloc: Global,
     endpoints: &[Endpoint],
     jobs: &[Job],
@@ -35,36 +42,20 @@ pub fn run_jobs<W: Wire + Send>(
     requires few { length jobs.now < 4294967296 }
     ensures { WiresDid W.tells_log W.counts_alone (map W.seen wires.old) (map W.seen wires.new) endpoints.now jobs.now (all_replies result) }
 {
-    do_all(alloc, &mut wires[0], endpoints, jobs)
-}
-
-// Does jobs over one wire, one after another.
-fn do_all<W: Wire>(
-    alloc: Global,
-    wire: &mut W,
-    endpoints: &[Endpoint],
-    jobs: &[Job],
-) -> Result<Vec<JobReply>, Memory>
-    requires sendable { All (λ e. is_sendable e ≡ true) endpoints.now }
-    requires within { All (λ j. j.at < length endpoints.now) jobs.now }
-    ensures { WireDid W.counts_alone (W.seen wire.old) (W.seen wire.new) endpoints.now jobs.now (all_replies result) }
-{
-    let mut replies = Vec::new(alloc);
-    for job in jobs {
-        match do_job(alloc, wire, endpoints, job) {
-            Err(Memory) => return Err(Memory),
-            Ok(reply) => {
-                if replies.push(reply).is_err() {
-                    return Err(Memory);
-                }
-            }
-        }
+    let Ok((claims, mut me)) = opened(alloc, jobs.len() as u64) else {
+        return Err(Memory);
+    };
+    let done = share(rt, &alloc, &claims, &mut me, endpoints, jobs, wires);
+    // Each number below the word was drawn once: no job was done twice, and where memory didn't run out none is left.
+    let _word = known(&claims, &mut me);
+    match done {
+        Ok(done) => in_order(alloc, done),
+        Err(Memory) => Err(Memory),
     }
-    Ok(replies)
 }
 
-// Does one job over a wire.
-fn do_job<W: Wire>(
+/// Does one job over a wire.
+pub(crate) fn do_job<W: Wire>(
     alloc: Global,
     wire: &mut W,
     endpoints: &[Endpoint],

@@ -16,11 +16,18 @@ use fx_wire::script_wires::Answered;
 use fx_wire_cases::wires::endpoint;
 use std::alloc::Global;
 use std::fmt::Write;
+use std::sync::Wait;
+use std::thread::Threads;
 
 /// What a call gives.
-pub fn answer(alloc: Global, call: &str, inputs: &[&str]) -> Option<String> {
+pub fn answer<R: Threads + Wait + Sync>(
+    rt: &R,
+    alloc: Global,
+    call: &str,
+    inputs: &[&str],
+) -> Option<String> {
     match (call, inputs) {
-        ("run_jobs", [replies, jobs @ ..]) => jobs_done(alloc, replies, jobs),
+        ("run_jobs", [replies, jobs @ ..]) => jobs_done(rt, alloc, replies, jobs),
         ("run_flow", [graph, run, rows, block]) => flows::flowed(alloc, graph, run, rows, block),
         ("run_flow with a failure", [graph, run, rows, block, fails]) => {
             flows::failing(alloc, graph, run, rows, block, fails)
@@ -30,20 +37,31 @@ pub fn answer(alloc: Global, call: &str, inputs: &[&str]) -> Option<String> {
 }
 
 // What came of jobs, and the log behind it.
-fn jobs_done(alloc: Global, replies: &str, jobs: &[&str]) -> Option<String> {
+fn jobs_done<R: Threads + Wait + Sync>(
+    rt: &R,
+    alloc: Global,
+    replies: &str,
+    jobs: &[&str],
+) -> Option<String> {
     let jobs = jobs_of(alloc, jobs)?;
     let wire = ScriptWire::new(alloc, script(alloc, replies)?).ok()?;
     let mut wires = vec![in alloc; wire].ok()?;
-    done_text(alloc, jobs.as_slice(), wires.as_mut_slice())
+    done_text(rt, alloc, jobs.as_slice(), wires.as_mut_slice())
 }
 
-fn done_text(alloc: Global, jobs: &[Job], wires: &mut [ScriptWire]) -> Option<String> {
+fn done_text<R: Threads + Wait + Sync>(
+    rt: &R,
+    alloc: Global,
+    jobs: &[Job],
+    wires: &mut [ScriptWire],
+) -> Option<String> {
     let endpoints = vec![in alloc; endpoint(alloc, "8001")?, endpoint(alloc, "8002")?].ok()?;
-    let replies = replies_of(alloc, endpoints.as_slice(), jobs, wires)?;
+    let replies = replies_of(rt, alloc, endpoints.as_slice(), jobs, wires)?;
     replies_text(alloc, replies.as_slice(), wires.first()?.log())
 }
 
-fn replies_of(
+fn replies_of<R: Threads + Wait + Sync>(
+    rt: &R,
     alloc: Global,
     endpoints: &[Endpoint],
     jobs: &[Job],
@@ -55,7 +73,7 @@ fn replies_of(
     if wires.len() != 1 {
         return None;
     }
-    run_jobs(alloc, endpoints, jobs, wires).ok()
+    run_jobs(rt, alloc, endpoints, jobs, wires).ok()
 }
 
 // ---- replies of endpoints

@@ -28,14 +28,14 @@ truths_of-requires-clause-many g c =
     let see = g.W.Wire.seen in
     let jobs : c.as_slice.result.now ≡ map job_of c.args.probes.now = c.as_slice.ensures.value ∙ c.in-Ok.ensures in
     let did = subst (λ (v : List Job). WiresDid g.W.Wire.tells_log g.W.Wire.counts_alone (map see c.args.wires.now) (map see c.run_jobs.new.wires) c.args.endpoints.now v (Some c.in-Ok-run_jobs.replies.items)) jobs c.in-Ok-run_jobs.ensures in
-    as_many c.args.endpoints.now c.args.probes.now c.in-Ok-run_jobs.replies.items did.exchanges did.done
+    as_many c.args.endpoints.now c.args.probes.now c.in-Ok-run_jobs.replies.items did.done.0 did.done.1
 
 pub truths_of-requires-clause-asked : goal.truths_of-requires-clause-asked
 truths_of-requires-clause-asked g c =
     let see = g.W.Wire.seen in
     let jobs : c.as_slice.result.now ≡ map job_of c.args.probes.now = c.as_slice.ensures.value ∙ c.in-Ok.ensures in
     let did = subst (λ (v : List Job). WiresDid g.W.Wire.tells_log g.W.Wire.counts_alone (map see c.args.wires.now) (map see c.run_jobs.new.wires) c.args.endpoints.now v (Some c.in-Ok-run_jobs.replies.items)) jobs c.in-Ok-run_jobs.ensures in
-    All-from_recursion IsForAsk c.in-Ok-run_jobs.replies.items (all_for_ask c.args.endpoints.now c.args.probes.now c.in-Ok-run_jobs.replies.items did.exchanges did.done)
+    All-from_recursion IsForAsk c.in-Ok-run_jobs.replies.items (all_for_ask c.args.endpoints.now c.args.probes.now c.in-Ok-run_jobs.replies.items did.done.0 did.done.1)
 
 pub returns : goal.returns
 returns g c =

@@ -33,7 +33,7 @@ rows_of-requires g c =
     let did =
     subst (λ (v : List Job). WiresDid g.W.Wire.tells_log g.W.Wire.counts_alone (map see c.args.wires.now) (map see c.run_jobs.new.wires) es v (Some c.in-Ok-run_jobs.replies.items)) jobs
     (subst (λ (v : List EndpointParts). WiresDid g.W.Wire.tells_log g.W.Wire.counts_alone (map see c.args.wires.now) (map see c.run_jobs.new.wires) v c.as_slice.result.now (Some c.in-Ok-run_jobs.replies.items)) c.endpoints.ensures.value c.in-Ok-run_jobs.ensures) in
-    one_reply_for es c.args.at c.args.group.now c.in-Ok-run_jobs.replies.items did.exchanges did.done
+    one_reply_for es c.args.at c.args.group.now c.in-Ok-run_jobs.replies.items did.done.0 did.done.1
 
 pub returns : goal.returns
 returns g c =

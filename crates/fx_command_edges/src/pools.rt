@@ -1,0 +1,159 @@
+//! Jobs over several wires at once.
+ghost use Rattle.std.specs.Prelude.{◌≡◌, ◌<◌, ◌≤◌, All, IsTrue, length, true};
+ghost use Rattle.fx_outside.specs.Endpoints.{is_sendable};
+
+use fx_outside::Endpoint;
+use fx_pool::{Job, JobReply, RequestText, Work, run_jobs};
+use fx_terms::Iri;
+use fx_wire::{Wire, WireError};
+use std::alloc::Global;
+use std::sync::atomic::{AtomicU64, Ordering};
+use std::test::Fail;
+
+const YES: &str =
+    "HTTP/1.1 200 OK\r\nContent-Type: application/sparql-results+json\r\n\r\n{\"head\":{},\"boolean\":true}";
+
+// How many turns the slow exchange looks for the others.
+const TURNS: u32 = 200_000_000;
+
+// A wire whose exchange of one text ends only when three others have ended, and fails where it never sees that. All others are answered
+// with yes at once.
+#[derive(Drop)]
+struct MeetingWire<'a> {
+    ended: &'a AtomicU64,
+    slow: &'a str,
+    faults: u64,
+}
+
+impl Wire for MeetingWire<'_> {
+    ghost use Rattle.std.specs.Prelude.{false, refl, [], None};
+
+    ghost tells_log = { false };
+
+    ghost seen = { λ wire. record { tells_log = false; log = []; graph = λ _. None; faults = λ _. wire.faults } };
+
+    ghost counts_alone = { false };
+
+    ghost told = { λ _. refl };
+
+    fn exchange(
+        &mut self,
+        alloc: Global,
+        _at: &Endpoint,
+        request: &[u8],
+        limit: u64,
+    ) -> Result<Vec<u8>, WireError> {
+        if request.ends_with(self.slow.as_bytes()) && !have_ended(self.ended) {
+            if self.faults == u64::MAX {
+                return Err(WireError::Memory);
+            }
+            self.faults += 1;
+            return Err(WireError::Failed);
+        }
+        self.ended.fetch_add(1, Ordering::SeqCst);
+        let most = YES.len().min(limit as usize);
+        Ok(Vec::from_slice(alloc, &YES.as_bytes()[..most])?)
+    }
+}
+
+// Whether the three other exchanges are seen to have ended.
+fn have_ended(ended: &AtomicU64) -> bool {
+    for _ in 0..TURNS {
+        if ended.load(Ordering::SeqCst) >= 3 {
+            return true;
+        }
+    }
+    false
+}
+
+// Whichever of four jobs waits for the three others, two wires do them all: the other wire does what is left. A pool on one thread fails where
+// the job that it does first waits, and one that gives each worker two fixed jobs fails where the first of a worker's waits.
+#[test]
+fn two_wires_at_once(rt: HostRuntime) -> Result<(), Fail> {
+    let texts = [
+        "ASK { ?a ?b 0 }",
+        "ASK { ?a ?b 1 }",
+        "ASK { ?a ?b 2 }",
+        "ASK { ?a ?b 3 }",
+    ];
+    for slow in texts {
+        let alloc = rt.alloc();
+        let ended = AtomicU64::new(0);
+        let mut wires = Vec::new(alloc);
+        for _ in 0..2 {
+            wires.push(MeetingWire {
+                ended: &ended,
+                slow,
+                faults: 0,
+            })?;
+        }
+        let endpoints = vec![in alloc; endpoint(alloc)?]?;
+        let jobs = jobs(alloc, &texts)?;
+        assert!(rt; wires.len() == 2 && jobs.len() == 4 && endpoints.len() == 1);
+        assert!(rt; are_sendable(endpoints.as_slice()) && are_within(jobs.as_slice(), 1));
+        match run_jobs(
+            &rt,
+            alloc,
+            endpoints.as_slice(),
+            jobs.as_slice(),
+            wires.as_mut_slice(),
+        ) {
+            Ok(replies) => assert!(rt; replies.iter().all(is_yes)),
+            Err(_) => return Err("no memory".into()),
+        }
+    }
+    Ok(())
+}
+
+fn is_yes(reply: &JobReply) -> bool {
+    matches!(reply, JobReply::Truth(true))
+}
+
+fn jobs(alloc: Global, texts: &[&str]) -> Result<Vec<Job>, Fail> {
+    let mut jobs = Vec::new(alloc);
+    for text in texts {
+        jobs.push(job(alloc, text)?)?;
+    }
+    Ok(jobs)
+}
+
+fn job(alloc: Global, text: &str) -> Result<Job, Fail> {
+    let text = RequestText::of(String::from_str(alloc, text)?);
+    Ok(Job {
+        at: 0,
+        work: Work::Ask { text },
+    })
+}
+
+fn endpoint(alloc: Global) -> Result<Endpoint, Fail> {
+    let Ok(iri) = Iri::read(alloc, "http://127.0.0.1:8001/sparql") else {
+        return Err("no address".into());
+    };
+    let host = String::from_str(alloc, "127.0.0.1")?;
+    let target = String::from_str(alloc, "/sparql")?;
+    Ok(Endpoint::new(String::from_str(alloc, "A")?, iri, host, 8001, target))
+}
+
+fn are_sendable(endpoints: &[Endpoint]) -> bool
+    ensures { IsTrue result → All (λ e. is_sendable e ≡ true) endpoints.now }
+{
+    endpoints.iter().all(can_be_sent_to)
+}
+
+fn can_be_sent_to(endpoint: &Endpoint) -> bool
+    ensures { IsTrue result → is_sendable endpoint.now ≡ true }
+{
+    endpoint.is_sendable()
+}
+
+fn are_within(jobs: &[Job], count: usize) -> bool
+    ensures { IsTrue result → All (λ j. j.at < count) jobs.now }
+{
+    jobs.iter().all(|job| is_below(job, count))
+}
+
+fn is_below(job: &Job, count: usize) -> bool
+    ensures { IsTrue result → job.now.at < count }
+{
+    (job.at as usize) < count
+}
