@@ -26,8 +26,7 @@ use Rattle.fx_pool.specs.declared.jobs.BadReply.{BadReply}
 use Rattle.fx_pool.specs.declared.jobs.JobReply.{JobReply}
 use Rattle.fx_pool.specs.declared.jobs.JobReply.TheVariants as reply
 use Rattle.fx_pool.specs.declared.jobs.Work.{Work}
-use Rattle.fx_pool.specs.declared.posting.Posted.{Posted}
-use Rattle.fx_pool.specs.declared.posting.Posted.TheVariants as posted
+use Rattle.fx_pool.proofs.AskJobLemmas.{one_at_most}
 use Rattle.fx_pool.proofs.MoveLemmas.{only_itself}
 use Rattle.fx_engine.specs.ServicesAsked.{AreRowsOf, AreRowsOver, AskedAt, HasFailed, IsBadService, HasServiceCause, IsForService, IsOneForService, IsRowsOf, IsServable, IsToldBy, ServiceAsked, job_of, service_text}
 use Rattle.fx_engine.specs.declared.services.ServiceError.{ServiceError}
@@ -267,17 +266,12 @@ module _ (tells alone : Bool) (before after : List Seen) (es : List EndpointPart
       cause_by (reply.Truth truth) d rose result h = absurd h
       cause_by (reply.Found founds) d rose result h = absurd h
 
-  one_at_most : (e : EndpointParts) (o : Posted) → length (exchanges_of e o) ≤ 1
-  one_at_most e (posted.Replied request bytes) = omega arith
-  one_at_most e posted.Failed = omega arith
-  one_at_most e (posted.TooLong size) = omega arith
-
   module _ (r : JobReply) (did : WiresDid tells alone before after es (job_of at g ∷ []) (Some (r ∷ []))) where
     pub whole : IsDone es (job_of at g) r did.exchanges
     whole =
         let d = did.done.1 in
         let one : did.done.0 ≡ d.0 = d.2 ∙ ap (λ (v : List Exchange). d.0 ++ v) d.4 ∙ append-nil d.0 in
-        let short : length did.done.0 ≤ 1 = subst (λ (v : List Exchange). length v ≤ 1) (sym (one ∙ d.3.exchanged)) (one_at_most d.3.endpoint d.3.posted) in
+        let short : length did.done.0 ≤ 1 = subst (λ (v : List Exchange). length v ≤ 1) (sym one) (one_at_most es (job_of at g) r d.0 d.3) in
         let all : did.exchanges ≡ d.0 = only_itself did.done.0 did.exchanges short did.done.2 ∙ one in
         subst (IsDone es (job_of at g) r) (sym all) d.3
 

@@ -1,5 +1,5 @@
 -- What the job of an ASK came to, by its reply.
-use Rattle.std.proofs.Common.{◌≡◌, subst, sym, ◌<◌, length, Bool, List, [], ◌∷◌, ℕ}
+use Rattle.std.proofs.Common.{◌≡◌, subst, sym, ◌<◌, ◌≤◌, length, Bool, List, [], ◌∷◌, ℕ, arith}
 use Rattle.fx_algebra.specs.Solutions.{Bindings}
 use Rattle.fx_algebra.specs.declared.answers.Answer.TheVariants as answer
 use Rattle.fx_bound.specs.declared.founds.Found.{Found}
@@ -9,6 +9,7 @@ use Rattle.fx_pool.specs.Jobs.{IsBadReply, IsDone, IsReplyTo}
 use Rattle.fx_pool.specs.Posting.{IsPosted, IsSent, exchanges_of}
 use Rattle.fx_pool.specs.Reading.{HasResults}
 use Rattle.fx_pool.specs.declared.jobs.BadReply.{BadReply}
+use Rattle.fx_pool.specs.declared.jobs.Job.{Job}
 use Rattle.fx_pool.specs.declared.jobs.JobReply.{JobReply}
 use Rattle.fx_pool.specs.declared.jobs.JobReply.TheVariants as reply
 use Rattle.fx_pool.specs.declared.jobs.Work.{Work}
@@ -71,3 +72,12 @@ module _ (es : List EndpointParts) (at : ℕ) (text : List ℕ) (own : List Exch
       by (posted.Replied request bytes) t = t
       by posted.Failed t = cc
       by (posted.TooLong size) t = cc
+
+-- a job was done by one exchange at most
+pub one_at_most : (es : List EndpointParts) (j : Job) (r : JobReply) (xs : List Exchange) → IsDone es j r xs → length xs ≤ 1
+one_at_most es j r xs d = subst (λ (v : List Exchange). length v ≤ 1) (sym d.exchanged) (by d.endpoint d.posted)
+  where
+    by : (e : EndpointParts) (o : Posted) → length (exchanges_of e o) ≤ 1
+    by e (posted.Replied request bytes) = omega arith
+    by e posted.Failed = omega arith
+    by e (posted.TooLong size) = omega arith
