@@ -25,7 +25,7 @@ pub use queries::{Element, Form, Group, Inline, Order, Query};
 pub use scopes::scope;
 pub use solutions::Solution;
 pub use units::{Row, Unit};
-pub use worths::{Kind, Worth};
+pub use worths::{IntegerType, Kind, Worth};
 
 /// Every type of this crate may be shared between threads and sent to them.
 pub fn all_shareable() {
@@ -44,6 +44,7 @@ pub fn all_shareable() {
     shareable::<Row>();
     shareable::<Unit>();
     shareable::<Keyed>();
+    shareable::<IntegerType>();
     shareable::<Kind>();
     shareable::<Worth>();
 }
