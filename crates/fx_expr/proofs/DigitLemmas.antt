@@ -2,7 +2,8 @@
 use Rattle.std.proofs.Common.{◌≡◌, ◌∙◌, refl, sym, ap, subst, ℕ, zero, suc, ◌+◌, ◌-◌, ◌*◌, ◌^◌, ◌<◌, ◌≤◌, Bool, true, false, ◌&&◌, nat_eq, List, [], ◌∷◌, length, arith}
 use Rattle.std.specs.Prelude.{ℤ, pos, negsuc, neg_ℤ, nat_le, int_le, if◌then◌else◌, ◌≢◌}
 use Rattle.std.specs.declared.cmp.Ordering.{Ordering}
-use Rattle.std.specs.Ordering.{Less, Equal, Greater, nat_cmp, ordering_then, is_le, MatchOrdering}
+use Rattle.std.specs.declared.cmp.Ordering.TheVariants.{Less, Equal, Greater}
+use Rattle.std.specs.Ordering.{nat_cmp, ordering_then, is_le, MatchOrdering}
 use Rattle.std.specs.Cmp.Lexicographic.{slice_cmp}
 use Rattle.std.specs.Char.{digit_value}
 use Rattle.std.specs.Str.Parse.{AllDigits, digits_value, digits_value_after}
@@ -57,11 +58,11 @@ first_less : (n d e : ℕ) (ds es : List ℕ) → length ds ≡ length es → Al
 first_less n d e ds es same h k l =
     let rise : n * 10 + digit_value d < n * 10 + digit_value e = omega (arith, digits_rise d e h.0 k.0 l) in
     apart (n * 10 + digit_value d) (n * 10 + digit_value e) (10 ^ length es) (digits_value_after 10 n (d ∷ ds)) (digits_value_after 10 n (e ∷ es)) rise
-        (subst (λ (m : ℕ). digits_value_after 10 n (d ∷ ds) < (n * 10 + digit_value d + 1) * 10 ^ m) same (most_after (n * 10 + digit_value d) ds h.1))
-        (least_after (n * 10 + digit_value e) es)
+    (subst (λ (m : ℕ). digits_value_after 10 n (d ∷ ds) < (n * 10 + digit_value d + 1) * 10 ^ m) same (most_after (n * 10 + digit_value d) ds h.1))
+    (least_after (n * 10 + digit_value e) es)
 
 -- what an order says of the numbers v and w
-abbrev Tells : Ordering → ℕ → ℕ → Type 0
+abbrev pub Tells : Ordering → ℕ → ℕ → Type 0
 Tells o v w = MatchOrdering o (v < w) (v ≡ w) (w < v)
 
 -- by the order of the first digits, where l tells of the others behind the same first digit
@@ -95,7 +96,8 @@ longer : (ds es : List ℕ) → AllDigits 10 ds → IsPlain es → length ds < l
 longer ds [] h k l = absurd (omega arith)
 longer ds (e ∷ es) h k l =
     let small : digits_value 10 ds < 10 ^ length ds = digits_value-lt 10 ds h in
-    let less : 10 ^ length ds ≤ 10 ^ length es = pow-le-pow_right {n = 10} (omega arith) (omega arith) in
+    let most : length ds ≤ length es = omega arith in
+    let less : 10 ^ length ds ≤ 10 ^ length es = pow-le-pow_right {n = 10} (omega arith) most in
     let some : 1 ≤ digit_value e = first_some e k.digits.0 k.first in
     let weight : 1 * 10 ^ length es ≤ digit_value e * 10 ^ length es = mul-le-mul_right (10 ^ length es) some in
     let large : (0 * 10 + digit_value e) * 10 ^ length es ≤ digits_value 10 (e ∷ es) = least_after (0 * 10 + digit_value e) es in

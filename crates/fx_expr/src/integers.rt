@@ -190,12 +190,7 @@ fn is_at_most(left: &str, right: &str) -> bool
 // ---- digits
 
 // Whether a number is at most another, each by its sign and its digits.
-fn are_in_order(
-    left_negative: bool,
-    left: &[u8],
-    right_negative: bool,
-    right: &[u8],
-) -> bool
+fn are_in_order(left_negative: bool, left: &[u8], right_negative: bool, right: &[u8]) -> bool
     requires left { IsPlain left.now }
     requires right { IsPlain right.now }
     ensures { result ≡ int_le (signed left_negative (digits_value 10 left.now)) (signed right_negative (digits_value 10 right.now)) }
