@@ -44,6 +44,11 @@ pub fn all_shareable() {
     shareable::<Row>();
     shareable::<Unit>();
     shareable::<Keyed>();
+    are_worths_shareable();
+}
+
+// What literals are worth, in a function of its own, since the search of so many types in one meets a limit.
+fn are_worths_shareable() {
     shareable::<IntegerType>();
     shareable::<Kind>();
     shareable::<Worth>();

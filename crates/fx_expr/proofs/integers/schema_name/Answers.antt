@@ -1,4 +1,3 @@
-use Rattle.std.proofs.Common.{◌≡◌}
 use Rattle.fx_expr.proofs.WordLemmas.{behind_front}
 use Rattle.fx_algebra.specs.Worths.{xsd}
 use Rattle.fx_expr.proofs.integers.schema_name.Goals as goal
