@@ -1,6 +1,7 @@
 -- The order of values under ORDER BY (SPARQL 1.1 section 15.1), in this project's profile: the error and an unbound variable,
--- then IRIs by code points, then integers in range by value, truth values with false first, strings by code points, and all
--- other literals by datatype, tag and form. Integers, or truth values, that differ in their form alone tie.
+-- then IRIs by code points, then integers with a value by it, truth values with false first, strings by code points, and all
+-- other literals by datatype, tag and form. Integers that differ in their form or type alone tie, and truth values that differ in
+-- their form.
 use Rattle.std.specs.Prelude.{ℕ, ℤ, pos, Bool, true, false, List, [], Option}
 use Rattle.std.specs.Option.{option_to_list}
 use Rattle.std.specs.declared.cmp.Ordering.{Ordering}

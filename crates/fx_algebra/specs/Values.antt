@@ -1,5 +1,5 @@
--- The value of an expression on a solution (SPARQL 1.1 section 17), in this project's profile: integers of 64 bits, truth
--- values and strings have values, and other literals compare as terms. None is the error.
+-- The value of an expression on a solution (SPARQL 1.1 section 17), in this project's profile: integers of 64 bits, of xsd:integer
+-- and the types that are derived from it, truth values and strings have values, and other literals compare as terms. None is the error.
 use Rattle.std.specs.Prelude.{ℕ, ◌+ℤ◌, ◌-ℤ◌, ◌*ℤ◌, neg_ℤ, not, ℤ, pos, Bool, true, false, List, [], ◌∷◌, map, length, Option, Some, None, option_map, option_and_then, if◌then◌else◌, is_none, is_some}
 use Rattle.std.specs.List.{list_any}
 use Rattle.std.specs.Fmt.{signed_decimal}
@@ -34,7 +34,7 @@ truth_form false = codes "false"
 unfoldable pub boolean : Bool → Term
 boolean b = term.Literal (record { form = truth_form b; datatype = xsd_boolean; tag = [] })
 
--- in plain decimal, with a dash where it is negative
+-- the number that an expression makes, of xsd:integer whatever it is made of: in plain decimal, with a dash where it is negative
 unfoldable pub integer : ℤ → Term
 integer z = term.Literal (record { form = signed_decimal z; datatype = xsd_integer; tag = [] })
 

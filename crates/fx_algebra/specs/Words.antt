@@ -27,14 +27,14 @@ has_part (c ∷ cs) part = begins (c ∷ cs) part || has_part cs part
 abbrev pub is_string_kind : Kind → Bool
 is_string_kind kind.Text = true
 is_string_kind kind.Tagged = false
-is_string_kind kind.Integer = false
+is_string_kind (kind.Integer t) = false
 is_string_kind kind.Boolean = false
 is_string_kind kind.Other = false
 
 abbrev pub is_worded_kind : Kind → Bool
 is_worded_kind kind.Text = true
 is_worded_kind kind.Tagged = true
-is_worded_kind kind.Integer = false
+is_worded_kind (kind.Integer t) = false
 is_worded_kind kind.Boolean = false
 is_worded_kind kind.Other = false
 

@@ -25,7 +25,7 @@ pub use queries::{Element, Form, Group, Inline, Order, Query};
 pub use scopes::scope;
 pub use solutions::Solution;
 pub use units::{Row, Unit};
-pub use worths::{Kind, Worth};
+pub use worths::{IntegerType, Kind, Worth};
 
 /// Every type of this crate may be shared between threads and sent to them.
 pub fn all_shareable() {
@@ -44,6 +44,12 @@ pub fn all_shareable() {
     shareable::<Row>();
     shareable::<Unit>();
     shareable::<Keyed>();
+    are_worths_shareable();
+}
+
+// What literals are worth, in a function of its own, since the search of so many types in one meets a limit.
+fn are_worths_shareable() {
+    shareable::<IntegerType>();
     shareable::<Kind>();
     shareable::<Worth>();
 }

@@ -1,9 +1,27 @@
 //! What literals are worth (SPARQL 1.1 section 17), as far as the definitions speak of it.
 
-/// What the datatype of a literal says of it.
-#[derive(Clone, Copy, PartialEq, Eq)]
-pub enum Kind {
+/// The types of integers: xsd:integer and the twelve that XML Schema derives from it (SPARQL 1.1 section 17.1).
+#[derive(Clone, Copy)]
+pub enum IntegerType {
     Integer,
+    NonPositiveInteger,
+    NegativeInteger,
+    NonNegativeInteger,
+    PositiveInteger,
+    Long,
+    Int,
+    Short,
+    Byte,
+    UnsignedLong,
+    UnsignedInt,
+    UnsignedShort,
+    UnsignedByte,
+}
+
+/// What the datatype of a literal says of it.
+#[derive(Clone, Copy)]
+pub enum Kind {
+    Integer(IntegerType),
     Boolean,
     /// xsd:string.
     Text,

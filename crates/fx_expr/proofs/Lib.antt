@@ -1,3 +1,4 @@
+pub mod DigitLemmas
 pub mod Equations
 pub mod LoopLemmas
 pub mod NumberLemmas

@@ -1,6 +1,6 @@
 -- What `parse` and the checked operators of `i64` say, in the words of the definitions.
 use Rattle.std.proofs.Common.{◌≡◌, ◌∙◌, refl, ap, ℕ, ◌<◌, ◌^◌, not, nat_eq, Bool, true, false, List, [], ◌∷◌, length, arith}
-use Rattle.std.specs.Prelude.{ℤ, pos, negsuc, Option, Some, None, Result, Ok, Err, FitsSigned, option_and_then, if◌then◌else◌}
+use Rattle.std.specs.Prelude.{ℤ, pos, negsuc, Option, Some, None, Result, Ok, Err, FitsSigned, if◌then◌else◌}
 use Rattle.std.specs.Int.{w64}
 use Rattle.std.specs.Option.{SomeIff}
 use Rattle.std.specs.Result.{result_ok, OkIff}
@@ -9,7 +9,8 @@ use Rattle.std.specs.Str.Parse.{AllDigits, IsNumeral, ParsesSigned, without_lead
 use Rattle.std.specs.Char.{digit_value}
 use Rattle.std.proofs.lemmas.Bool.{ltb-true, lt-ltb, ne_eqb, and_parts, and_from}
 use Rattle.fx_terms.specs.Iris.{is_digit}
-use Rattle.fx_algebra.specs.Worths.{is_in_range, if_in_range, are_digits, is_integer_form, read_integer}
+use Rattle.fx_algebra.specs.declared.worths.IntegerType.{IntegerType}
+use Rattle.fx_algebra.specs.Worths.{is_in_range, if_in_range, are_digits, is_integer_form, is_good_form, is_of}
 
 -- ---- the range
 
@@ -61,22 +62,23 @@ numeral_from (c ∷ cs) h = (omega arith, digits_from (c ∷ cs) (and_parts (not
 
 -- ---- integers
 
--- the form is none, or what it writes is out of range
-unread : (form : List ℕ) (b c : Bool) → is_integer_form form ≡ b → is_in_range (signed_digits_value 10 form) ≡ c
-    → (IsNumeral 10 (without_leading_sign form) × FitsSigned w64 (signed_digits_value 10 form) → ⊥)
-    → None ≡ option_and_then if_in_range (if b then Some (signed_digits_value 10 form) else None)
+-- the digits of a form
+pub form_digits : (form : List ℕ) → is_integer_form form ≡ true → AllDigits 10 (without_leading_sign form)
 unfolding is_integer_form
-unread form true true d e h = absurd (h (numeral_from (without_leading_sign form) d, fits_from (signed_digits_value 10 form) e))
-unread form true false d e h = rw e refl
-unread form false c d e h = refl
+form_digits form h = (numeral_from (without_leading_sign form) h).1
 
-read : (form : List ℕ) (x : ℤ) → (IsNumeral 10 (without_leading_sign form) × FitsSigned w64 (signed_digits_value 10 form)) × (x ≡ signed_digits_value 10 form) → Some x ≡ read_integer form
+form_numeral : (form : List ℕ) → is_integer_form form ≡ true → IsNumeral 10 (without_leading_sign form)
 unfolding is_integer_form
-read form x h = rw (numeral_so (without_leading_sign form) h.0.0) (rw (fits_so (signed_digits_value 10 form) h.0.1) (ap Some h.1))
+form_numeral form h = numeral_from (without_leading_sign form) h
 
-pub parsed : {E : Type 0} (form : List ℕ) (r : Result ℤ E) → ParsesSigned w64 10 form r → result_ok r ≡ read_integer form
-parsed form (Ok x) h = read form x h
-parsed form (Err e) h = unread form (is_integer_form form) (is_in_range (signed_digits_value 10 form)) refl refl h
+pub parsed : {E : Type 0} (form : List ℕ) (r : Result ℤ E) → is_integer_form form ≡ true → ParsesSigned w64 10 form r → result_ok r ≡ if_in_range (signed_digits_value 10 form)
+parsed form (Ok x) good h = rw (fits_so (signed_digits_value 10 form) h.0.1) (ap Some h.1)
+parsed form (Err e) good h = refused (signed_digits_value 10 form) (is_in_range (signed_digits_value 10 form)) refl (λ fits. h (form_numeral form good, fits))
+
+-- a good form is a form
+pub form_of_good : (t : IntegerType) (form : List ℕ) → is_good_form t form ≡ true → is_integer_form form ≡ true
+unfolding is_good_form
+form_of_good t form h = (and_parts (is_integer_form form) (is_of t (signed_digits_value 10 form)) h).0
 
 pub converted : {E : Type 0} (z : ℤ) (r : Result ℤ E) → OkIff r (FitsSigned w64 z) z → result_ok r ≡ if_in_range z
 converted z (Ok x) h = rw (fits_so z h.0) (ap Some h.1)

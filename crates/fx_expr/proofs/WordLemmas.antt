@@ -1,6 +1,9 @@
 -- What std's search in a text says, in the words of the definitions.
-use Rattle.std.proofs.Common.{◌≡◌, ◌∙◌, refl, ap, sym, subst, ℕ, ◌||◌, Bool, true, false, List, [], ◌∷◌, ◌++◌, drop, length}
-use Rattle.std.specs.Prelude.{◌↔◌}
+use Rattle.std.proofs.Common.{◌≡◌, ◌∙◌, refl, ap, sym, subst, ℕ, ◌+◌, ◌||◌, Bool, true, false, nat_eq, List, [], ◌∷◌, ◌++◌, take, drop, length, Option, Some, None, option_map, if◌then◌else◌}
+use Rattle.std.specs.Prelude.{◌↔◌, MatchOption}
+use Rattle.std.specs.Borrow.{Bor}
+use Rattle.std.specs.Cmp.Lexicographic.{pointwise}
+use Rattle.std.specs.Str.{bytes_eq}
 use Rattle.std.specs.Str.Iter.{HasSubslice}
 use Rattle.std.proofs.lemmas.Bool.Decides.{Decides-eqb}
 use Rattle.std.proofs.lemmas.Slice.Eq.{starts_is}
@@ -46,3 +49,10 @@ has_part_so s p false h = pick (has_part s p) refl
     pick : (b : Bool) → has_part s p ≡ b → false ≡ b
     pick true e = h.1 (gives s p e)
     pick false e = refl
+
+-- what is left of a text behind its front
+pub behind_front : (front text : List ℕ) (r : Option (Bor (List ℕ)))
+    → MatchOption r (pointwise nat_eq (take (length front) text) front ≡ false) (λ x. (pointwise nat_eq (take (length front) text) front ≡ true) × (x.now ≡ drop (length front) text) × (length x.now + length front ≡ length text))
+    → option_map (λ (x : Bor (List ℕ)). x.now) r ≡ (if bytes_eq (take (length front) text) front then Some (drop (length front) text) else None)
+behind_front front text None h = rw h refl
+behind_front front text (Some x) h = rw h.0 (ap Some h.1)

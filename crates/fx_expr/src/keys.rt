@@ -58,9 +58,9 @@ impl Key {
 /// The order of two values as keys (SPARQL 1.1 section 15.1), where `None` is the error or an unbound variable. It takes no
 /// memory.
 ///
-/// `None` comes first, then IRIs by code points, then literals: integers in the range of an `i64` by value, truth values with
-/// false first, strings by code points, and all others by datatype, language tag and form. Integers, or truth values, that
-/// differ in their form alone are equal.
+/// `None` comes first, then IRIs by code points, then literals: integers in the range of an `i64` by value, of whatever type of
+/// integers they are, truth values with false first, strings by code points, and all others by datatype, language tag and form.
+/// Integers that differ in their form or type alone are equal, and so are truth values that differ in their form.
 pub fn compare_keys(left: Option<&Term>, right: Option<&Term>) -> Ordering
     ensures { result ≡ spec.key_order (option_copied left.entry) (option_copied right.entry) }
 {

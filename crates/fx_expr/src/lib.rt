@@ -2,6 +2,7 @@
 #![tactic(auto)]
 
 mod conditions;
+mod integers;
 mod keys;
 mod texts;
 mod values;

@@ -374,9 +374,10 @@ fn both_tested(function: Function, left: &Option<Term>, right: &Option<Term>) ->
 
 /// The value of an expression on a solution, or `None` exactly where it is the error of SPARQL 1.1 section 17.
 ///
-/// Integers are those of an `i64`, and an operator whose result leaves their range is an error, from the left. Literals of
-/// other datatypes than xsd:integer, xsd:boolean and xsd:string, and bad or too great forms of these, compare as terms. IF and
-/// COALESCE look at no part that they do not need.
+/// Integers are those of an `i64`, of xsd:integer or one of the twelve types that XML Schema derives from it, in a form whose number
+/// lies in the type's range. A result is of xsd:integer, and an operator whose result leaves the range of an `i64` is an error, from
+/// the left. Literals of other datatypes than these, xsd:boolean and xsd:string, and bad or too great forms of these, compare as
+/// terms. IF and COALESCE look at no part that they do not need.
 #[cycle(value)]
 pub fn value(alloc: Global, expr: &Expr, solution: &Solution) -> Result<Option<Term>, Memory>
     ensures { IfOk result (λ v. v ≡ spec.value expr.now solution.now) }

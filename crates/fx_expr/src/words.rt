@@ -13,7 +13,7 @@ fn is_string(literal: &Literal) -> bool
     match kind_of(literal.datatype()) {
         Kind::Text => true,
         Kind::Tagged => false,
-        Kind::Integer => false,
+        Kind::Integer(_) => false,
         Kind::Boolean => false,
         Kind::Other => false,
     }
@@ -25,7 +25,7 @@ fn is_worded(literal: &Literal) -> bool
     match kind_of(literal.datatype()) {
         Kind::Text => true,
         Kind::Tagged => true,
-        Kind::Integer => false,
+        Kind::Integer(_) => false,
         Kind::Boolean => false,
         Kind::Other => false,
     }

@@ -1,15 +1,13 @@
 //! What literals are worth.
 ghost use Rattle.std.specs.Prelude.{◌≡◌, ◌||◌, bytes_eq, codes, option_map};
-ghost use Rattle.std.specs.List.{list_all};
-ghost use Rattle.std.specs.Str.Parse.{without_leading_sign};
-ghost use Rattle.fx_terms.specs.Iris.{is_digit};
 ghost use Rattle.fx_terms.specs.Literals.{lang_string, xsd_string};
 ghost use Rattle.fx_algebra.specs.Worths as spec;
 
-use fx_algebra::{Kind, Worth};
+use crate::integers::{integer_type, is_good_form, number_in_range};
+use fx_algebra::{IntegerType, Kind, Worth};
 use fx_terms::{Iri, Literal, Term};
 
-/// The datatype of integers.
+/// The datatype of the integers that expressions make.
 pub(crate) const XSD_INTEGER: &str = "http://www.w3.org/2001/XMLSchema#integer";
 
 /// The datatype of truth values.
@@ -21,8 +19,9 @@ const LANG_STRING: &str = "http://www.w3.org/1999/02/22-rdf-syntax-ns#langString
 
 /// The truth of a term (SPARQL 1.1 section 17.2.2, effective boolean value), or `None` exactly at its error.
 ///
-/// A truth value has itself, and false where its form is bad. An integer is true where it is not zero, false where its form is
-/// bad, and the error where it is out of the range of an `i64`. A string is true where it is not empty. Any other term is the
+/// A truth value has itself, and false where its form is bad. An integer, of xsd:integer or a type that XML Schema derives from
+/// it, is true where it is not zero, false where its form is bad or its number out of its type's range, and the error where its
+/// form is good and its number out of the range of an `i64`. A string is true where it is not empty. Any other term is the
 /// error, also a literal with a language tag. It takes no memory.
 #[tactic(auto, unfolding(fx_algebra::specs::Worths::truth))]
 pub fn truth(term: &Term) -> Option<bool>
@@ -39,7 +38,7 @@ fn literal_truth(literal: &Literal) -> Option<bool>
 {
     let form = literal.form();
     match kind_of(literal.datatype()) {
-        Kind::Integer => integer_truth(form),
+        Kind::Integer(kind) => integer_truth(kind, form),
         Kind::Boolean => Some(read_boolean(form).unwrap_or(false)),
         Kind::Text => Some(!form.is_empty()),
         Kind::Tagged => None,
@@ -47,13 +46,13 @@ fn literal_truth(literal: &Literal) -> Option<bool>
     }
 }
 
-fn integer_truth(form: &str) -> Option<bool>
-    ensures { result ≡ spec.integer_truth (spec.written_integer form.now) }
+fn integer_truth(kind: IntegerType, form: &str) -> Option<bool>
+    ensures { result ≡ spec.integer_truth (spec.written_integer kind form.now) }
 {
-    if !is_integer_form(form) {
+    if !is_good_form(kind, form) {
         return Some(false);
     }
-    match read_integer(form) {
+    match number_in_range(form) {
         Some(number) => Some(number != 0),
         None => None,
     }
@@ -74,7 +73,7 @@ fn literal_worth(literal: &Literal) -> Worth
     ensures { result ≡ spec.worth_by (spec.kind_of literal.now.datatype) literal.now.form }
 {
     match kind_of(literal.datatype()) {
-        Kind::Integer => match read_integer(literal.form()) {
+        Kind::Integer(kind) => match read_integer(kind, literal.form()) {
             Some(number) => Worth::Integer(number),
             None => Worth::Opaque,
         },
@@ -93,9 +92,16 @@ fn literal_worth(literal: &Literal) -> Worth
 pub(crate) fn kind_of(datatype: &Iri) -> Kind
     ensures { result ≡ spec.kind_of datatype.now }
 {
-    if is_integer_type(datatype) {
-        return Kind::Integer;
+    match integer_type(datatype) {
+        Some(kind) => Kind::Integer(kind),
+        None => other_kind(datatype),
     }
+}
+
+// What a datatype says that is none of integers.
+fn other_kind(datatype: &Iri) -> Kind
+    ensures { result ≡ spec.other_kind datatype.now }
+{
     if is_boolean_type(datatype) {
         Kind::Boolean
     } else if is_string_type(datatype) {
@@ -105,14 +111,6 @@ pub(crate) fn kind_of(datatype: &Iri) -> Kind
     } else {
         Kind::Other
     }
-}
-
-// Whether a datatype is one of integers.
-#[tactic(auto, unfolding(fx_algebra::specs::Worths::is_integer_type))]
-fn is_integer_type(datatype: &Iri) -> bool
-    ensures { result ≡ spec.is_integer_type datatype.now }
-{
-    datatype.text() == XSD_INTEGER
 }
 
 fn is_boolean_type(datatype: &Iri) -> bool
@@ -133,41 +131,15 @@ fn is_tagged_type(datatype: &Iri) -> bool
     datatype.text() == LANG_STRING
 }
 
-// The integer that a form writes, where it is in range.
-fn read_integer(form: &str) -> Option<i64>
-    ensures { result ≡ spec.read_integer form.now }
+// The value of a form of a type of integers.
+fn read_integer(kind: IntegerType, form: &str) -> Option<i64>
+    ensures { result ≡ spec.read_integer kind form.now }
 {
-    form.parse::<i64>().ok()
-}
-
-// Whether a form is a sign or none, and then one digit or more.
-#[tactic(auto, unfolding(fx_algebra::specs::Worths::is_integer_form))]
-fn is_integer_form(form: &str) -> bool
-    ensures { result ≡ spec.is_integer_form form.now }
-{
-    let digits = without_sign(form.as_bytes());
-    !digits.is_empty() && has_digits(digits)
-}
-
-fn without_sign(form: &[u8]) -> &[u8]
-    ensures { result.now ≡ without_leading_sign form.now }
-{
-    match form {
-        [] => form,
-        [first, rest @ ..] => {
-            if *first == b'-' || *first == b'+' {
-                rest
-            } else {
-                form
-            }
-        }
+    if is_good_form(kind, form) {
+        number_in_range(form)
+    } else {
+        None
     }
-}
-
-fn has_digits(digits: &[u8]) -> bool
-    ensures { result ≡ list_all is_digit digits.now }
-{
-    digits.iter().all(|b| b.is_ascii_digit())
 }
 
 // The truth value that a form writes.

@@ -1,6 +1,9 @@
-use Rattle.std.proofs.Common.{◌∙◌}
-use Rattle.fx_expr.proofs.NumberLemmas.{parsed}
+use Rattle.std.proofs.Common.{◌≡◌, true}
+use Rattle.fx_algebra.specs.Worths.{is_good_form}
+use Rattle.fx_expr.proofs.NumberLemmas.{form_of_good}
 use Rattle.fx_expr.proofs.worths.read_integer.Goals as goal
 
-pub returns : goal.returns
-returns c = c.ok.ensures.value ∙ parsed c.args.form.now c.parse.result c.parse.ensures.value.0
+pub number_in_range-requires : goal.number_in_range-requires
+number_in_range-requires c =
+    let good : is_good_form c.args.kind c.args.form.now ≡ true = cc in
+    form_of_good c.args.kind c.args.form.now good
