@@ -6,6 +6,7 @@
 
 mod cases;
 mod commands;
+mod counting;
 mod runs;
 mod served;
 mod tables;
