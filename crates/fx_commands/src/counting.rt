@@ -9,8 +9,8 @@ ghost use Rattle.fx_commands.specs.MemberSteps.{IsAnswered};
 use crate::federated::outcome;
 use fx_algebra::{Answer, Query};
 use fx_engine::{FedError, Outcome};
-use fx_sources::Registry;
-use fx_syntax::parse;
+use fx_sources::{Registry, RegistryError};
+use fx_syntax::{SyntaxError, parse};
 use fx_terms::{Boxed, Memory};
 use fx_wire::Wire;
 use std::alloc::Global;
@@ -78,7 +78,7 @@ fn over<W: Wire + Send>(
     }
 }
 
-// The members. Their text is that of a registry, so nothing but memory can be wanting.
+// The members, from the text of their registry.
 fn members(alloc: Global) -> Result<Registry, Memory>
     ensures { IfOk result (λ members. members ≡ generated_members) }
 {
@@ -87,11 +87,15 @@ fn members(alloc: Global) -> Result<Registry, Memory>
         b"M0 http://127.0.0.1:9000/sparql\nM1 http://127.0.0.1:9001/sparql\nM2 http://127.0.0.1:9002/sparql\n",
     ) {
         Ok(members) => Ok(members),
-        Err(_) => Err(Memory),
+        Err(RegistryError::Memory) => Err(Memory),
+        Err(RegistryError::Bad { line: _ }) => unreachable!(),
+        Err(RegistryError::TooMany { line: _ }) => unreachable!(),
+        Err(RegistryError::RepeatedName { line: _ }) => unreachable!(),
+        Err(RegistryError::RepeatedUrl { line: _ }) => unreachable!(),
     }
 }
 
-// The query, from its text as it is printed, which is accepted, so nothing but memory can be wanting.
+// The query, from its text as it is printed.
 fn query(alloc: Global) -> Result<Boxed<Query>, Memory>
     ensures { IfOk result (λ query. query ≡ generated_query) }
 {
@@ -100,7 +104,8 @@ fn query(alloc: Global) -> Result<Boxed<Query>, Memory>
         b"SELECT ?a ?c WHERE { ?a <http://g/knows> ?b . ?b <http://g/knows> ?c . ?c <http://g/age> ?n . FILTER ( ?n < \"30\"^^<http://www.w3.org/2001/XMLSchema#integer> ) }",
     ) {
         Ok(query) => boxed(alloc, query),
-        Err(_) => Err(Memory),
+        Err(SyntaxError::Memory) => Err(Memory),
+        Err(SyntaxError::Refused { kind: _, place: _ }) => unreachable!(),
     }
 }
 

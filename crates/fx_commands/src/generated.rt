@@ -82,8 +82,8 @@ fn counts(alloc: Global, members: &[(Iri, Graph)]) -> Result<(u64, u64), Memory>
 {
     let all = all_triples(alloc, members)?;
     let held = all.len() as u64;
-    let union = Graph::of(all)?;
-    Ok((held, union.triples().len() as u64))
+    let united = Graph::of(all)?;
+    Ok((held, united.triples().len() as u64))
 }
 
 // All that the members hold, one behind the other.

@@ -1,11 +1,12 @@
 //! The members that `generate` makes, by a rule.
-ghost use Rattle.std.specs.Prelude.{◌≡◌, ◌≤◌, ◌<◌, ◌++◌, ◌∷◌, [], IfOk, OnOk, string_bytes};
+ghost use Rattle.std.specs.Prelude.{◌≡◌, ◌≤◌, ◌<◌, ◌++◌, ◌∷◌, [], IfOk, Ok, OnOk, string_bytes};
 ghost use Rattle.std.specs.Fmt.{decimal};
 ghost use Rattle.std.specs.List.{flat_map, range_with_len};
+ghost use Rattle.fx_terms.specs.Iris.{read_iri};
 ghost use Rattle.fx_commands.specs.Generator as spec;
 ghost use Rattle.fx_commands.specs.GeneratorSteps.{at_addresses};
 
-use fx_terms::{Graph, Iri, Literal, Memory, Term, Triple};
+use fx_terms::{Graph, Iri, Literal, LiteralError, Memory, Term, TermError, Triple};
 use itoa::Buffer;
 use std::alloc::Global;
 
@@ -30,7 +31,8 @@ fn push_member(
     size: u32,
     member: u32,
 ) -> Result<(), Memory>
-    requires { (1 ≤ size) × (size ≤ 10000) }
+    requires size { (1 ≤ size) × (size ≤ 10000) }
+    requires address { read_iri address.now ≡ Ok address.now }
     ensures { OnOk result (members.new.items ≡ members.old.items ++ (address.now, spec.member_graph size member) ∷ []) }
 {
     let address = iri(alloc, address)?;
@@ -98,7 +100,7 @@ fn holds_link(member: u32, number: u32) -> bool
     requires { number < 10000 }
     ensures { result ≡ spec.holds_link member number }
 {
-    member == number % 3 || number % 5 == 0 && member == (number + 1) % 3
+    member == number % 3 || (number % 5 == 0 && member == (number + 1) % 3)
 }
 
 fn link(alloc: Global, size: u32, number: u32) -> Result<Triple, Memory>
@@ -145,18 +147,22 @@ fn integer(alloc: Global, number: u32) -> Result<Literal, Memory>
     let datatype = iri(alloc, XSD_INTEGER)?;
     match Literal::typed(alloc, form.as_str(), &datatype) {
         Ok(literal) => Ok(literal),
-        // The datatype isn't rdf:langString, so what is left is want of memory.
-        Err(_) => Err(Memory),
+        Err(LiteralError::Memory) => Err(Memory),
+        Err(LiteralError::NeedsTag) => unreachable!(),
+        Err(LiteralError::BadTag) => unreachable!(),
     }
 }
 
-// The IRI that a text is, which is one here, so that nothing but memory can be wanting.
+// The IRI that a text is, where it is known to be one.
 fn iri(alloc: Global, text: &str) -> Result<Iri, Memory>
+    requires { read_iri text.now ≡ Ok text.now }
     ensures { IfOk result (λ iri. iri ≡ text.now) }
 {
     match Iri::read(alloc, text) {
         Ok(iri) => Ok(iri),
-        Err(_) => Err(Memory),
+        Err(TermError::Memory) => Err(Memory),
+        Err(TermError::Relative) => unreachable!(),
+        Err(TermError::BadCharacter { place: _ }) => unreachable!(),
     }
 }
 
