@@ -1,5 +1,5 @@
 -- The query of `count_rows` is accepted from its text, and has no SERVICE; and what the members give for it is counted.
-use Rattle.std.proofs.Common.{◌≡◌, ◌∙◌, ap, sym, subst, refl, ℕ, zero, suc, ◌<◌, ◌≤◌, Bool, true, false, ◌&&◌, List, [], ◌∷◌, ◌++◌, map, get_or, length, max, codes, Option, Some, None, Ok, Err, inl, inr, arith}
+use Rattle.std.proofs.Common.{◌≡◌, ◌∙◌, ap, sym, subst, refl, ℕ, zero, suc, ◌<◌, ◌≤◌, true, false, List, [], ◌∷◌, ◌++◌, map, length, max, codes, Some, None, Ok, Err, inl, inr, arith}
 use Rattle.std.specs.Prelude.{Contains, Result, nat_le, bytes_eq, if◌then◌else◌}
 use Rattle.std.specs.List.{flat_map, list_all}
 use Rattle.std.specs.Str.{IsAscii}
@@ -10,10 +10,8 @@ use Rattle.fx_terms.specs.Iris.{IsIri}
 use Rattle.fx_terms.specs.Names.{IsName, is_name, named}
 use Rattle.fx_terms.specs.Terms.{IsTerm}
 use Rattle.fx_terms.specs.declared.patterns.Pattern.{Pattern}
-use Rattle.fx_terms.specs.declared.terms.Term.{Term}
 use Rattle.fx_terms.specs.declared.triples.Triple.{Triple}
 use Rattle.fx_terms.proofs.SetLemmas.{among_from}
-use Rattle.fx_outside.specs.Endpoints.{EndpointParts}
 use Rattle.fx_algebra.specs.Answers.{answer, answer_alone, form_answer, no_graphs, with_inline}
 use Rattle.fx_algebra.specs.Graphs.{union}
 use Rattle.fx_algebra.specs.Groups.{Meaning, Part, pattern, condition, meaning, element_meaning, group_meaning, group_rows}
@@ -21,19 +19,18 @@ use Rattle.fx_algebra.specs.Measures.{Measured, measure_step, measured, conditio
 use Rattle.fx_algebra.specs.Occurrences as service
 use Rattle.fx_algebra.specs.Printed.{Word, fixed, variable, term, joined, condition as condition_words, element_step, element_words, form_words, group_step, group_words, in_place, order_words, pattern_words, print_step, printed, printed_query, query_words}
 use Rattle.fx_algebra.specs.Printed as words
-use Rattle.fx_algebra.specs.Scopes.{once, scope, with_name}
+use Rattle.fx_algebra.specs.Scopes.{once, with_name}
 use Rattle.fx_algebra.specs.Worths.{xsd_integer}
 use Rattle.fx_algebra.specs.declared.answers.Answer.{Answer}
 use Rattle.fx_algebra.specs.declared.expressions.Compare.TheVariants.{Less}
-use Rattle.fx_algebra.specs.declared.expressions.Expr.{Expr, Expr-F, fold-roll-Expr, roll-Expr}
+use Rattle.fx_algebra.specs.declared.expressions.Expr.{Expr-F, fold-roll-Expr, roll-Expr}
 use Rattle.fx_algebra.specs.declared.queries.Element.{Element, Element-F, fold-roll-Element}
 use Rattle.fx_algebra.specs.declared.queries.Element.TheVariants as element
 use Rattle.fx_algebra.specs.declared.queries.Form.TheVariants as form
 use Rattle.fx_algebra.specs.declared.queries.Group.{Group, fold-roll-Group, roll-Group}
-use Rattle.fx_algebra.specs.declared.queries.Query.{Query}
 use Rattle.fx_algebra.proofs.CutLemmas.{part_of}
 use Rattle.fx_grammar.specs.Accepted.{Accepted}
-use Rattle.fx_spelling.specs.Printable.{AreFine, Held, IsPrintable, IsTriple, brackets, held, held_element, hold_element, hold_group}
+use Rattle.fx_spelling.specs.Printable.{AreFine, Held, IsPrintable, brackets, held, held_element, hold_element, hold_group}
 use Rattle.fx_spelling.proofs.Queries.{printed_is_accepted}
 use Rattle.fx_spelling.proofs.Saying.{fine_both}
 use Rattle.fx_spelling.proofs.Terms.{fine_triple}
@@ -48,7 +45,7 @@ use Rattle.fx_engine.specs.declared.mediator.FedError.{FedError}
 use Rattle.fx_engine.specs.declared.mediator.FedError.TheVariants as fed
 use Rattle.fx_engine.specs.declared.mediator.Outcome.{Outcome}
 use Rattle.fx_commands.specs.Asking.{WiresSeen}
-use Rattle.fx_commands.specs.Counting.{IsOfMember, IsRowCount, WasCounted, age, first_address, generated_elements, generated_members, generated_query, generated_text, is_young, knows, linked, rows_in, second_address, third_address, thirty}
+use Rattle.fx_commands.specs.Counting.{IsOfMember, IsRowCount, WasCounted, age, first_address, generated_elements, generated_members, generated_query, generated_text, is_young, knows, linked, rows_in, second_address, thirty}
 use Rattle.fx_commands.specs.MemberSteps.{IsAnswered}
 use Rattle.fx_commands.proofs.QueryLemmas.{known_from_nothing}
 
@@ -152,14 +149,21 @@ thirty_term = record { form = IsUtf8-from_ascii (codes "30") (all_ascii (codes "
 fine : AreFine written
 fine = (
   inr (inl refl),
-  named_a,
-  named_c,
-  inr (inl refl),
-  inl refl,
-  fine_both (pattern_words first) (pattern_words second ++ (pattern_words third ++ (young_words ++ fixed (codes "}") ∷ []))) (fine_triple first (record { subject = named_a; predicate = knows_iri; object = named_b }))
-      (fine_both (pattern_words second) (pattern_words third ++ (young_words ++ fixed (codes "}") ∷ [])) (fine_triple second (record { subject = named_b; predicate = knows_iri; object = named_c }))
-      (fine_both (pattern_words third) (young_words ++ fixed (codes "}") ∷ []) (fine_triple third (record { subject = named_c; predicate = age_iri; object = named_n }))
-      (inr (inl refl), inl refl, named_n, inl refl, thirty_term, inl refl, inl refl, tt))),
+  (
+    named_a,
+    (
+      named_c,
+      (
+        inr (inl refl),
+        (
+          inl refl,
+          fine_both (pattern_words first) (pattern_words second ++ (pattern_words third ++ (young_words ++ fixed (codes "}") ∷ []))) (fine_triple first (record { subject = named_a; predicate = knows_iri; object = named_b }))
+              (fine_both (pattern_words second) (pattern_words third ++ (young_words ++ fixed (codes "}") ∷ [])) (fine_triple second (record { subject = named_b; predicate = knows_iri; object = named_c }))
+              (fine_both (pattern_words third) (young_words ++ fixed (codes "}") ∷ []) (fine_triple third (record { subject = named_c; predicate = age_iri; object = named_n })) (inr (inl refl), (inl refl, (named_n, (inl refl, (thirty_term, (inl refl, (inl refl, tt))))))))),
+        ),
+      ),
+    ),
+  ),
 )
 
 -- ---- its brackets
@@ -261,7 +265,7 @@ abbrev graph_at : List Triple → List Triple → List Triple → List ℕ → L
 graph_at a b c address = if bytes_eq address first_address then a else if bytes_eq address second_address then b else c
 
 serves : (a b c : List Triple) → Serve (graph_at a b c) generated_members (a ∷ b ∷ c ∷ [])
-serves a b c = (refl, refl, refl, tt)
+serves a b c = (refl, (refl, (refl, tt)))
 
 module _ (w : WiresSeen) (entries : List Entry) where
   nothing_called : (result : Result Outcome FedError) (f : Federated w.tells w.alone w.before w.after generated_members generated_query [] entries 15 result) → f.calls ≡ []

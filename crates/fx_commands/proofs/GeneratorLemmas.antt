@@ -101,7 +101,5 @@ pub all_told : (see : GraphWire → Seen) → ((w : GraphWire) (address : List �
 all_told see same members a b c is wires h =
     let over = subst (λ (l : List (List ℕ × List Triple)). All (IsOver l) wires) is h in (
       told_there see same (at_addresses a b c) first_address a refl wires over,
-      told_there see same (at_addresses a b c) second_address b refl wires over,
-      told_there see same (at_addresses a b c) third_address c refl wires over,
-      tt,
+      (told_there see same (at_addresses a b c) second_address b refl wires over, (told_there see same (at_addresses a b c) third_address c refl wires over, tt)),
     )

@@ -1,10 +1,9 @@
 -- The registry of the members of `count_rows`.
-use Rattle.std.proofs.Common.{◌≡◌, ◌∙◌, sym, List, Ok, Err, refl}
+use Rattle.std.proofs.Common.{◌≡◌, ◌∙◌, sym, Ok, Err, refl}
 use Rattle.std.specs.Str.{is_utf8}
 use Rattle.url.proofs.OnLiterals.{url_on_literals}
 use Rattle.fx_sources.specs.Addresses.{url_text}
 use Rattle.fx_sources.specs.Lines.{entry, line_of}
-use Rattle.fx_outside.specs.Endpoints.{EndpointParts}
 use Rattle.fx_sources.specs.Registries.{AnswersRegistry, read_registry, with_endpoint}
 use Rattle.fx_sources.specs.declared.errors.RegistryError.{RegistryError}
 use Rattle.fx_sources.specs.declared.errors.RegistryError.TheVariants as error

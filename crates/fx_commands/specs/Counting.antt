@@ -17,7 +17,7 @@ use Rattle.fx_algebra.specs.declared.expressions.Expr.{Expr, Expr-F, roll-Expr}
 use Rattle.fx_algebra.specs.declared.queries.Element.{Element}
 use Rattle.fx_algebra.specs.declared.queries.Element.TheVariants as element
 use Rattle.fx_algebra.specs.declared.queries.Form.TheVariants as form
-use Rattle.fx_algebra.specs.declared.queries.Group.{Group, roll-Group}
+use Rattle.fx_algebra.specs.declared.queries.Group.{roll-Group}
 use Rattle.fx_algebra.specs.declared.queries.Query.{Query}
 use Rattle.fx_sources.specs.Probes.{Entry}
 use Rattle.fx_traffic.specs.Gains.{TellAll}

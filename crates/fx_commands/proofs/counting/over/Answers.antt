@@ -1,4 +1,4 @@
-use Rattle.std.proofs.Common.{◌≡◌, ◌∙◌, map, subst, sym}
+use Rattle.std.proofs.Common.{◌∙◌, map, subst, sym}
 use Rattle.fx_algebra.specs.declared.queries.Query.{Query}
 use Rattle.fx_engine.specs.Mediation.{IsSpellable}
 use Rattle.fx_pool.proofs.WireLemmas.{after_itself}
@@ -8,7 +8,7 @@ use Rattle.fx_commands.proofs.CountingLemmas.{query_spellable}
 use Rattle.fx_commands.proofs.counting.over.Goals as goal
 
 pub outcome-requires-clause-spellable : goal.outcome-requires-clause-spellable
-outcome-requires-clause-spellable g c = subst IsSpellable (sym (c.get.ensures ∙ c.in-Ok.ensures)) query_spellable
+outcome-requires-clause-spellable g c = λ lifetimes outlive. subst IsSpellable (sym (c.get.ensures ∙ c.in-Ok.ensures)) query_spellable
 
 pub returns-in-Ok-clause-answered : goal.returns-in-Ok-clause-answered
 returns-in-Ok-clause-answered g c =

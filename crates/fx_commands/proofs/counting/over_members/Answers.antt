@@ -1,4 +1,4 @@
-use Rattle.std.proofs.Common.{◌≡◌, List, map, subst}
+use Rattle.std.proofs.Common.{List, map, subst}
 use Rattle.fx_outside.specs.Endpoints.{EndpointParts}
 use Rattle.fx_pool.proofs.WireLemmas.{after_itself}
 use Rattle.fx_commands.specs.Asking.{wires_seen}

@@ -4,5 +4,5 @@ use Rattle.fx_commands.specs.GeneratorSteps.{IsOver}
 use Rattle.fx_commands.proofs.generated.wires.Given as goal
 
 -- so many were made
-abbrev pub invariant-loop-_number : goal.invariant-loop-_number
-invariant-loop-_number l = (length l.wires.items ≡ l._number) × All (IsOver l.members) l.wires.items
+abbrev pub invariant-loop-number : goal.invariant-loop-number
+invariant-loop-number l = (length l.wires.items ≡ l._number) × All (IsOver l.members) l.wires.items
