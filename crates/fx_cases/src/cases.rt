@@ -38,6 +38,7 @@ pub fn answer(alloc: Global, table: &str, call: &str, inputs: &[&str]) -> Option
         "mediations" => mediations::answer(alloc, call, inputs),
         "commands" => commands::answer(alloc, call, inputs),
         "runs" => runs::answer(alloc, call, inputs),
+        "hostile" => runs::answer(alloc, call, inputs),
         "served" => served::answer(alloc, call, inputs),
         "drawn" => runs::answer(alloc, call, inputs),
         _ => None,

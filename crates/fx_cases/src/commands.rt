@@ -1,5 +1,6 @@
-//! The calls of `fx_commands` that read command lines and write lines.
+//! The calls of `fx_commands` that read command lines, count rows and write lines.
 
+use crate::counting::counted;
 use crate::runs::{sink_of, words_of};
 use fx_commands::reports::write_no_memory;
 use fx_commands::{Command, CommandError, read_command};
@@ -10,6 +11,7 @@ use std::str::from_utf8;
 pub fn answer(alloc: Global, call: &str, inputs: &[&str]) -> Option<String> {
     match (call, inputs) {
         ("read_command", [words]) => command(alloc, words),
+        ("count_rows", [failing, fields @ ..]) => counted(alloc, failing, fields),
         ("write_no_memory", []) => no_memory(alloc),
         _ => None,
     }
@@ -45,6 +47,7 @@ fn command_text(alloc: Global, command: Command<'_>) -> Option<String> {
             address,
             count,
         } => format!(in alloc; "Member of graph {graph} at {address}, {count} times").ok(),
+        Command::Generate { size } => format!(in alloc; "Generate of size {size}").ok(),
     }
 }
 

@@ -6,6 +6,7 @@
 
 mod cases;
 mod commands;
+mod counting;
 mod runs;
 mod served;
 mod tables;
@@ -15,7 +16,7 @@ use std::{fs, io};
 use tables::{Outcome, try_table};
 
 // The tables, in the order of the crates whose calls they try.
-const TABLES: [&str; 25] = [
+const TABLES: [&str; 26] = [
     "terms",
     "outside",
     "ntriples",
@@ -39,6 +40,7 @@ const TABLES: [&str; 25] = [
     "mediations",
     "commands",
     "runs",
+    "hostile",
     "served",
     "drawn",
 ];

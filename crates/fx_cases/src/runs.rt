@@ -364,7 +364,8 @@ fn replies(alloc: Global, fields: &[&str]) -> Option<Vec<(Iri, Vec<u8>)>> {
     Some(replies)
 }
 
-fn graphs(alloc: Global, fields: &[&str]) -> Option<Vec<(Iri, Graph)>> {
+/// The graphs of fields, each at the address that is the field's name.
+pub fn graphs(alloc: Global, fields: &[&str]) -> Option<Vec<(Iri, Graph)>> {
     let mut graphs = Vec::new(alloc);
     for field in fields {
         let (name, content) = field.split_once('=')?;

@@ -50,7 +50,7 @@ use Rattle.fx_commands.specs.declared.statuses.Status.{Status}
 use Rattle.fx_commands.specs.declared.statuses.Status.TheVariants as status
 use Rattle.fx_commands.specs.Asking.{IsRefusedBefore, WiresSeen}
 use Rattle.fx_commands.specs.Completeness.{Completes, AreAsksShort, AreRepliesShort, AreTextsShort, AreWell, IsDoneOrWant, IsReadWell, IsWrittenWell}
-use Rattle.fx_commands.specs.Commands.{Asked, over_file, over_members, planned, served}
+use Rattle.fx_commands.specs.Commands.{Asked, over_file, over_members, planned, served, generated}
 use Rattle.fx_commands.specs.Explain.{IsExplainReported}
 use Rattle.fx_commands.specs.FedRefusals.{IsGivenEnd}
 use Rattle.fx_commands.specs.Files.{FileRead, Holds, IsNoGraph, IsNoQuery, IsNoRegistry, IsQueryThat, IsTooLong}
@@ -327,6 +327,11 @@ member_completes g door later address count status.BadReply before text err repo
 member_completes g door later address count status.UnknownService before text err reported cut graph h a same lines = absurd reported.2
 member_completes g door later address count status.RequestTooLong before text err reported cut graph h a same lines = absurd reported.2
 
+-- ---- `generate`
+
+pub making_completes : (s : Status) (text : List ℕ) (out : SinkWritten) → IsGivenEnd [] s text → (s ≡ status.WriteFault → sink.HasFailed out) → IsWrittenWell out → IsDoneOrWant s
+making_completes s text out end cut written = given_ends [] s text (λ is. written (cut is)) end
+
 -- ---- by the command
 
 pub want_completes : (read : List ℕ → FileRead) (w : WiresSeen) (door later : DoorSeen) (asked : Option Asked) (out err : SinkWritten) → Completes read w door later asked status.NoMemory out err
@@ -335,3 +340,4 @@ want_completes read w door later (Some (over_members r q workers block)) out err
 want_completes read w door later (Some (planned r q)) out err = λ es asked graphs told known a b well written replies asks. inr refl
 want_completes read w door later (Some (over_file g q)) out err = λ graph asked h k silent a b well lines. inr refl
 want_completes read w door later (Some (served g address count)) out err = λ graph h a same lines. inr refl
+want_completes read w door later (Some (generated n)) out err = λ written. inr refl

@@ -34,16 +34,18 @@ use Rattle.fx_commands.specs.declared.limits.TheConstants.{GRAPH_LIMIT, QUERY_LI
 use Rattle.fx_commands.specs.declared.statuses.Status.{Status}
 use Rattle.fx_commands.specs.declared.statuses.Status.TheVariants as status
 use Rattle.fx_commands.specs.Asking.{WiresSeen}
-use Rattle.fx_commands.specs.Commands.{Asked, over_file, over_members, planned, served}
+use Rattle.fx_commands.specs.Commands.{Asked, over_file, over_members, planned, served, generated}
 use Rattle.fx_commands.specs.Explain.{IsExplainReported, IsExplainWritten}
 use Rattle.fx_commands.specs.Files.{FileRead, Holds, IsQueryOf, IsQueryThat, IsRegistryOf}
+use Rattle.fx_commands.specs.FedRefusals.{IsGivenEnd}
+use Rattle.fx_commands.specs.Generator.{summary}
 use Rattle.fx_commands.specs.Headline.{AreWritten, Headline, IsTold, NamesFailed}
 use Rattle.fx_commands.specs.Lines.{Gains, down_lines, member_failed, service_failed}
 use Rattle.fx_commands.specs.Local.{HasLines, IsWritten}
 use Rattle.fx_commands.specs.Query.{IsOutcomeWritten, IsQueryDone, IsQueryReported}
 use Rattle.fx_commands.specs.Services.{all_numbers, silent_lines}
 use Rattle.fx_commands.specs.Silent.{AreLicensed, IsPlain}
-use Rattle.fx_commands.specs.Sinks.{SinkWritten}
+use Rattle.fx_commands.specs.Sinks.{SinkWritten, Wrote}
 use Rattle.fx_commands.proofs.QueryLemmas.{fed_not_done, known_from_nothing}
 use Rattle.fx_commands.proofs.SilentLemmas.{are_licensed}
 
@@ -241,6 +243,15 @@ local_headline g q s out err written lines graph asked h k = λ done. (
   λ tells. let wrote = lines done tells in wrote.2 ∙ ap (λ (t : List ℕ). err.old ++ t) (local_lines q asked wrote.0 k wrote.1),
 )
 
+-- ---- `generate`
+
+pub making_headline : (n : ℕ) (s : Status) (text : List ℕ) (out err : SinkWritten) → IsGivenEnd [] s text → (IsTrue err.tells → Gains err.old err.new err.before err.after text) → (IsTrue out.tells → Wrote (λ t. t ≡ summary n) s out.old out.new)
+    → s ≡ status.Done → AreWritten (summary n) [] out err
+making_headline n s text out err end gains wrote done = (
+  λ tells. let w = subst (λ (v : Status). Wrote (λ t. t ≡ summary n) v out.old out.new) done (wrote tells) in w.2 ∙ ap (λ (t : List ℕ). out.old ++ t) w.1,
+  λ tells. nothing_more err.old err.new text (gains tells).front (subst (λ (v : Status). IsGivenEnd [] v text) done end),
+)
+
 -- ---- by the command
 
 pub no_headline : (read : List ℕ → FileRead) (w : WiresSeen) (asked : Option Asked) (out err : SinkWritten) → Headline read w asked status.NoMemory out err
@@ -264,3 +275,7 @@ no_headline read w (Some (over_file g q)) out err = λ graph asked h k done. abs
     not_done : status.NoMemory ≡ status.Done → ⊥
     not_done h = cc
 no_headline read w (Some (served g address count)) out err = tt
+no_headline read w (Some (generated n)) out err = λ done. absurd (not_done done)
+  where
+    not_done : status.NoMemory ≡ status.Done → ⊥
+    not_done h = cc

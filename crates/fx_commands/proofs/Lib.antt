@@ -13,4 +13,7 @@ pub mod CompletenessLemmas
 pub mod UsedLemmas
 pub mod NumberLemmas
 pub mod WordLemmas
+pub mod CountingLemmas
+pub mod MembersLemmas
+pub mod GeneratorLemmas
 pub mod ServingLemmas

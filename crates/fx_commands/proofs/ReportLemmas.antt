@@ -10,16 +10,18 @@ use Rattle.fx_commands.specs.declared.statuses.Status.TheVariants as status
 use Rattle.fx_traffic.specs.Gains.{faults_at}
 use Rattle.fx_wire.specs.Exchanges.{Seen}
 use Rattle.fx_commands.specs.Asking.{WiresSeen, IsUnasked}
-use Rattle.fx_commands.specs.Commands.{Asked, over_file, over_members, planned, served}
+use Rattle.fx_commands.specs.Commands.{Asked, over_file, over_members, planned, served, generated}
 use Rattle.fx_commands.specs.Explain.{IsExplainReported, IsExplainWritten}
+use Rattle.fx_commands.specs.FedRefusals.{IsGivenEnd}
 use Rattle.fx_commands.specs.Files.{FileRead, IsQueryThat}
+use Rattle.fx_commands.specs.Generator.{summary}
 use Rattle.fx_commands.specs.Lines.{usage_line, no_memory}
 use Rattle.fx_commands.specs.Local.{IsAnswer, IsReported, IsWritten, HasLines}
 use Rattle.fx_commands.specs.declared.documents.Report.{Report}
 use Rattle.fx_commands.specs.Query.{CountsDown, IsQueryReported, IsQueryWritten, IsUnionAnswer}
 use Rattle.fx_commands.specs.Serving.{IsLastCut, IsMemberReported}
 use Rattle.fx_commands.specs.Runs.{CountsEndpoints, FailsToWrite, Reports, Writes}
-use Rattle.fx_commands.specs.Sinks.{SinkWritten, IsCutShort}
+use Rattle.fx_commands.specs.Sinks.{SinkWritten, IsCutOff, IsCutShort, Wrote}
 use Rattle.fx_commands.specs.declared.statuses.Status.{Status}
 use Rattle.fx_commands.specs.LocalSteps.{GivesAnswer, IsLineReported, IsDocumentWritten, refusal_line}
 use Rattle.fx_commands.specs.RefusalStatuses.{status_of}
@@ -53,6 +55,7 @@ memory_reported read w door (Some (over_file g q)) err u = (refl, refl, u, refl)
 memory_reported read w door (Some (over_members r q workers block)) err u = (inl (u, refl), refl, refl)
 memory_reported read w door (Some (planned r q)) err u = (inl (u, refl), refl, refl)
 memory_reported read w door (Some (served g a n)) err u = (inl (refl, refl, refl), u, λ is. absurd (want_otherwise is))
+memory_reported read w door (Some (generated n)) err u = (refl, refl, u, refl)
 
 -- without memory nothing is written on standard output
 pub nothing_written : (read : List ℕ → FileRead) (wires : List Seen) (asked : Option Asked) (held : List ℕ) → Writes read wires asked status.NoMemory held held
@@ -61,6 +64,7 @@ nothing_written read wires (Some (over_file g q)) held = refl
 nothing_written read wires (Some (over_members r q workers block)) held = refl
 nothing_written read wires (Some (planned r q)) held = refl
 nothing_written read wires (Some (served g a n)) held = refl
+nothing_written read wires (Some (generated n)) held = refl
 
 -- ---- reports of `local`
 
@@ -114,6 +118,15 @@ plan_reported read w door asked err r q s text is h = subst (λ o. Reports read 
 pub serving_reported : (read : List ℕ → FileRead) (w : WiresSeen) (door later : DoorSeen) (asked : Option Asked) (err : SinkWritten) (g a : List ℕ) (n : ℕ) (s : Status) (lines text : List ℕ) → asked ≡ Some (served g a n) → IsMemberReported (read g) door later a n s lines text → IsUnasked w → IsLastCut s err lines text → Reports read w door later asked s lines text err
 serving_reported read w door later asked err g a n s lines text is h u cut = subst (λ o. Reports read w door later o s lines text err) (sym is) (h, u, cut)
 
+pub making_reported : (read : List ℕ → FileRead) (w : WiresSeen) (door : DoorSeen) (asked : Option Asked) (err : SinkWritten) (n : ℕ) (s : Status) (text : List ℕ) → asked ≡ Some (generated n) → IsGivenEnd [] s text → IsUnasked w → Reports read w door door asked s [] text err
+making_reported read w door asked err n s text is h u = subst (λ o. Reports read w door door o s [] text err) (sym is) (h, refl, u, refl)
+
+pub making_written : (read : List ℕ → FileRead) (before : List Seen) (asked : Option Asked) (n : ℕ) (s : Status) (old new : List ℕ) → asked ≡ Some (generated n) → Wrote (λ text. text ≡ summary n) s old new → Writes read before asked s old new
+making_written read before asked n s old new is h = subst (λ o. Writes read before o s old new) (sym is) h
+
+pub making_cut : (read : List ℕ → FileRead) (before : List Seen) (asked : Option Asked) (n : ℕ) (out err : SinkWritten) → asked ≡ Some (generated n) → IsCutOff out err → FailsToWrite read before asked out err
+making_cut read before asked n out err is h = subst (λ o. FailsToWrite read before o out err) (sym is) h
+
 pub members_written : (read : List ℕ → FileRead) (before : List Seen) (asked : Option Asked) (r q : List ℕ) (workers block : ℕ) (s : Status) (old new : List ℕ) → asked ≡ Some (over_members r q workers block) → IsQueryWritten before (read r) (read q) s old new → Writes read before asked s old new
 members_written read before asked r q workers block s old new is h = subst (λ o. Writes read before o s old new) (sym is) h
 
@@ -131,6 +144,9 @@ file_counts read asked wires err g q is = subst (λ o. CountsEndpoints read o wi
 
 pub serving_counts : (read : List ℕ → FileRead) (asked : Option Asked) (wires : List Seen) (err : SinkWritten) (g a : List ℕ) (n : ℕ) → asked ≡ Some (served g a n) → CountsEndpoints read asked wires wires err
 serving_counts read asked wires err g a n is = subst (λ o. CountsEndpoints read o wires wires err) (sym is) (λ address. refl)
+
+pub making_counts : (read : List ℕ → FileRead) (asked : Option Asked) (wires : List Seen) (err : SinkWritten) (n : ℕ) → asked ≡ Some (generated n) → CountsEndpoints read asked wires wires err
+making_counts read asked wires err n is = subst (λ o. CountsEndpoints read o wires wires err) (sym is) (λ address. refl)
 
 pub plan_counts : (read : List ℕ → FileRead) (asked : Option Asked) (before after : List Seen) (err : SinkWritten) (r q : List ℕ) → asked ≡ Some (planned r q) → ((address : List ℕ) → faults_at after address ≡ faults_at before address) → CountsEndpoints read asked before after err
 plan_counts read asked before after err r q is h = subst (λ o. CountsEndpoints read o before after err) (sym is) h

@@ -6,7 +6,7 @@ use Rattle.std.specs.Str.Parse.{digits_value}
 use Rattle.std.specs.declared.vec.Vec.{Vec}
 use Rattle.std.specs.declared.alloc.Global.{Global}
 use Rattle.fx_commands.specs.declared.commands.Command.{Command}
-use Rattle.fx_commands.specs.declared.commands.Command.TheVariants.{Local, Query, Explain, Member}
+use Rattle.fx_commands.specs.declared.commands.Command.TheVariants.{Local, Query, Explain, Member, Generate}
 use Rattle.fx_commands.specs.declared.commands.CommandError.{CommandError}
 use Rattle.fx_commands.specs.declared.commands.QueryWords as commands
 use Rattle.fx_commands.specs.declared.commands.Next.{Next}
@@ -24,6 +24,9 @@ explain_word = codes "explain"
 
 abbrev pub member_word : List ℕ
 member_word = codes "member"
+
+abbrev pub generate_word : List ℕ
+generate_word = codes "generate"
 
 abbrev pub end_of_options : List ℕ
 end_of_options = codes "--"
@@ -50,13 +53,14 @@ positionals [] = Some []
 positionals (w ∷ ws) = if bytes_eq w end_of_options then Some ws else if is_option w then None else in_front (Some w) (positionals ws)
 
 -- what a command is asked to do: to answer the query of a file over the graph of a file, or over the members of a registry, with so
--- many workers and so many rows in a block; to print the plan of a query over such members; or to serve the graph of a file at an
--- address, for so many connections
+-- many workers and so many rows in a block; to print the plan of a query over such members; to serve the graph of a file at an
+-- address, for so many connections; or to make members of a size, and to count with them
 pub data Asked : Type 0 where
   over_file : List ℕ → List ℕ → Asked
   over_members : List ℕ → List ℕ → ℕ → ℕ → Asked
   planned : List ℕ → List ℕ → Asked
   served : List ℕ → List ℕ → ℕ → Asked
+  generated : ℕ → Asked
 
 -- two files
 abbrev pub two_files : List (List ℕ) → Option (List ℕ × List ℕ)
@@ -98,6 +102,17 @@ member_asked (g ∷ []) = None
 member_asked (g ∷ a ∷ []) = Some (served g a 18446744073709551615)
 member_asked (g ∷ a ∷ c ∷ []) = of_count g a (count_of c)
 member_asked (g ∷ a ∷ c ∷ w ∷ ws) = None
+
+-- making where the number is one
+abbrev pub of_size : Option ℕ → Option Asked
+of_size None = None
+of_size (Some size) = Some (generated size)
+
+-- a size, up to 10,000
+abbrev pub generate_asked : List (List ℕ) → Option Asked
+generate_asked [] = None
+generate_asked (n ∷ []) = of_size (number_to 10000 n)
+generate_asked (n ∷ w ∷ ws) = None
 
 -- ---- the options of `query`
 
@@ -183,6 +198,7 @@ asked (c ∷ ws) =
     else if bytes_eq c query_word then option_and_then query_asked (query_words ws)
     else if bytes_eq c explain_word then of_files planned (option_and_then two_files (positionals ws))
     else if bytes_eq c member_word then option_and_then member_asked (positionals ws)
+    else if bytes_eq c generate_word then option_and_then generate_asked (positionals ws)
     else None
 
 -- ---- answers, where want of memory alone is free
@@ -192,6 +208,7 @@ asked_by (Local g q) = over_file g.now q.now
 asked_by (Query r q workers block) = over_members r.now q.now workers block
 asked_by (Explain r q) = planned r.now q.now
 asked_by (Member g a n) = served g.now a.now n
+asked_by (Generate size) = generated size
 
 -- unless memory ran out, the answer is the command that the words are
 abbrev pub GivesCommand : Result Command CommandError → Option Asked → Type 0
@@ -199,12 +216,13 @@ GivesCommand (Ok command) wanted = wanted ≡ Some (asked_by command)
 GivesCommand (Err Usage) wanted = wanted ≡ None
 GivesCommand (Err Memory) wanted = Unit {0}
 
--- the numbers of a query are within their limits
+-- the numbers of a query and of making are within their limits
 abbrev pub IsWithin : Command → Type 0
 IsWithin (Query r q workers block) = (1 ≤ workers) × (workers ≤ 16) × (1 ≤ block) × (block ≤ 64)
 IsWithin (Local g q) = Unit {0}
 IsWithin (Explain r q) = Unit {0}
 IsWithin (Member g a n) = Unit {0}
+IsWithin (Generate size) = (1 ≤ size) × (size ≤ 10000)
 
 -- unless memory ran out, the answer is the two files that the words are
 abbrev pub GivesFiles : Result (Bor (List ℕ) × Bor (List ℕ)) CommandError → Option (List ℕ × List ℕ) → Type 0

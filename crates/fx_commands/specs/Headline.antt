@@ -20,8 +20,9 @@ use Rattle.fx_commands.specs.declared.limits.TheConstants.{GRAPH_LIMIT, QUERY_LI
 use Rattle.fx_commands.specs.declared.statuses.Status.{Status}
 use Rattle.fx_commands.specs.declared.statuses.Status.TheVariants as status
 use Rattle.fx_commands.specs.Asking.{WiresSeen}
-use Rattle.fx_commands.specs.Commands.{Asked, over_file, over_members, planned}
+use Rattle.fx_commands.specs.Commands.{Asked, over_file, over_members, planned, generated}
 use Rattle.fx_commands.specs.Files.{FileRead, Holds}
+use Rattle.fx_commands.specs.Generator.{summary}
 use Rattle.fx_commands.specs.Lines.{Gains, down_lines, member_failed, service_failed}
 use Rattle.fx_commands.specs.Services.{all_numbers, silent_lines}
 use Rattle.fx_commands.specs.Silent.{AreLicensed, IsPlain}
@@ -43,7 +44,8 @@ NamesFailed w endpoints IsLine s err =
     s ≡ status.EndpointFault → (e : EndpointParts) × (line : List ℕ) × Contains endpoints e × (faults_at w.before e.iri < faults_at w.after e.iri) × IsLine e line × (IsTrue err.tells → Gains err.old err.new err.before err.after line)
 
 -- With `Done` `query` wrote the document of the query's answer over the union of the members' graphs, where the SERVICEs that are down are exactly those of the lines, each by its
--- own cause; `explain` the query's plan over these graphs; and `local` the document of the answer over the graph of the file, with a line for each SERVICE SILENT.
+-- own cause; `explain` the query's plan over these graphs; `local` the document of the answer over the graph of the file, with a line for each SERVICE SILENT; and
+-- `generate` the four lines of the members that it makes, the last of which has the number of rows of its query over the union of their graphs.
 abbrev pub Headline : (List ℕ → FileRead) → WiresSeen → Option Asked → Status → SinkWritten → SinkWritten → Type 0
 Headline read w (Some (over_members r q workers block)) s out err =
     (endpoints : List EndpointParts) (asked : Query) (graphs : List (List Triple)) (graph_at : List ℕ → List Triple) → IsTold w (read r) (read q) endpoints asked graphs → Serve graph_at endpoints graphs
@@ -55,4 +57,5 @@ Headline read w (Some (planned r q)) s out err =
 Headline read w (Some (over_file g q)) s out err =
     (graph : List Triple) (asked : Query) → Holds (read g) GRAPH_LIMIT (λ content. IsDocument content graph) → Holds (read q) QUERY_LIMIT (λ content. Accepted content asked)
     → s ≡ status.Done → AreWritten (document (answer asked graph no_graphs (all_numbers (services asked)))) (silent_lines (services asked)) out err
+Headline read w (Some (generated size)) s out err = s ≡ status.Done → AreWritten (summary size) [] out err
 Headline read w asked s out err = Unit {0}

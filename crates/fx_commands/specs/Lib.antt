@@ -1,10 +1,13 @@
 pub mod Asking
 pub mod Commands
 pub mod Completeness
+pub mod Counting
 pub mod Counts
 pub mod Explain
 pub mod FedRefusals
 pub mod Files
+pub mod Generator
+pub mod GeneratorSteps
 pub mod Headline
 pub mod Lines
 pub mod Local

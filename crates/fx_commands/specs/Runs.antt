@@ -6,14 +6,16 @@ use Rattle.fx_wire.specs.Exchanges.{Seen}
 use Rattle.fx_commands.specs.declared.statuses.Status.{Status}
 use Rattle.fx_commands.specs.declared.statuses.Status.TheVariants as status
 use Rattle.fx_commands.specs.Asking.{WiresSeen, IsUnasked}
-use Rattle.fx_commands.specs.Commands.{Asked, over_file, over_members, planned, served}
+use Rattle.fx_commands.specs.Commands.{Asked, over_file, over_members, planned, served, generated}
 use Rattle.fx_commands.specs.Explain.{IsExplainReported, IsExplainWritten}
+use Rattle.fx_commands.specs.FedRefusals.{IsGivenEnd}
 use Rattle.fx_commands.specs.Files.{FileRead}
+use Rattle.fx_commands.specs.Generator.{summary}
 use Rattle.fx_commands.specs.Lines.{usage_line, no_memory}
 use Rattle.fx_commands.specs.Local.{IsAnswer, IsReported, IsWritten}
 use Rattle.fx_commands.specs.Query.{CountsDown, IsQueryReported, IsQueryWritten, IsUnionAnswer}
 use Rattle.fx_commands.specs.Serving.{IsLastCut, IsMemberReported}
-use Rattle.fx_commands.specs.Sinks.{SinkWritten, HasFailed, IsCutOff, IsCutShort, IsUntouched}
+use Rattle.fx_commands.specs.Sinks.{SinkWritten, HasFailed, IsCutOff, IsCutShort, IsUntouched, Wrote}
 
 -- words that are no command give the usage line, unless memory ran out
 abbrev pub IsRefused : Status → List ℕ → Type 0
@@ -30,6 +32,7 @@ Reports read w door later (Some (over_file graph query)) s lines text err = IsRe
 Reports read w door later (Some (over_members registry query workers block)) s lines text err = IsQueryReported w (read registry) (read query) block s text × (lines ≡ []) × (later ≡ door)
 Reports read w door later (Some (planned registry query)) s lines text err = IsExplainReported w (read registry) (read query) s text × (lines ≡ []) × (later ≡ door)
 Reports read w door later (Some (served graph address count)) s lines text err = IsMemberReported (read graph) door later address count s lines text × IsUnasked w × IsLastCut s err lines text
+Reports read w door later (Some (generated size)) s lines text err = IsGivenEnd [] s text × (lines ≡ []) × IsUnasked w × (later ≡ door)
 
 -- what a run leaves on standard output
 abbrev pub Writes : (List ℕ → FileRead) → List Seen → Option Asked → Status → List ℕ → List ℕ → Type 0
@@ -38,15 +41,17 @@ Writes read before (Some (over_file graph query)) s old new = IsWritten (read gr
 Writes read before (Some (over_members registry query workers block)) s old new = IsQueryWritten before (read registry) (read query) s old new
 Writes read before (Some (planned registry query)) s old new = IsExplainWritten before (read registry) (read query) s old new
 Writes read before (Some (served graph address count)) s old new = new ≡ old
+Writes read before (Some (generated size)) s old new = Wrote (λ text. text ≡ summary size) s old new
 
--- Which write failed, with the status `WriteFault`: for `local` and `query` one of the document, or of the lines behind it, for `explain` one on standard output
--- alone, and for a member one of its lines.
+-- Which write failed, with the status `WriteFault`: for `local` and `query` one of the document, or of the lines behind it, for `explain` and `generate` one on
+-- standard output alone, and for a member one of its lines.
 abbrev pub FailsToWrite : (List ℕ → FileRead) → List Seen → Option Asked → SinkWritten → SinkWritten → Type 0
 FailsToWrite read before None out err = ⊥
 FailsToWrite read before (Some (over_file graph query)) out err = IsCutShort (IsAnswer (read graph) (read query)) out err
 FailsToWrite read before (Some (over_members registry query workers block)) out err = IsCutShort (IsUnionAnswer before (read registry) (read query)) out err
 FailsToWrite read before (Some (planned registry query)) out err = IsCutOff out err
 FailsToWrite read before (Some (served graph address count)) out err = IsUntouched out × HasFailed err
+FailsToWrite read before (Some (generated size)) out err = IsCutOff out err
 
 -- How many faults a run that is done counts at each address, by wires that count each address alone: none, but for `query` as many as its lines say that the wire failed.
 abbrev pub CountsEndpoints : (List ℕ → FileRead) → Option Asked → List Seen → List Seen → SinkWritten → Type 0
@@ -60,6 +65,7 @@ wires_used (Some (over_file graph query)) = 0
 wires_used (Some (over_members registry query workers block)) = workers
 wires_used (Some (planned registry query)) = 4
 wires_used (Some (served graph address count)) = 0
+wires_used (Some (generated size)) = 0
 
 -- So many wires at most are used, from the first on: what they are before and after. The others are as they were.
 abbrev pub OnUsed : {W : Type 0} → ℕ → List W → List W → (List W → List W → Type 0) → Type 0

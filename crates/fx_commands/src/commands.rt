@@ -16,6 +16,9 @@ const BLOCK: u32 = 15;
 
 const MOST_BLOCK: u32 = 64;
 
+// The most persons of whom members are made.
+const MOST_SIZE: u64 = 10_000;
+
 /// A command.
 #[derive(Clone, Copy)]
 pub enum Command<'a> {
@@ -42,12 +45,16 @@ pub enum Command<'a> {
         address: &'a str,
         count: u64,
     },
+    /// Makes three members of so many persons in memory, and counts the rows of a query over them.
+    Generate {
+        size: u32,
+    },
 }
 
 /// Why words are no command.
 #[derive(Clone, Copy)]
 pub enum CommandError {
-    /// They are not of a form that the usage line names and that is built.
+    /// They are not of a form that the usage line names.
     Usage,
     /// Memory ran out.
     Memory,
@@ -93,6 +100,9 @@ pub fn read_command(alloc: Global, words: &[String]) -> Result<Command<'_>, Comm
     }
     if is_member(command.as_str()) {
         return member_of(alloc, rest);
+    }
+    if is_generate(command.as_str()) {
+        return generate_of(alloc, rest);
     }
     Err(CommandError::Usage)
 }
@@ -189,6 +199,42 @@ fn member_parts<'a>(words: &[&'a str]) -> Result<Command<'a>, CommandError>
     }
 }
 
+// The making that words ask for: a size.
+fn generate_of(alloc: Global, words: &[String]) -> Result<Command<'_>, CommandError>
+    ensures asked { spec.GivesCommand result (option_and_then spec.generate_asked (spec.positionals (map (λ w. string_bytes w) words.now))) }
+    ensures within { IfOk result (λ command. spec.IsWithin command) }
+{
+    let parts = positionals(alloc, words)?;
+    generate_parts(parts.as_slice())
+}
+
+fn generate_parts<'a>(words: &[&'a str]) -> Result<Command<'a>, CommandError>
+    ensures asked { spec.GivesCommand result (spec.generate_asked (spec.texts words.now)) }
+    ensures within { IfOk result (λ command. spec.IsWithin command) }
+{
+    let Some((size, rest)) = words.split_first() else {
+        return Err(CommandError::Usage);
+    };
+    if let Some(_) = rest.split_first() {
+        return Err(CommandError::Usage);
+    }
+    match size_of(size) {
+        Some(size) => Ok(Command::Generate { size }),
+        None => Err(CommandError::Usage),
+    }
+}
+
+// The number of persons that a word says.
+fn size_of(word: &str) -> Option<u32>
+    ensures value { result ≡ spec.number_to 10000 word.now }
+    ensures within { IfSome result (λ size. (1 ≤ size) × (size ≤ 10000)) }
+{
+    match number_to(MOST_SIZE, word) {
+        Some(size) => Some(size as u32),
+        None => None,
+    }
+}
+
 // The number of connections that a word says.
 fn count_of(word: &str) -> Option<u64>
     ensures { result ≡ spec.count_of word.now }
@@ -268,6 +314,12 @@ fn is_member(word: &str) -> bool
     ensures { result ≡ bytes_eq word.now (spec.member_word) }
 {
     word == "member"
+}
+
+fn is_generate(word: &str) -> bool
+    ensures { result ≡ bytes_eq word.now (spec.generate_word) }
+{
+    word == "generate"
 }
 
 fn two_files<'a>(words: &[&'a str]) -> Result<(&'a str, &'a str), CommandError>

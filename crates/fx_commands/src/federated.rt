@@ -101,8 +101,8 @@ fn answer_members<W: Wire + Send, O: Sink, E: Sink>(
     }
 }
 
-// What the members give for a query. They are asked with a new cache.
-fn outcome<W: Wire + Send>(
+/// What the members give for a query. They are asked with a new cache.
+pub fn outcome<W: Wire + Send>(
     alloc: Global,
     members: &Registry,
     query: &Query,

@@ -2,9 +2,12 @@
 #![tactic(auto)]
 
 pub mod commands;
+pub mod counting;
 mod documents;
 mod explained;
 mod federated;
+mod generated;
+mod generator;
 mod limits;
 mod loading;
 mod local;
@@ -15,6 +18,7 @@ mod serving;
 pub mod statuses;
 
 pub use commands::{Command, CommandError, read_command};
+pub use counting::count_rows;
 pub use refusals::Refusal;
 pub use reports::write_refusal;
 pub use running::run;

@@ -16,6 +16,7 @@ use crate::commands::{Command, CommandError, read_command};
 use crate::documents::write_report;
 use crate::explained::run_explain;
 use crate::federated::run_query;
+use crate::generated::run_generate;
 use crate::local::local;
 use crate::refusals::Refusal;
 use crate::reports::{write_refusal, write_usage};
@@ -29,7 +30,7 @@ use std::alloc::Global;
 const EXPLAIN_WIRES: usize = 4;
 
 /// Runs the command that the words behind the program's name are, over these files, the first of these wires, and this door: `query` uses as many
-/// wires as the words say, 16 at most, and `explain` 4. It
+/// wires as the words say, 16 at most, and `explain` 4; `generate` makes its own, and uses none of these. It
 /// writes the command's document or text on `out`, and the line of any other end on `err`, as well as a line for each connection that it
 /// serves.
 ///
@@ -49,7 +50,7 @@ pub fn run<F: Files, W: Wire + Send, D: Door, O: Sink, E: Sink>(
 
     // The theorem: where the wires tell the graphs of the members, `Done` says that `out` gained exactly the document of the query's answer over the union of
     // these graphs, where the SERVICEs that are down are exactly those of the lines that `err` gained, or the text of its plan; and an endpoint is named as failed
-    // only where its count of faults rose. `local` so over the file's graph.
+    // only where its count of faults rose. `local` so over the file's graph. `generate` writes its four lines.
     ensures headline { OnUsed (wires_used (asked (map (λ w. string_bytes w) words.now))) wires.old wires.new (λ used later. Headline (file_read (F.seen files.old) (F.seen files.new)) (wires_seen W.tells_log W.counts_alone W.seen used later) (asked (map (λ w. string_bytes w) words.now)) result (sink_written O.tells_held O.held O.write_faults out.old out.new) (sink_written E.tells_held E.held E.write_faults err.old err.new)) }
 
     // Where besides each SERVICE is such as the command can take, nothing fails and nothing is too long, the run is done, unless memory ran out.
@@ -110,6 +111,7 @@ pub fn run<F: Files, W: Wire + Send, D: Door, O: Sink, E: Sink>(
                 count,
             },
         ) => run_member(alloc, files, door, graph, address, count, err),
+        Ok(Command::Generate { size }) => run_generate(alloc, size, out, err),
     }
 }
 

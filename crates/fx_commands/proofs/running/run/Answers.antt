@@ -13,10 +13,10 @@ use Rattle.fx_commands.specs.Query.{IsQueryWritten, IsUnionAnswer}
 use Rattle.fx_commands.specs.Runs.{Reports, wires_used}
 use Rattle.fx_commands.specs.Sinks.{IsCutShort, sink_written}
 use Rattle.fx_commands.specs.declared.statuses.Status.TheVariants as status
-use Rattle.fx_commands.proofs.CompletenessLemmas.{explain_completes, local_completes, member_completes, query_completes, want_completes}
+use Rattle.fx_commands.proofs.CompletenessLemmas.{explain_completes, local_completes, making_completes, member_completes, query_completes, want_completes}
 use Rattle.fx_commands.proofs.GainLemmas.{gains_alone}
-use Rattle.fx_commands.proofs.HeadlineLemmas.{explain_headline, local_headline, no_headline, query_headline}
-use Rattle.fx_commands.proofs.ReportLemmas.{file_counts, file_reported, members_counts, members_cut, members_reported, members_written, memory_reported, nothing_written, plan_counts, plan_reported, plan_written, serving_counts, serving_reported, usage_reported}
+use Rattle.fx_commands.proofs.HeadlineLemmas.{explain_headline, local_headline, making_headline, no_headline, query_headline}
+use Rattle.fx_commands.proofs.ReportLemmas.{file_counts, file_reported, making_counts, making_cut, making_reported, making_written, members_counts, members_cut, members_reported, members_written, memory_reported, nothing_written, plan_counts, plan_reported, plan_written, serving_counts, serving_reported, usage_reported}
 use Rattle.fx_commands.proofs.SilentLemmas.{counts_down}
 use Rattle.fx_commands.proofs.UsedLemmas.{on_same, on_taken, on_used, used_after, used_counts_none, used_down}
 use Rattle.fx_commands.proofs.running.run.Goals as goal
@@ -300,3 +300,60 @@ returns-in-Ok-Member-clause-wired g c = after_itself (map g.W.Wire.seen c.args.w
 
 pub returns-in-Ok-Member-clause-endpoint_faults : goal.returns-in-Ok-Member-clause-endpoint_faults
 returns-in-Ok-Member-clause-endpoint_faults g c = λ alone done. serving_counts _ _ _ _ c.in-Ok-Member.graph.now c.in-Ok-Member.address.now c.in-Ok-Member.count (rw c.in-Ok-Member.field-0-is at c.in-Ok-Member.ensures.asked)
+
+-- ---- `generate`
+
+pub returns-in-Ok-Generate-clause-headline : goal.returns-in-Ok-Generate-clause-headline
+returns-in-Ok-Generate-clause-headline g c =
+    let a = asked (map (λ w. string_bytes w) c.args.words.now) in
+    let read = file_read (g.F.Files.seen c.args.files.now) (g.F.Files.seen c.args.files.now) in
+    let out = sink_written g.O.Ends.tells_held g.O.Ends.held g.O.Ends.write_faults c.args.out.now c.run_generate.new.out in
+    let err = sink_written g.E.Ends.tells_held g.E.Ends.held g.E.Ends.write_faults c.args.err.now c.run_generate.new.err in
+    let told = c.run_generate.ensures.reported in
+    on_same g.W.Wire.seen g.W.Wire.tells_log g.W.Wire.counts_alone (λ (w : WiresSeen). Headline read w a c.run_generate.result out err) (wires_used a) c.args.wires.now
+    (subst (λ (o : Option Asked). Headline read (wires_seen g.W.Wire.tells_log g.W.Wire.counts_alone g.W.Wire.seen (take (wires_used a) c.args.wires.now) (take (wires_used a) c.args.wires.now)) o c.run_generate.result out err) (sym (rw c.in-Ok-Generate.field-0-is at c.in-Ok-Generate.ensures.asked))
+    (making_headline c.in-Ok-Generate.size c.run_generate.result told.0 out err told.1 told.2 c.run_generate.ensures.written))
+
+pub returns-in-Ok-Generate-clause-completes : goal.returns-in-Ok-Generate-clause-completes
+returns-in-Ok-Generate-clause-completes g c =
+    let a = asked (map (λ w. string_bytes w) c.args.words.now) in
+    let read = file_read (g.F.Files.seen c.args.files.now) (g.F.Files.seen c.args.files.now) in
+    let door = g.D.Door.seen c.args.door.now in
+    let out = sink_written g.O.Ends.tells_held g.O.Ends.held g.O.Ends.write_faults c.args.out.now c.run_generate.new.out in
+    let err = sink_written g.E.Ends.tells_held g.E.Ends.held g.E.Ends.write_faults c.args.err.now c.run_generate.new.err in
+    let told = c.run_generate.ensures.reported in
+    on_same g.W.Wire.seen g.W.Wire.tells_log g.W.Wire.counts_alone (λ (w : WiresSeen). Completes read w door door a c.run_generate.result out err) (wires_used a) c.args.wires.now
+    (subst (λ (o : Option Asked). Completes read (wires_seen g.W.Wire.tells_log g.W.Wire.counts_alone g.W.Wire.seen (take (wires_used a) c.args.wires.now) (take (wires_used a) c.args.wires.now)) door door o c.run_generate.result out err) (sym (rw c.in-Ok-Generate.field-0-is at c.in-Ok-Generate.ensures.asked))
+    (making_completes c.run_generate.result told.0 out told.1 (λ cut. (c.run_generate.ensures.write_fault cut).0)))
+
+pub returns-in-Ok-Generate-clause-reported : goal.returns-in-Ok-Generate-clause-reported
+returns-in-Ok-Generate-clause-reported g c =
+    let err = sink_written g.E.Ends.tells_held g.E.Ends.held g.E.Ends.write_faults c.args.err.now c.run_generate.new.err in
+    let a = asked (map (λ w. string_bytes w) c.args.words.now) in
+    let read = file_read (g.F.Files.seen c.args.files.now) (g.F.Files.seen c.args.files.now) in
+    let door = g.D.Door.seen c.args.door.now in
+    let told = c.run_generate.ensures.reported in
+    on_same g.W.Wire.seen g.W.Wire.tells_log g.W.Wire.counts_alone
+    (λ (w : WiresSeen). (lines : List ℕ) × (text : List ℕ) × Reports read w door door a c.run_generate.result lines text err × (IsTrue g.E.Ends.tells_held → Gains (g.E.Ends.held c.args.err.now ++ lines) (g.E.Ends.held c.run_generate.new.err) (g.E.Ends.write_faults c.args.err.now) (g.E.Ends.write_faults c.run_generate.new.err) text))
+    (wires_used a) c.args.wires.now
+    ([], told.0, making_reported read _ door a err c.in-Ok-Generate.size c.run_generate.result told.0 (rw c.in-Ok-Generate.field-0-is at c.in-Ok-Generate.ensures.asked) told.1 refl, λ tells. gains_alone _ _ _ _ told.0 (told.2 tells))
+
+pub returns-in-Ok-Generate-clause-wired : goal.returns-in-Ok-Generate-clause-wired
+returns-in-Ok-Generate-clause-wired g c = after_itself (map g.W.Wire.seen c.args.wires.now)
+
+pub returns-in-Ok-Generate-clause-written : goal.returns-in-Ok-Generate-clause-written
+returns-in-Ok-Generate-clause-written g c = λ tells.
+    let a = asked (map (λ w. string_bytes w) c.args.words.now) in
+    let read = file_read (g.F.Files.seen c.args.files.now) (g.F.Files.seen c.args.files.now) in
+    making_written read (map g.W.Wire.seen (take (wires_used a) c.args.wires.now)) a c.in-Ok-Generate.size c.run_generate.result (g.O.Ends.held c.args.out.now) (g.O.Ends.held c.run_generate.new.out) (rw c.in-Ok-Generate.field-0-is at c.in-Ok-Generate.ensures.asked) (c.run_generate.ensures.written tells)
+
+pub returns-in-Ok-Generate-clause-write_fault : goal.returns-in-Ok-Generate-clause-write_fault
+returns-in-Ok-Generate-clause-write_fault g c = λ cut.
+    let a = asked (map (λ w. string_bytes w) c.args.words.now) in
+    let read = file_read (g.F.Files.seen c.args.files.now) (g.F.Files.seen c.args.files.now) in
+    let out = sink_written g.O.Ends.tells_held g.O.Ends.held g.O.Ends.write_faults c.args.out.now c.run_generate.new.out in
+    let err = sink_written g.E.Ends.tells_held g.E.Ends.held g.E.Ends.write_faults c.args.err.now c.run_generate.new.err in
+    making_cut read (map g.W.Wire.seen (take (wires_used a) c.args.wires.now)) a c.in-Ok-Generate.size out err (rw c.in-Ok-Generate.field-0-is at c.in-Ok-Generate.ensures.asked) (c.run_generate.ensures.write_fault cut)
+
+pub returns-in-Ok-Generate-clause-endpoint_faults : goal.returns-in-Ok-Generate-clause-endpoint_faults
+returns-in-Ok-Generate-clause-endpoint_faults g c = λ alone done. making_counts _ _ _ _ c.in-Ok-Generate.size (rw c.in-Ok-Generate.field-0-is at c.in-Ok-Generate.ensures.asked)

@@ -1,0 +1,43 @@
+//! The call `count_rows` of `fx_commands`, over graphs in memory.
+//!
+//! A graph is a field `address=triples`. The exchanges that are to fail are named by their numbers on the wire.
+ghost use Rattle.std.specs.Prelude.{◌<◌, ◌≤◌, length};
+
+use crate::runs::{graphs, sink_of};
+use fx_commands::count_rows;
+use fx_commands::reports::write_fed_error;
+use fx_engine::FedError;
+use fx_member::{FaultWire, GraphWire};
+use fx_wire::Wire;
+use std::alloc::Global;
+use std::str::from_utf8;
+
+/// How many rows there are over one wire, or the line of the refusal.
+pub fn counted(alloc: Global, failing: &str, fields: &[&str]) -> Option<String> {
+    let mut wires = [wire(alloc, failing, fields)?];
+    count(alloc, &mut wires)
+}
+
+fn wire(alloc: Global, failing: &str, fields: &[&str]) -> Option<FaultWire> {
+    let mut fails = Vec::new(alloc);
+    for number in failing.split_whitespace() {
+        fails.push(number.parse::<u64>().ok()?).ok()?;
+    }
+    let wire = GraphWire::new(alloc, graphs(alloc, fields)?).ok()?;
+    FaultWire::new(alloc, wire, fails, Vec::new(alloc)).ok()
+}
+
+fn count<W: Wire + Send>(alloc: Global, wires: &mut [W]) -> Option<String>
+    requires { (0 < length wires.old) × (length wires.old ≤ 16) }
+{
+    match count_rows(alloc, wires) {
+        Ok(rows) => format!(in alloc; "{rows} rows").ok(),
+        Err(error) => refusal(alloc, &error),
+    }
+}
+
+fn refusal(alloc: Global, error: &FedError) -> Option<String> {
+    let mut err = sink_of(alloc, "", "err", 4096)?;
+    write_fed_error(&mut err, error);
+    String::from_str(alloc, from_utf8(err.bytes()).ok()?).ok()
+}
