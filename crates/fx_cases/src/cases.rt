@@ -10,10 +10,18 @@ use fx_text_cases::{
 };
 use fx_wire_cases::{members, outside, requests, stores, wires};
 use std::alloc::Global;
+use std::sync::Wait;
+use std::thread::Threads;
 
 /// What the call of this name gives for its input, as a text. Gives nothing where the table has no such call, its input can't be read,
 /// or memory ran out.
-pub fn answer(alloc: Global, table: &str, call: &str, inputs: &[&str]) -> Option<String> {
+pub fn answer<R: Threads + Wait + Sync>(
+    rt: &R,
+    alloc: Global,
+    table: &str,
+    call: &str,
+    inputs: &[&str],
+) -> Option<String> {
     match table {
         "terms" => terms::answer(alloc, call, inputs),
         "outside" => outside::answer(alloc, call, inputs),
@@ -33,14 +41,14 @@ pub fn answer(alloc: Global, table: &str, call: &str, inputs: &[&str]) -> Option
         "sources" => sources::answer(alloc, call, inputs),
         "plans" => plans::answer(alloc, call, inputs),
         "batches" => batches::answer(alloc, call, inputs),
-        "jobs" => jobs::answer(alloc, call, inputs),
-        "engine" => engine::answer(alloc, call, inputs),
-        "mediations" => mediations::answer(alloc, call, inputs),
-        "commands" => commands::answer(alloc, call, inputs),
-        "runs" => runs::answer(alloc, call, inputs),
-        "hostile" => runs::answer(alloc, call, inputs),
-        "served" => served::answer(alloc, call, inputs),
-        "drawn" => runs::answer(alloc, call, inputs),
+        "jobs" => jobs::answer(rt, alloc, call, inputs),
+        "engine" => engine::answer(rt, alloc, call, inputs),
+        "mediations" => mediations::answer(rt, alloc, call, inputs),
+        "commands" => commands::answer(rt, alloc, call, inputs),
+        "runs" => runs::answer(rt, alloc, call, inputs),
+        "hostile" => runs::answer(rt, alloc, call, inputs),
+        "served" => served::answer(rt, alloc, call, inputs),
+        "drawn" => runs::answer(rt, alloc, call, inputs),
         _ => None,
     }
 }

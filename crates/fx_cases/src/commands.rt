@@ -6,12 +6,19 @@ use fx_commands::reports::write_no_memory;
 use fx_commands::{Command, CommandError, read_command};
 use std::alloc::Global;
 use std::str::from_utf8;
+use std::sync::Wait;
+use std::thread::Threads;
 
 /// What a call gives.
-pub fn answer(alloc: Global, call: &str, inputs: &[&str]) -> Option<String> {
+pub fn answer<R: Threads + Wait + Sync>(
+    rt: &R,
+    alloc: Global,
+    call: &str,
+    inputs: &[&str],
+) -> Option<String> {
     match (call, inputs) {
         ("read_command", [words]) => command(alloc, words),
-        ("count_rows", [failing, fields @ ..]) => counted(alloc, failing, fields),
+        ("count_rows", [failing, fields @ ..]) => counted(rt, alloc, failing, fields),
         ("write_no_memory", []) => no_memory(alloc),
         _ => None,
     }

@@ -11,11 +11,18 @@ use fx_member::{FaultWire, GraphWire};
 use fx_wire::Wire;
 use std::alloc::Global;
 use std::str::from_utf8;
+use std::sync::Wait;
+use std::thread::Threads;
 
 /// How many rows there are over one wire, or the line of the refusal.
-pub fn counted(alloc: Global, failing: &str, fields: &[&str]) -> Option<String> {
+pub fn counted<R: Threads + Wait + Sync>(
+    rt: &R,
+    alloc: Global,
+    failing: &str,
+    fields: &[&str],
+) -> Option<String> {
     let mut wires = [wire(alloc, failing, fields)?];
-    count(alloc, &mut wires)
+    count(rt, alloc, &mut wires)
 }
 
 fn wire(alloc: Global, failing: &str, fields: &[&str]) -> Option<FaultWire> {
@@ -27,10 +34,14 @@ fn wire(alloc: Global, failing: &str, fields: &[&str]) -> Option<FaultWire> {
     FaultWire::new(alloc, wire, fails, Vec::new(alloc)).ok()
 }
 
-fn count<W: Wire + Send>(alloc: Global, wires: &mut [W]) -> Option<String>
+fn count<R: Threads + Wait + Sync, W: Wire + Send>(
+    rt: &R,
+    alloc: Global,
+    wires: &mut [W],
+) -> Option<String>
     requires { (0 < length wires.old) × (length wires.old ≤ 16) }
 {
-    match count_rows(alloc, wires) {
+    match count_rows(rt, alloc, wires) {
         Ok(rows) => format!(in alloc; "{rows} rows").ok(),
         Err(error) => refusal(alloc, &error),
     }

@@ -50,7 +50,7 @@ fn main(rt: HostRuntime) -> io::Result<ExitCode> {
     for table in TABLES {
         let name = format!(in rt.alloc(); "{table}.tsv")?;
         let text = fs::read_to_string(&rt, name.as_str())?;
-        let outcome = try_table(rt.alloc(), table, text.as_str());
+        let outcome = try_table(&rt, rt.alloc(), table, text.as_str());
         is_well = tell(&rt, table, &outcome)? && is_well;
     }
     Ok(ExitCode::from(if is_well { 0 } else { 1 }))

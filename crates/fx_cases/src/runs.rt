@@ -17,6 +17,8 @@ use fx_wire::{ScriptWire, Wire};
 use std::alloc::Global;
 use std::fmt::Write;
 use std::str::from_utf8;
+use std::sync::Wait;
+use std::thread::Threads;
 
 // How many bytes a stream takes, and one write of it, where no other number is given.
 const ROOM: u64 = 65536;
@@ -24,39 +26,47 @@ const ROOM: u64 = 65536;
 const STEP: u64 = 4096;
 
 /// What a call gives.
-pub fn answer(alloc: Global, call: &str, inputs: &[&str]) -> Option<String> {
+pub fn answer<R: Threads + Wait + Sync>(
+    rt: &R,
+    alloc: Global,
+    call: &str,
+    inputs: &[&str],
+) -> Option<String> {
     match (call, inputs) {
-        ("run", [words, files @ ..]) => over_replies(alloc, words, "", STEP, files),
-        ("run over replies", [words, fields @ ..]) => over_replies(alloc, words, "", STEP, fields),
+        ("run", [words, files @ ..]) => over_replies(rt, alloc, words, "", STEP, files),
+        ("run over replies", [words, fields @ ..]) => over_replies(
+            rt, alloc, words, "", STEP, fields,
+        ),
         ("run with failing calls", [words, failing, step, files @ ..]) => {
-            over_replies(alloc, words, failing, step.parse::<u64>().ok()?, files)
+            over_replies(rt, alloc, words, failing, step.parse::<u64>().ok()?, files)
         }
         ("run with each write failing", [words, step, most, files @ ..]) => {
-            with_each_write_failing(alloc, words, step, most, files)
+            with_each_write_failing(rt, alloc, words, step, most, files)
         }
         ("run over blanks", [words, name, count, files @ ..]) => {
-            over_blanks(alloc, words, name, count, files)
+            over_blanks(rt, alloc, words, name, count, files)
         }
         ("run over graphs", [words, failing, fields @ ..]) => {
-            over_graphs(alloc, words, failing, fields)
+            over_graphs(rt, alloc, words, failing, fields)
         }
         ("run over graphs by wires", [words, count, fields @ ..]) => {
-            over_graphs_by_wires(alloc, words, count, fields)
+            over_graphs_by_wires(rt, alloc, words, count, fields)
         }
         ("run over graphs with the log", [words, fields @ ..]) => {
-            over_graphs_with_log(alloc, words, fields)
+            over_graphs_with_log(rt, alloc, words, fields)
         }
         ("run over replies with the log", [words, fields @ ..]) => {
-            over_replies_with_log(alloc, words, fields)
+            over_replies_with_log(rt, alloc, words, fields)
         }
         ("run over long files", [words, count, fields @ ..]) => {
-            over_long_files(alloc, words, count, fields)
+            over_long_files(rt, alloc, words, count, fields)
         }
         _ => None,
     }
 }
 
-fn over_replies(
+fn over_replies<R: Threads + Wait + Sync>(
+    rt: &R,
     alloc: Global,
     words: &str,
     failing: &str,
@@ -64,13 +74,19 @@ fn over_replies(
     fields: &[&str],
 ) -> Option<String> {
     let mut wires = [ScriptWire::new(alloc, replies(alloc, fields)?).ok()?];
-    over_wires(alloc, words, failing, step, fields, &mut wires)
+    over_wires(rt, alloc, words, failing, step, fields, &mut wires)
 }
 
 // Where the members answer by their graphs.
-fn over_graphs(alloc: Global, words: &str, failing: &str, fields: &[&str]) -> Option<String> {
+fn over_graphs<R: Threads + Wait + Sync>(
+    rt: &R,
+    alloc: Global,
+    words: &str,
+    failing: &str,
+    fields: &[&str],
+) -> Option<String> {
     let mut wires = [fault_wire(alloc, failing, fields)?];
-    over_wires(alloc, words, failing, STEP, fields, &mut wires)
+    over_wires(rt, alloc, words, failing, STEP, fields, &mut wires)
 }
 
 fn fault_wire(alloc: Global, failing: &str, fields: &[&str]) -> Option<FaultWire> {
@@ -80,7 +96,8 @@ fn fault_wire(alloc: Global, failing: &str, fields: &[&str]) -> Option<FaultWire
 }
 
 // The same over so many wires, each over all members.
-fn over_graphs_by_wires(
+fn over_graphs_by_wires<R: Threads + Wait + Sync>(
+    rt: &R,
     alloc: Global,
     words: &str,
     count: &str,
@@ -93,20 +110,30 @@ fn over_graphs_by_wires(
     if wires.is_empty() {
         return None;
     }
-    over_wires(alloc, words, "", STEP, fields, wires.as_mut_slice())
+    over_wires(rt, alloc, words, "", STEP, fields, wires.as_mut_slice())
 }
 
 // The same over one wire, where no exchange fails, with the log behind it.
-fn over_graphs_with_log(alloc: Global, words: &str, fields: &[&str]) -> Option<String> {
+fn over_graphs_with_log<R: Threads + Wait + Sync>(
+    rt: &R,
+    alloc: Global,
+    words: &str,
+    fields: &[&str],
+) -> Option<String> {
     let mut wires = [GraphWire::new(alloc, graphs(alloc, fields)?).ok()?];
-    let mut text = over_wires(alloc, words, "", STEP, fields, &mut wires)?;
+    let mut text = over_wires(rt, alloc, words, "", STEP, fields, &mut wires)?;
     push_log(&mut text, wires[0].log())?;
     Some(text)
 }
 
-fn over_replies_with_log(alloc: Global, words: &str, fields: &[&str]) -> Option<String> {
+fn over_replies_with_log<R: Threads + Wait + Sync>(
+    rt: &R,
+    alloc: Global,
+    words: &str,
+    fields: &[&str],
+) -> Option<String> {
     let mut wires = [ScriptWire::new(alloc, replies(alloc, fields)?).ok()?];
-    let mut text = over_wires(alloc, words, "", STEP, fields, &mut wires)?;
+    let mut text = over_wires(rt, alloc, words, "", STEP, fields, &mut wires)?;
     push_log(&mut text, wires[0].log())?;
     Some(text)
 }
@@ -123,7 +150,8 @@ fn push_log(text: &mut String, log: &[Answered]) -> Option<()> {
     Some(())
 }
 
-fn over_wires<W: Wire + Send>(
+fn over_wires<R: Threads + Wait + Sync, W: Wire + Send>(
+    rt: &R,
     alloc: Global,
     words: &str,
     failing: &str,
@@ -134,11 +162,12 @@ fn over_wires<W: Wire + Send>(
     requires { 0 < length wires.old }
 {
     let mut files = files_of(alloc, failing, contents(alloc, fields)?)?;
-    ran(alloc, words, failing, step, &mut files, wires)
+    ran(rt, alloc, words, failing, step, &mut files, wires)
 }
 
 // Where one more file is so many blanks.
-fn over_blanks(
+fn over_blanks<R: Threads + Wait + Sync>(
+    rt: &R,
     alloc: Global,
     words: &str,
     name: &str,
@@ -147,11 +176,17 @@ fn over_blanks(
 ) -> Option<String> {
     let mut files = files_of(alloc, "", with_blanks(alloc, name, count, fields)?)?;
     let mut wires = [ScriptWire::new(alloc, Vec::new(alloc)).ok()?];
-    ran(alloc, words, "", STEP, &mut files, &mut wires)
+    ran(rt, alloc, words, "", STEP, &mut files, &mut wires)
 }
 
 // Where `{long}` stands once at most in each file, for so many letters.
-fn over_long_files(alloc: Global, words: &str, count: &str, fields: &[&str]) -> Option<String> {
+fn over_long_files<R: Threads + Wait + Sync>(
+    rt: &R,
+    alloc: Global,
+    words: &str,
+    count: &str,
+    fields: &[&str],
+) -> Option<String> {
     let mut contents = Vec::new(alloc);
     for field in fields {
         let (name, content) = field.split_once('=')?;
@@ -164,7 +199,7 @@ fn over_long_files(alloc: Global, words: &str, count: &str, fields: &[&str]) -> 
     }
     let mut files = files_of(alloc, "", contents)?;
     let mut wires = [ScriptWire::new(alloc, replies(alloc, fields)?).ok()?];
-    ran(alloc, words, "", STEP, &mut files, &mut wires)
+    ran(rt, alloc, words, "", STEP, &mut files, &mut wires)
 }
 
 fn lengthened(alloc: Global, content: &str, count: &str) -> Option<Vec<u8>> {
@@ -194,7 +229,8 @@ fn with_blanks(
 
 // What a run gives, where each run of which one write fails, up to so many, has a fault and a front of its document; else what the
 // first one of another kind gives.
-fn with_each_write_failing(
+fn with_each_write_failing<R: Threads + Wait + Sync>(
+    rt: &R,
     alloc: Global,
     words: &str,
     step: &str,
@@ -202,12 +238,12 @@ fn with_each_write_failing(
     fields: &[&str],
 ) -> Option<String> {
     let step = step.parse::<u64>().ok()?;
-    let whole = over_replies(alloc, words, "", step, fields)?;
+    let whole = over_replies(rt, alloc, words, "", step, fields)?;
     let mut written = 0u64;
     for call in 0..most.parse::<u64>().ok()? {
         let number = call.saturating_add(1);
         let failing = format!(in alloc; "out={number}").ok()?;
-        let given = over_replies(alloc, words, failing.as_str(), step, fields)?;
+        let given = over_replies(rt, alloc, words, failing.as_str(), step, fields)?;
         if given.as_str() != cut_short(alloc, whole.as_str(), written)?.as_str() {
             return format!(in alloc; "at write {number} {given}").ok();
         }
@@ -227,7 +263,8 @@ fn cut_short(alloc: Global, whole: &str, written: u64) -> Option<String> {
 }
 
 // Runs words, with writes to the streams of so many bytes, and with nobody at the door.
-fn ran<W: Wire + Send>(
+fn ran<R: Threads + Wait + Sync, W: Wire + Send>(
+    rt: &R,
     alloc: Global,
     words: &str,
     failing: &str,
@@ -238,10 +275,11 @@ fn ran<W: Wire + Send>(
     requires { 0 < length wires.old }
 {
     let words = words_of(alloc, words)?;
-    ran_by(alloc, words.as_slice(), failing, step, files, wires)
+    ran_by(rt, alloc, words.as_slice(), failing, step, files, wires)
 }
 
-fn ran_by<W: Wire + Send>(
+fn ran_by<R: Threads + Wait + Sync, W: Wire + Send>(
+    rt: &R,
     alloc: Global,
     words: &[String],
     failing: &str,
@@ -252,11 +290,12 @@ fn ran_by<W: Wire + Send>(
     requires { 0 < length wires.old }
 {
     let mut door = closed_door(alloc)?;
-    ran_at(alloc, words, failing, step, files, wires, &mut door)
+    ran_at(rt, alloc, words, failing, step, files, wires, &mut door)
 }
 
 /// What a run gives over files, wires and a door, with writes to the streams of so many bytes.
-pub fn ran_at<W: Wire + Send>(
+pub fn ran_at<R: Threads + Wait + Sync, W: Wire + Send>(
+    rt: &R,
     alloc: Global,
     words: &[String],
     failing: &str,
@@ -269,7 +308,7 @@ pub fn ran_at<W: Wire + Send>(
 {
     let mut out = sink_of(alloc, failing, "out", step)?;
     let mut err = sink_of(alloc, failing, "err", step)?;
-    let status = run(alloc, words, files, wires, door, &mut out, &mut err);
+    let status = run(rt, alloc, words, files, wires, door, &mut out, &mut err);
     ran_text(alloc, &status, out.bytes(), err.bytes())
 }
 

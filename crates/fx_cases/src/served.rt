@@ -9,12 +9,19 @@ use fx_outside::MemoryDoor;
 use fx_wire::ScriptWire;
 use std::alloc::Global;
 use std::str::from_utf8;
+use std::sync::Wait;
+use std::thread::Threads;
 
 /// What a call gives.
-pub fn answer(alloc: Global, call: &str, inputs: &[&str]) -> Option<String> {
+pub fn answer<R: Threads + Wait + Sync>(
+    rt: &R,
+    alloc: Global,
+    call: &str,
+    inputs: &[&str],
+) -> Option<String> {
     match (call, inputs) {
         ("run member", [words, file, failing, inputs @ ..]) => {
-            served(alloc, words, file, failing, inputs)
+            served(rt, alloc, words, file, failing, inputs)
         }
         _ => None,
     }
@@ -22,18 +29,19 @@ pub fn answer(alloc: Global, call: &str, inputs: &[&str]) -> Option<String> {
 
 // What a run gives where one read or write of a connection moves up to 4,096 bytes. Where no write is to fail, which is named by its
 // number, it has to give the same byte by byte.
-fn served(
+fn served<R: Threads + Wait + Sync>(
+    rt: &R,
     alloc: Global,
     words: &str,
     file: &str,
     failing: &str,
     inputs: &[&str],
 ) -> Option<String> {
-    let whole = served_by(alloc, words, file, failing, inputs, 4096)?;
+    let whole = served_by(rt, alloc, words, file, failing, inputs, 4096)?;
     if failing.contains("write.") {
         return Some(whole);
     }
-    let cut = served_by(alloc, words, file, failing, inputs, 1)?;
+    let cut = served_by(rt, alloc, words, file, failing, inputs, 1)?;
     if cut.as_str() == whole.as_str() {
         Some(whole)
     } else {
@@ -41,7 +49,8 @@ fn served(
     }
 }
 
-fn served_by(
+fn served_by<R: Threads + Wait + Sync>(
+    rt: &R,
     alloc: Global,
     words: &str,
     file: &str,
@@ -50,7 +59,7 @@ fn served_by(
     step: u64,
 ) -> Option<String> {
     let mut door = door_of(alloc, failing, inputs, step)?;
-    let mut text = ran(alloc, words, file, failing, &mut door)?;
+    let mut text = ran(rt, alloc, words, file, failing, &mut door)?;
     for link in door.finished() {
         text.push_str(" | reply ").ok()?;
         text.push_str(from_utf8(link.written()).ok()?).ok()?;
@@ -58,7 +67,8 @@ fn served_by(
     Some(text)
 }
 
-fn ran(
+fn ran<R: Threads + Wait + Sync>(
+    rt: &R,
     alloc: Global,
     words: &str,
     file: &str,
@@ -66,10 +76,11 @@ fn ran(
     door: &mut MemoryDoor,
 ) -> Option<String> {
     let words = words_of(alloc, words)?;
-    ran_by(alloc, words.as_slice(), file, failing, door)
+    ran_by(rt, alloc, words.as_slice(), file, failing, door)
 }
 
-fn ran_by(
+fn ran_by<R: Threads + Wait + Sync>(
+    rt: &R,
     alloc: Global,
     words: &[String],
     file: &str,
@@ -78,7 +89,9 @@ fn ran_by(
 ) -> Option<String> {
     let mut files = files_of(alloc, "", contents(alloc, &[file])?)?;
     let mut wires = [ScriptWire::new(alloc, Vec::new(alloc)).ok()?];
-    ran_at(alloc, words, failing, 4096, &mut files, &mut wires, door)
+    ran_at(
+        rt, alloc, words, failing, 4096, &mut files, &mut wires, door,
+    )
 }
 
 fn door_of(alloc: Global, failing: &str, inputs: &[&str], step: u64) -> Option<MemoryDoor> {

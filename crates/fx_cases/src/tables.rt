@@ -7,6 +7,8 @@
 use crate::cases::answer;
 use fx_notation::escapes::field_of;
 use std::alloc::Global;
+use std::sync::Wait;
+use std::thread::Threads;
 
 /// What came of the cases of a table.
 #[derive(Drop)]
@@ -18,7 +20,12 @@ pub struct Outcome {
 }
 
 /// Tries each case of a table of this name. Gives nothing where memory ran out.
-pub fn try_table(alloc: Global, table: &str, text: &str) -> Option<Outcome> {
+pub fn try_table<R: Threads + Wait + Sync>(
+    rt: &R,
+    alloc: Global,
+    table: &str,
+    text: &str,
+) -> Option<Outcome> {
     let mut outcome = Outcome {
         cases: 0,
         report: String::new(alloc),
@@ -28,7 +35,7 @@ pub fn try_table(alloc: Global, table: &str, text: &str) -> Option<Outcome> {
         number = number.saturating_add(1);
         if !line.is_empty() && !line.starts_with('#') {
             outcome.cases = outcome.cases.saturating_add(1);
-            let told = difference(alloc, table, number, line)?;
+            let told = difference(rt, alloc, table, number, line)?;
             outcome.report.push_str(told.as_str()).ok()?;
         }
     }
@@ -36,9 +43,15 @@ pub fn try_table(alloc: Global, table: &str, text: &str) -> Option<Outcome> {
 }
 
 // What a case gives in the place of what is wanted, as a line; an empty text where it gives that.
-fn difference(alloc: Global, table: &str, number: u64, line: &str) -> Option<String> {
+fn difference<R: Threads + Wait + Sync>(
+    rt: &R,
+    alloc: Global,
+    table: &str,
+    number: u64,
+    line: &str,
+) -> Option<String> {
     let (call, wanted) = line.rsplit_once('\t').unwrap_or((line, ""));
-    match given(alloc, table, call) {
+    match given(rt, alloc, table, call) {
         Some(given) => told(alloc, table, number, wanted, given.as_str()),
         None => told(alloc, table, number, wanted, "(nothing)"),
     }
@@ -53,9 +66,14 @@ fn told(alloc: Global, table: &str, number: u64, wanted: &str, given: &str) -> O
 }
 
 // What the call gives, as a field.
-fn given(alloc: Global, table: &str, line: &str) -> Option<String> {
+fn given<R: Threads + Wait + Sync>(
+    rt: &R,
+    alloc: Global,
+    table: &str,
+    line: &str,
+) -> Option<String> {
     let fields: Vec<&str> = line.split('\t').collect(alloc).ok()?;
     let (call, inputs) = fields.as_slice().split_first()?;
-    let text = answer(alloc, table, call, inputs)?;
+    let text = answer(rt, alloc, table, call, inputs)?;
     field_of(alloc, text.as_str())
 }

@@ -16,8 +16,8 @@ fn a_query_over_an_endpoint_that_is_silent_ends_and_names_it(rt: HostRuntime) ->
     let silent = TcpListener::bind(&rt, SocketAddr::from((Ipv4Addr::LOCALHOST, 0)))?;
     let port = silent.local_addr()?.port();
     let (long, short) = (Duration::from_secs(10), Duration::from_millis(300));
-    let wire = TcpWire::with_patience(rt.alloc(), rt, long, short);
-    let (status, line) = query_over(rt.alloc(), port, wire)?;
+    let wire = TcpWire::with_patience(rt.alloc(), rt.clone()?, long, short);
+    let (status, line) = query_over(&rt, rt.alloc(), port, wire)?;
     assert_eq!(rt; status, 5);
     assert_eq!(rt; line.bytes(), b"member Amsterdam failed\n".as_slice());
     drop(silent);
@@ -30,7 +30,7 @@ fn a_reply_of_one_byte_above_its_limit_is_too_long(rt: HostRuntime) -> Result<()
     let port = listener.local_addr()?.port();
     // (the other side closes the connection before all is taken)
     let peer = thread::spawn(&rt, move || answer_at_length(&listener).is_ok())?;
-    let (status, line) = query_over(rt.alloc(), port, TcpWire::new(rt.alloc(), rt))?;
+    let (status, line) = query_over(&rt, rt.alloc(), port, TcpWire::new(rt.alloc(), rt.clone()?))?;
     peer.join(&rt);
     assert_eq!(rt; status, 6);
     assert_eq!(rt;
@@ -52,6 +52,7 @@ fn answer_at_length(listener: &TcpListener) -> io::Result<()> {
 
 // How `query` over one endpoint at a port ends, by its code, and its line. It writes nothing else.
 fn query_over(
+    rt: &HostRuntime,
     alloc: Global,
     port: u16,
     wire: TcpWire<HostRuntime>,
@@ -64,6 +65,7 @@ fn query_over(
     let mut line = MemorySink::new(alloc, 100, 100, Vec::new(alloc))?;
     let words = words(alloc)?;
     let status = run(
+        rt,
         alloc,
         words.as_slice(),
         &mut files,

@@ -14,6 +14,8 @@ use fx_syntax::{SyntaxError, parse};
 use fx_terms::{Boxed, Memory};
 use fx_wire::Wire;
 use std::alloc::Global;
+use std::sync::Wait;
+use std::thread::Threads;
 
 // How many rows one request asks for at most.
 const BLOCK: u32 = 15;
@@ -24,7 +26,11 @@ const BLOCK: u32 = 15;
 ///
 /// The members are asked over the wires, with a new cache, in batches of 15 rows. The errors come as those of `federate`, but for `Service` and `UnknownService`,
 /// which never come.
-pub fn count_rows<W: Wire + Send>(alloc: Global, wires: &mut [W]) -> Result<u64, FedError>
+pub fn count_rows<R: Threads + Wait + Sync, W: Wire + Send>(
+    rt: &R,
+    alloc: Global,
+    wires: &mut [W],
+) -> Result<u64, FedError>
     requires wired { (0 < length wires.old) × (length wires.old ≤ 16) }
 
     // Where the wires tell the graphs of the three addresses, whatever these are, the number is that of the query's rows over their union.
@@ -35,7 +41,7 @@ pub fn count_rows<W: Wire + Send>(alloc: Global, wires: &mut [W]) -> Result<u64,
     ensures refused { IfErr result IsOfMember }
     ensures wired { AreAfter (map W.seen wires.old) (map W.seen wires.new) }
 {
-    match over_members(alloc, wires) {
+    match over_members(rt, alloc, wires) {
         Ok(outcome) => Ok(rows_of(&outcome.answer)),
         Err(error) => Err(error),
     }
@@ -52,18 +58,23 @@ fn rows_of(answer: &Answer) -> u64
 }
 
 // What the members give for the query.
-fn over_members<W: Wire + Send>(alloc: Global, wires: &mut [W]) -> Result<Outcome, FedError>
+fn over_members<R: Threads + Wait + Sync, W: Wire + Send>(
+    rt: &R,
+    alloc: Global,
+    wires: &mut [W],
+) -> Result<Outcome, FedError>
     requires wired { (0 < length wires.old) × (length wires.old ≤ 16) }
     ensures answered { IsAnswered (wires_seen W.tells_log W.counts_alone W.seen wires.old wires.new) generated_members generated_query 15 result }
     ensures wired { AreAfter (map W.seen wires.old) (map W.seen wires.new) }
 {
     match members(alloc) {
-        Ok(members) => over(alloc, &members, wires),
+        Ok(members) => over(rt, alloc, &members, wires),
         Err(_) => Err(FedError::Memory),
     }
 }
 
-fn over<W: Wire + Send>(
+fn over<R: Threads + Wait + Sync, W: Wire + Send>(
+    rt: &R,
     alloc: Global,
     members: &Registry,
     wires: &mut [W],
@@ -73,7 +84,7 @@ fn over<W: Wire + Send>(
     ensures wired { AreAfter (map W.seen wires.old) (map W.seen wires.new) }
 {
     match query(alloc) {
-        Ok(query) => outcome(alloc, members, query.get(), BLOCK, wires),
+        Ok(query) => outcome(rt, alloc, members, query.get(), BLOCK, wires),
         Err(_) => Err(FedError::Memory),
     }
 }

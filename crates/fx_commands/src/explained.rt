@@ -25,11 +25,14 @@ use fx_plan::{Part, explain};
 use fx_sources::{AskCache, Registry};
 use fx_wire::Wire;
 use std::alloc::Global;
+use std::sync::Wait;
+use std::thread::Threads;
 
 /// Prints the plan of the query of a file over the members of the registry of a file on `out`, or the line of the refusal on `err`.
 /// The registry's file is read first. A SERVICE without SILENT has to name the address of a member; the first that doesn't is
 /// refused, and then nothing is asked. Else each member is asked for which triple patterns it has anything, and nothing more.
-pub fn run_explain<F: Files, W: Wire + Send, O: Sink, E: Sink>(
+pub fn run_explain<R: Threads + Wait + Sync, F: Files, W: Wire + Send, O: Sink, E: Sink>(
+    rt: &R,
     alloc: Global,
     files: &mut F,
     wires: &mut [W],
@@ -60,13 +63,14 @@ pub fn run_explain<F: Files, W: Wire + Send, O: Sink, E: Sink>(
                 write_query_refusal(err, refusal, query);
                 refusal.status()
             }
-            Ok(asked) => explain_members(alloc, &members, asked.get(), wires, out, err),
+            Ok(asked) => explain_members(rt, alloc, &members, asked.get(), wires, out, err),
         },
     }
 }
 
 // Asks the members, and prints the plan, or the line of the refusal.
-fn explain_members<W: Wire + Send, O: Sink, E: Sink>(
+fn explain_members<R: Threads + Wait + Sync, W: Wire + Send, O: Sink, E: Sink>(
+    rt: &R,
     alloc: Global,
     members: &Registry,
     query: &Query,
@@ -84,7 +88,7 @@ fn explain_members<W: Wire + Send, O: Sink, E: Sink>(
     ensures unfailed { ¬ (result ≡ Status.WriteFault) → O.write_faults out.new ≡ O.write_faults out.old }
     ensures unfailed_lines { result ≡ Status.Done → E.write_faults err.new ≡ E.write_faults err.old }
 {
-    match plan(alloc, members, query, wires) {
+    match plan(rt, alloc, members, query, wires) {
         Ok(parts) => write_plan(alloc, parts.as_slice(), members.endpoints(), out, err),
         Err(error) => {
             write_fed_error(err, &error);
@@ -94,7 +98,8 @@ fn explain_members<W: Wire + Send, O: Sink, E: Sink>(
 }
 
 // The parts of a query by what the members have. They are asked with a new cache.
-fn plan<W: Wire + Send>(
+fn plan<R: Threads + Wait + Sync, W: Wire + Send>(
+    rt: &R,
     alloc: Global,
     members: &Registry,
     query: &Query,
@@ -107,7 +112,7 @@ fn plan<W: Wire + Send>(
     ensures wired { AreAfter (map W.seen wires.old) (map W.seen wires.new) }
 {
     match AskCache::new(alloc) {
-        Ok(mut cache) => plan_parts(alloc, query, members, &mut cache, wires),
+        Ok(mut cache) => plan_parts(rt, alloc, query, members, &mut cache, wires),
         Err(_) => Err(FedError::Memory),
     }
 }

@@ -28,12 +28,15 @@ use fx_sources::{AskCache, Registry};
 use fx_terms::Memory;
 use fx_wire::Wire;
 use std::alloc::Global;
+use std::sync::Wait;
+use std::thread::Threads;
 
 /// Answers the query of a file over the members of the registry of a file, and writes the document on `out`, with a line on `err` for each SERVICE SILENT that
 /// is down, or the line of the refusal on `err`. The registry's file is read first. A SERVICE without SILENT has to name the address of a member; the first that
 /// doesn't is refused, and then nothing is asked. Each member is asked first which triple patterns it has anything for, and then, in batches of at most `block`
 /// rows, for the solutions of those, and each SERVICE at its address for its own.
-pub fn run_query<F: Files, W: Wire + Send, O: Sink, E: Sink>(
+pub fn run_query<R: Threads + Wait + Sync, F: Files, W: Wire + Send, O: Sink, E: Sink>(
+    rt: &R,
     alloc: Global,
     files: &mut F,
     wires: &mut [W],
@@ -66,13 +69,14 @@ pub fn run_query<F: Files, W: Wire + Send, O: Sink, E: Sink>(
                 write_query_refusal(err, refusal, query);
                 refusal.status()
             }
-            Ok(asked) => answer_members(alloc, &members, asked.get(), block, wires, out, err),
+            Ok(asked) => answer_members(rt, alloc, &members, asked.get(), block, wires, out, err),
         },
     }
 }
 
 // Answers a query over the members of a registry, and writes the document with the lines behind it, or the line of the refusal.
-fn answer_members<W: Wire + Send, O: Sink, E: Sink>(
+fn answer_members<R: Threads + Wait + Sync, W: Wire + Send, O: Sink, E: Sink>(
+    rt: &R,
     alloc: Global,
     members: &Registry,
     query: &Query,
@@ -92,7 +96,7 @@ fn answer_members<W: Wire + Send, O: Sink, E: Sink>(
     ensures unfailed { ¬ (result ≡ Status.WriteFault) → O.write_faults out.new ≡ O.write_faults out.old }
     ensures unfailed_lines { result ≡ Status.Done → E.write_faults err.new ≡ E.write_faults err.old }
 {
-    match outcome(alloc, members, query, block, wires) {
+    match outcome(rt, alloc, members, query, block, wires) {
         Ok(outcome) => write_outcome(alloc, &outcome, out, err),
         Err(error) => {
             write_fed_error(err, &error);
@@ -102,7 +106,8 @@ fn answer_members<W: Wire + Send, O: Sink, E: Sink>(
 }
 
 /// What the members give for a query. They are asked with a new cache.
-pub fn outcome<W: Wire + Send>(
+pub fn outcome<R: Threads + Wait + Sync, W: Wire + Send>(
+    rt: &R,
     alloc: Global,
     members: &Registry,
     query: &Query,
@@ -116,7 +121,15 @@ pub fn outcome<W: Wire + Send>(
     ensures wired { AreAfter (map W.seen wires.old) (map W.seen wires.new) }
 {
     match AskCache::new(alloc) {
-        Ok(mut cache) => federate(alloc, query, members, &mut cache, Options { block }, wires),
+        Ok(mut cache) => federate(
+            rt,
+            alloc,
+            query,
+            members,
+            &mut cache,
+            Options { block },
+            wires,
+        ),
         Err(_) => Err(FedError::Memory),
     }
 }

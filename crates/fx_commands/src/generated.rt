@@ -18,13 +18,21 @@ use fx_member::GraphWire;
 use fx_outside::{Sink, write_all};
 use fx_terms::{Graph, Iri, Memory, Triple};
 use std::alloc::Global;
+use std::sync::Wait;
+use std::thread::Threads;
 
 // How many wires the members are asked over.
 const WIRES: u64 = 4;
 
 /// Makes three members of so many persons in memory, asks them over four wires in memory for the rows of a query, and writes four lines on `out`: how many
 /// members there are, how many triples their union has, how many they hold together, and how many rows the query has. No other wire is used.
-pub fn run_generate<O: Sink, E: Sink>(alloc: Global, size: u32, out: &mut O, err: &mut E) -> Status
+pub fn run_generate<R: Threads + Wait + Sync, O: Sink, E: Sink>(
+    rt: &R,
+    alloc: Global,
+    size: u32,
+    out: &mut O,
+    err: &mut E,
+) -> Status
     requires { (1 ≤ size) × (size ≤ 10000) }
     ensures reported { (text : List ℕ) × IsGivenEnd [] result text × (IsTrue E.tells_held → Gains (E.held err.old) (E.held err.new) (E.write_faults err.old) (E.write_faults err.new) text) }
     ensures written { IsTrue O.tells_held → Wrote (λ text. text ≡ spec.summary size) result (O.held out.old) (O.held out.new) }
@@ -32,7 +40,7 @@ pub fn run_generate<O: Sink, E: Sink>(alloc: Global, size: u32, out: &mut O, err
     ensures unfailed { ¬ (result ≡ Status.WriteFault) → O.write_faults out.new ≡ O.write_faults out.old }
     ensures unfailed_lines { result ≡ Status.Done → E.write_faults err.new ≡ E.write_faults err.old }
 {
-    match summary(alloc, size) {
+    match summary(rt, alloc, size) {
         Err(_) => {
             write_no_memory(err);
             Status::NoMemory
@@ -45,13 +53,13 @@ pub fn run_generate<O: Sink, E: Sink>(alloc: Global, size: u32, out: &mut O, err
 }
 
 // The four lines.
-fn summary(alloc: Global, size: u32) -> Result<String, Memory>
+fn summary<R: Threads + Wait + Sync>(rt: &R, alloc: Global, size: u32) -> Result<String, Memory>
     requires { (1 ≤ size) × (size ≤ 10000) }
     ensures { IfOk result (λ text. string_bytes text ≡ spec.summary size) }
 {
     let members = members(alloc, size)?;
     let (held, triples) = counts(alloc, members.as_slice())?;
-    let rows = rows(alloc, members.as_slice())?;
+    let rows = rows(rt, alloc, members.as_slice())?;
     text_of(alloc, triples, held, rows)
 }
 
@@ -107,11 +115,15 @@ fn push_triples(all: &mut Vec<Triple>, triples: &[Triple]) -> Result<(), Memory>
 }
 
 // How many rows the query has over the members. They are asked over wires in memory, of which none fails, so what is refused is want of memory.
-fn rows(alloc: Global, members: &[(Iri, Graph)]) -> Result<u64, Memory>
+fn rows<R: Threads + Wait + Sync>(
+    rt: &R,
+    alloc: Global,
+    members: &[(Iri, Graph)],
+) -> Result<u64, Memory>
     ensures { IfOk result (λ rows. (first second third : List TripleParts) → members.now ≡ at_addresses first second third → rows ≡ length (generated_rows (union (first ∷ second ∷ third ∷ [])))) }
 {
     let mut wires = wires(alloc, members)?;
-    match count_rows(alloc, wires.as_mut_slice()) {
+    match count_rows(rt, alloc, wires.as_mut_slice()) {
         Ok(rows) => Ok(rows),
         Err(_) => Err(Memory),
     }

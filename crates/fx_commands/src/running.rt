@@ -25,6 +25,8 @@ use crate::statuses::Status;
 use fx_outside::{Door, Files, Sink};
 use fx_wire::Wire;
 use std::alloc::Global;
+use std::sync::Wait;
+use std::thread::Threads;
 
 // How many wires `explain` uses at most.
 const EXPLAIN_WIRES: usize = 4;
@@ -37,7 +39,8 @@ const EXPLAIN_WIRES: usize = 4;
 /// The document or text and the lines behind it are whole before the first byte is written, so that on every status but `Done` and
 /// `WriteFault` nothing is written on `out`, and with `WriteFault` a front of it. A fault of `err` while a refusal's
 /// line is written leaves the status as it is; one while the lines behind a document are written is a `WriteFault`.
-pub fn run<F: Files, W: Wire + Send, D: Door, O: Sink, E: Sink>(
+pub fn run<R: Threads + Wait + Sync, F: Files, W: Wire + Send, D: Door, O: Sink, E: Sink>(
+    rt: &R,
     alloc: Global,
     words: &[String],
     files: &mut F,
@@ -98,11 +101,11 @@ pub fn run<F: Files, W: Wire + Send, D: Door, O: Sink, E: Sink>(
             },
         ) => {
             let (used, _) = wires.split_at_mut((workers as usize).min(wires.len()));
-            run_query(alloc, files, used, registry, query, block, out, err)
+            run_query(rt, alloc, files, used, registry, query, block, out, err)
         }
         Ok(Command::Explain { registry, query }) => {
             let (used, _) = wires.split_at_mut(EXPLAIN_WIRES.min(wires.len()));
-            run_explain(alloc, files, used, registry, query, out, err)
+            run_explain(rt, alloc, files, used, registry, query, out, err)
         }
         Ok(
             Command::Member {
@@ -111,7 +114,7 @@ pub fn run<F: Files, W: Wire + Send, D: Door, O: Sink, E: Sink>(
                 count,
             },
         ) => run_member(alloc, files, door, graph, address, count, err),
-        Ok(Command::Generate { size }) => run_generate(alloc, size, out, err),
+        Ok(Command::Generate { size }) => run_generate(rt, alloc, size, out, err),
     }
 }
 
