@@ -113,7 +113,7 @@ fn answered_by<R: Threads + Wait + Sync, W: Wire + Send>(
 
 // The answer, and behind it each SERVICE that is down.
 fn outcome_text(alloc: Global, outcome: &Outcome) -> Option<String> {
-    let mut text = shown::answer(rt, alloc, &outcome.answer)?;
+    let mut text = shown::answer(alloc, &outcome.answer)?;
     for down in outcome.down.as_slice() {
         push_down(&mut text, down)?;
     }
