@@ -13,18 +13,25 @@ use fx_terms::{Name, Term};
 use serde_json::{Map, Value};
 use std::alloc::Global;
 
+/// The rows that the items of an array are. Each item is gone once its row is read, so memory is that of the items or the rows.
 pub(crate) fn rows_of(
     alloc: Global,
     columns: &Columns,
-    items: &[Value],
+    items: Vec<Value>,
 ) -> Result<Vec<Solution>, ResultsError>
-    ensures { AnswersAs (λ rows. rows.items) result (spec.rows_in columns.now (items_view items.now)) }
+    ensures { AnswersAs (λ rows. rows.items) result (spec.rows_in columns.now (items_view items.items)) }
 {
     let mut rows = Vec::with_capacity(alloc, items.len())?;
     for item in items {
-        rows.push(row_of(alloc, columns, item)?)?;
+        rows.push(taken_row(alloc, columns, item)?)?;
     }
     Ok(rows)
+}
+
+fn taken_row(alloc: Global, columns: &Columns, value: Value) -> Result<Solution, ResultsError>
+    ensures { AnswersResults result (spec.row_in columns.now (view value)) }
+{
+    row_of(alloc, columns, &value)
 }
 
 fn row_of(alloc: Global, columns: &Columns, value: &Value) -> Result<Solution, ResultsError>

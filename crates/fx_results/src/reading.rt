@@ -1,9 +1,12 @@
 //! The answer that a document tells.
 ghost use Rattle.std.specs.Prelude.{◌≡◌, codes, option_map};
-ghost use Rattle.serde_json.specs.Find.{get};
+ghost use Rattle.std.specs.Option.{ok_or};
+ghost use Rattle.serde_json.specs.Find.{as_array, get};
 ghost use Rattle.serde_json.specs.View.{view, items_view};
 ghost use Rattle.fx_results.specs.Answers.{AnswersResults, AnswersAs};
 ghost use Rattle.fx_results.specs.Reading as spec;
+ghost use Rattle.fx_results.specs.declared.faults.ResultsError.TheVariants as error;
+ghost use Rattle.fx_results.specs.declared.faults.ShapeFault.TheVariants as fault;
 
 use crate::bindings::rows_of;
 use crate::columns::Columns;
@@ -12,6 +15,7 @@ use fx_algebra::Answer;
 use fx_terms::Items;
 use serde_json::Value;
 use std::alloc::Global;
+use std::mem;
 
 /// The answer that a document tells (SPARQL 1.1 Query Results JSON Format, sections 3.1 to 3.3), or the first fault:
 /// `ResultsError` says where each comes, and in which order.
@@ -21,8 +25,8 @@ use std::alloc::Global;
 pub fn read(alloc: Global, bytes: &[u8]) -> Result<Answer, ResultsError>
     ensures { AnswersResults result (spec.read_results bytes.now) }
 {
-    let value = value_of(alloc, bytes)?;
-    answer_of(alloc, &value)
+    let mut value = value_of(alloc, bytes)?;
+    answer_of(alloc, &mut value)
 }
 
 fn value_of(alloc: Global, bytes: &[u8]) -> Result<Value, ResultsError>
@@ -40,8 +44,9 @@ fn value_of(alloc: Global, bytes: &[u8]) -> Result<Value, ResultsError>
     }
 }
 
-fn answer_of(alloc: Global, value: &Value) -> Result<Answer, ResultsError>
-    ensures { AnswersResults result (spec.answer_in (view value.now)) }
+// The rows are taken out of the value, so that each is gone once it is read.
+fn answer_of(alloc: Global, value: &mut Value) -> Result<Answer, ResultsError>
+    ensures { AnswersResults result (spec.answer_in (view value.old)) }
 {
     if !is_root(value) {
         return Err(ResultsError::Shape {
@@ -53,10 +58,10 @@ fn answer_of(alloc: Global, value: &Value) -> Result<Answer, ResultsError>
             what: ShapeFault::Head,
         });
     }
-    match value.get("boolean") {
-        Some(truth) => truth_of(truth),
-        None => table_of(alloc, value),
+    if let Some(truth) = value.get("boolean") {
+        return truth_of(truth);
     }
+    table_of(alloc, value)
 }
 
 fn is_root(value: &Value) -> bool
@@ -85,11 +90,11 @@ fn truth_of(value: &Value) -> Result<Answer, ResultsError>
     }
 }
 
-fn table_of(alloc: Global, value: &Value) -> Result<Answer, ResultsError>
-    ensures { AnswersResults result (spec.table_in (view value.now)) }
+fn table_of(alloc: Global, value: &mut Value) -> Result<Answer, ResultsError>
+    ensures { AnswersResults result (spec.table_in (view value.old)) }
 {
     let columns = columns_of(alloc, value)?;
-    let bindings = bindings_in(value)?;
+    let bindings = bindings_in(alloc, value)?;
     let rows = rows_of(alloc, &columns, bindings)?;
     Ok(Answer::Table {
         columns: Items::from_vec(columns.into_names()),
@@ -114,30 +119,46 @@ fn vars_in(value: &Value) -> Option<&[Value]>
     items_at(value.get("head")?, "vars")
 }
 
-fn bindings_in(value: &Value) -> Result<&[Value], ResultsError>
-    ensures { AnswersAs (λ items. items_view items.now) result (spec.bindings_in (view value.now)) }
+// The items of `bindings`, which `value` loses.
+fn bindings_in(alloc: Global, value: &mut Value) -> Result<Vec<Value>, ResultsError>
+    ensures { AnswersAs (λ items. items_view items.items) result (spec.bindings_in (view value.old)) }
 {
-    match value.get("results") {
-        Some(results) => bindings_of(results),
+    match value.get_mut("results") {
+        Some(results) => bindings_of(alloc, results),
         None => Err(ResultsError::Shape {
             what: ShapeFault::Results,
         }),
     }
 }
 
-fn bindings_of(value: &Value) -> Result<&[Value], ResultsError>
-    ensures { AnswersAs (λ items. items_view items.now) result (spec.bindings_of (view value.now)) }
+fn bindings_of(alloc: Global, value: &mut Value) -> Result<Vec<Value>, ResultsError>
+    ensures { AnswersAs (λ items. items_view items.items) result (spec.bindings_of (view value.old)) }
 {
     if !value.is_object() {
         return Err(ResultsError::Shape {
             what: ShapeFault::Results,
         });
     }
-    match items_at(value, "bindings") {
-        Some(items) => Ok(items),
-        None => Err(ResultsError::Shape {
-            what: ShapeFault::Bindings,
-        }),
+    match value.get_mut("bindings") {
+        Some(bindings) => items_of(alloc, bindings),
+        None => Err(no_bindings()),
+    }
+}
+
+fn no_bindings() -> ResultsError
+    ensures { result ≡ error.Shape fault.Bindings }
+{
+    ResultsError::Shape {
+        what: ShapeFault::Bindings,
+    }
+}
+
+fn items_of(alloc: Global, value: &mut Value) -> Result<Vec<Value>, ResultsError>
+    ensures { AnswersAs (λ items. items_view items.items) result (ok_or (as_array (view value.old)) (error.Shape fault.Bindings)) }
+{
+    match value.as_array_mut() {
+        Some(items) => Ok(mem::replace(items, Vec::new(alloc))),
+        None => Err(no_bindings()),
     }
 }
 

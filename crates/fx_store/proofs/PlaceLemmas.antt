@@ -1,7 +1,7 @@
 -- The places of a graph's triples in an order.
-use Rattle.std.proofs.Common.{◌≡◌, ◌∙◌, ap, sym, refl, ℕ, zero, suc, ◌+◌, ◌<◌, ◌≤◌, Bool, true, false, cond, List, [], ◌∷◌, ◌++◌, map, length, take, get_or, Option, Some, None, IsPermutation, arith, option_map}
+use Rattle.std.proofs.Common.{◌≡◌, ◌∙◌, ap, sym, refl, ℕ, zero, suc, ◌+◌, ◌<◌, ◌≤◌, Bool, true, false, cond, List, [], ◌∷◌, ◌++◌, map, length, take, get_or, Option, Some, None, IsPermutation, arith, option_map, subst}
 use Rattle.std.specs.List.{slice_get, AllByRecursion}
-use Rattle.std.specs.List.Sorted.{IsSortedBy, IsStableBy, ties}
+use Rattle.std.specs.List.Sorted.{IsSortedBy}
 use Rattle.std.specs.Option.{option_to_list}
 use Rattle.std.specs.declared.cmp.Ordering.{Ordering}
 use Rattle.std.specs.declared.cmp.Ordering.TheVariants.{Less, Equal, Greater}
@@ -9,19 +9,18 @@ use Rattle.std.specs.Ordering.{is_le, is_lt, nat_cmp, ordering_then, ordering_re
 use Rattle.std.specs.Cmp.{IsTotalOrder, IsStrictWeakOrder}
 use Rattle.std.proofs.lemmas.Cmp.{then_total, on_total, lists_total, tied_itself}
 use Rattle.std.proofs.lemmas.List.Elements.{All-from_recursion}
-use Rattle.std.proofs.lemmas.List.Sorted.{IsPermutation-map, All-permutation, ranks_by, ties_stay_sorted}
+use Rattle.std.proofs.lemmas.List.Sorted.{IsPermutation-map, IsPermutation-trans, All-permutation, length_permutation, ranks_by}
 use Rattle.std.proofs.lemmas.Option.{slice_get-map}
 use Rattle.fx_terms.specs.Terms.{terms_total}
 use Rattle.fx_terms.specs.declared.terms.Term.TheVariants.{Iri}
 use Rattle.fx_terms.specs.declared.triples.Triple.{Triple}
 use Rattle.fx_terms.proofs.OrderLemmas.{exact_terms}
 use Rattle.fx_algebra.specs.Sequences.{sorted_by, insert_by}
-use Rattle.fx_algebra.proofs.OrderLemmas.{Le, Ascends, one_order, sorted_ascends}
-use Rattle.fx_store.specs.Orders.{next, term_at, part_cmp, two_cmp, order_cmp, found_cmp, AreFound}
+use Rattle.fx_algebra.proofs.OrderLemmas.{Le, Ascends, one_order}
+use Rattle.fx_store.specs.Orders.{next, term_at, part_cmp, two_cmp, order_cmp, found_cmp, AreAll, AreInOrder, AreFound}
 use Rattle.fx_store.specs.declared.orders.Part.{Part}
 use Rattle.fx_store.specs.declared.orders.Part.TheVariants.{Subject, Predicate, Object}
 use Rattle.fx_store.proofs.SearchLemmas.{there, stands}
-use Rattle.fx_store.proofs.SortLemmas.{sorted_twice}
 
 -- ---- the orders are total, and tell triples apart
 
@@ -108,12 +107,42 @@ sorted_map R g xs h k d low high =
 abbrev pub below : (Triple → Triple → Ordering) → List Triple → ℕ → ℕ → Bool
 below R graph a b = is_lt (found_cmp R (slice_get graph a) (slice_get graph b))
 
+-- places of some triples that rise by an order give them in this order
+found_in_order : (f : Part) (graph ts : List Triple) (ys : List ℕ) → IsPermutation (map Some ts) (map (slice_get graph) ys) → IsSortedBy (below (order_cmp f) graph) ys → map (slice_get graph) ys ≡ map Some (sorted_by (order_cmp f) ts)
+found_in_order f graph ts ys p up =
+    one_order (found_cmp (order_cmp f)) (found_total (order_total f)) (λ o. Unit {0}) (λ a b p q. exact_found f a b) (map Some ts) (map (slice_get graph) ys) (λ k d h. tt)
+    (sorted_map (found_cmp (order_cmp f)) (slice_get graph) ys up) p
+    ∙ sym (sorted_image (found_cmp (order_cmp f)) (order_cmp f) Some (both_found (order_cmp f)) ts)
+
+-- what places give, moved as they are
+moved : (graph ts : List Triple) (xs ys : List ℕ) → map (slice_get graph) xs ≡ map Some ts → IsPermutation xs ys → IsPermutation (map Some ts) (map (slice_get graph) ys)
+moved graph ts xs ys e p = subst (λ v. IsPermutation v (map (slice_get graph) ys)) e (IsPermutation-map (slice_get graph) xs ys p)
+
 places_in_order : (f : Part) (graph ts : List Triple) (xs ys : List ℕ) → map (slice_get graph) xs ≡ map Some ts
     → IsSortedBy (below (order_cmp f) graph) ys → IsPermutation xs ys → map (slice_get graph) ys ≡ map Some (sorted_by (order_cmp f) ts)
-places_in_order f graph ts xs ys e up p =
-    one_order (found_cmp (order_cmp f)) (found_total (order_total f)) (λ o. Unit {0}) (λ a b p q. exact_found f a b) (map (slice_get graph) xs) (map (slice_get graph) ys) (λ k d h. tt)
-    (sorted_map (found_cmp (order_cmp f)) (slice_get graph) ys up) (IsPermutation-map (slice_get graph) xs ys p)
-    ∙ ap (sorted_by (found_cmp (order_cmp f))) e ∙ sym (sorted_image (found_cmp (order_cmp f)) (order_cmp f) Some (both_found (order_cmp f)) ts)
+places_in_order f graph ts xs ys e up p = found_in_order f graph ts ys (moved graph ts xs ys e p) up
+
+-- ---- the places of all triples
+
+-- the graph's places, moved
+pub all_moved : (graph : List Triple) (xs ys : List ℕ) → map (slice_get graph) xs ≡ map Some graph → IsPermutation xs ys → AreAll graph ys
+all_moved graph xs ys e p = record { each = moved graph graph xs ys e p }
+
+-- all places, moved again
+pub still_all : (graph : List Triple) (xs ys : List ℕ) → AreAll graph xs → IsPermutation xs ys → AreAll graph ys
+still_all graph xs ys all p = record {
+  each = IsPermutation-trans (map Some graph) (map (slice_get graph) xs) (map (slice_get graph) ys) all.each (IsPermutation-map (slice_get graph) xs ys p);
+}
+
+-- all places that rise by an order are in it
+pub all_in_order : (f : Part) (graph : List Triple) (ys : List ℕ) → AreAll graph ys → IsSortedBy (below (order_cmp f) graph) ys → AreInOrder (order_cmp f) graph ys
+all_in_order f graph ys all up = record {
+  all = sym (length-map-here (slice_get graph) ys) ∙ length_permutation (map Some graph) (map (slice_get graph) ys) all.each ∙ length-map-here Some graph;
+  sorted = found_in_order f graph graph ys all.each up;
+}
+
+pub order_ranks : (f : Part) (graph : List Triple) → IsStrictWeakOrder (below (order_cmp f) graph)
+order_ranks f graph = ranks_by (on_total (slice_get graph) (found_total (order_total f))) (λ x. x)
 
 one_up : (i : ℕ) → suc (i + 1) ≡ suc i + 1
 one_up i = omega arith
@@ -195,63 +224,3 @@ places_sorted graph ts xs ys h e up p =
 -- there are as many places as triples
 pub place_count : (graph : List Triple) (places : List ℕ) (ts : List Triple) → map (slice_get graph) places ≡ map Some ts → length places ≡ length ts
 place_count graph places ts e = sym (length-map-here (slice_get graph) places) ∙ ap length e ∙ length-map-here Some ts
-
--- ---- places in an order, sorted by its last part alone
-
--- what isn't below by one part, nor by the two others where this one ties, isn't below by all three
-turned_third : (p back q r : Ordering) → back ≡ ordering_reverse p → is_lt p ≡ false → (is_lt back ≡ false → is_lt (ordering_then q (ordering_then r p)) ≡ false) → is_lt (ordering_then p (ordering_then q r)) ≡ false
-turned_third Less back q r e h k = absurd (cc)
-turned_third Greater back q r e h k = refl
-turned_third Equal back Less r e h k = k (ap is_lt e)
-turned_third Equal back Equal r e h k = ap is_lt (sym (only r)) ∙ k (ap is_lt e)
-turned_third Equal back Greater r e h k = refl
-
-round : (f : Part) → next (next (next f)) ≡ f
-round Subject = refl
-round Predicate = refl
-round Object = refl
-
-module _ (f : Part) where
-  both_up : (a b : Triple) → is_lt (part_cmp f b a) ≡ false → (is_lt (part_cmp f a b) ≡ false → is_lt (order_cmp (next f) b a) ≡ false) → is_lt (order_cmp f b a) ≡ false
-  both_up a b h k =
-      turned_third (part_cmp f b a) (part_cmp f a b) (part_cmp (next f) b a) (part_cmp (next (next f)) b a) ((part_total f).antisymm a b) h
-      (λ e. ap (λ g. is_lt (ordering_then (part_cmp (next f) b a) (ordering_then (part_cmp (next (next f)) b a) (part_cmp g b a)))) (sym (round f)) ∙ k e)
-
-  found_up : (a b : Option Triple) → is_lt (found_cmp (part_cmp f) b a) ≡ false → (is_lt (found_cmp (part_cmp f) a b) ≡ false → is_lt (found_cmp (order_cmp (next f)) b a) ≡ false)
-      → is_lt (found_cmp (order_cmp f) b a) ≡ false
-  found_up None None h k = refl
-  found_up None (Some b) h k = refl
-  found_up (Some a) None h k = absurd (cc)
-  found_up (Some a) (Some b) h k =
-      ap is_lt (both_found (order_cmp f) b a)
-      ∙ both_up a b (ap is_lt (sym (both_found (part_cmp f) b a)) ∙ h) (λ e. ap is_lt (sym (both_found (order_cmp (next f)) b a)) ∙ k (ap is_lt (both_found (part_cmp f) a b) ∙ e))
-
-  pub part_ranks : (graph : List Triple) → IsStrictWeakOrder (below (part_cmp f) graph)
-  part_ranks graph = ranks_by (on_total (slice_get graph) (found_total (part_total f))) (λ x. x)
-
-  order_ranks : (graph : List Triple) → IsStrictWeakOrder (below (order_cmp f) graph)
-  order_ranks graph = ranks_by (on_total (slice_get graph) (found_total (order_total f))) (λ x. x)
-
-  -- places of triples in order rise by it
-  rise : (graph ts : List Triple) (xs : List ℕ) → Ascends (order_cmp f) (order_total f) ts → map (slice_get graph) xs ≡ map Some ts → IsSortedBy (below (order_cmp f) graph) xs
-  rise graph ts xs h e k d low high =
-      let same : length xs ≡ length ts = place_count graph xs ts e in
-      let here = place_is_or ts graph xs k d e (omega (arith, high)) in
-      let behind = place_is_or ts graph xs (k + 1) d e high in
-      sym (λ i. is_lt (found_cmp (order_cmp f) (behind i) (here i)))
-      ∙ goes_up f ts h k (k + 1) (omega arith) (omega (arith, high, same))
-
-  neither : (lt : ℕ → ℕ → Bool) (a b : ℕ) → lt a b ≡ false → lt b a ≡ false → ties lt a b ≡ true
-  neither lt a b h k = cc
-
--- places in the order that ends with a part, sorted by this part alone so that those that tie keep their order, are in the order that begins with it
-pub sorted_by_part : (f : Part) (graph : List Triple) (xs ys : List ℕ) → map (slice_get graph) xs ≡ map Some (sorted_by (order_cmp (next f)) graph)
-    → IsSortedBy (below (part_cmp f) graph) ys → IsStableBy (below (part_cmp f) graph) xs ys → IsPermutation xs ys → map (slice_get graph) ys ≡ map Some (sorted_by (order_cmp f) graph)
-sorted_by_part f graph xs ys e up stable p =
-    let before : IsSortedBy (below (order_cmp (next f)) graph) xs = rise (next f) graph (sorted_by (order_cmp (next f)) graph) xs (sorted_ascends (order_cmp (next f)) (order_total (next f)) graph) e in
-    places_in_order f graph (sorted_by (order_cmp (next f)) graph) xs ys e
-    (λ k d low high. found_up f (slice_get graph (get_or ys k d)) (slice_get graph (get_or ys (k + 1) d)) (up k d low high)
-    (λ g. ties_stay_sorted (below (order_cmp (next f)) graph) (below (part_cmp f) graph) (order_ranks (next f) graph) (part_ranks f graph) xs ys before stable k d high
-    (neither f (below (part_cmp f) graph) (get_or ys k d) (get_or ys (k + 1) d) g (up k d low high))))
-    p
-    ∙ ap (map Some) (sorted_twice (order_cmp (next f)) (order_cmp f) (order_total f) (exact f) graph)

@@ -24,7 +24,7 @@ use Rattle.fx_store.specs.declared.orders.Part.TheVariants.{Subject, Predicate, 
 use Rattle.fx_store.specs.declared.lookups.End.{End}
 use Rattle.fx_store.specs.declared.lookups.End.TheVariants.{First, Last}
 use Rattle.fx_store.proofs.PlaceLemmas.{order_total, exact}
-use Rattle.fx_store.proofs.SortLemmas.{all_pass, count_sorted, length_sorted, kept_in_order, sorted_back}
+use Rattle.fx_store.proofs.SortLemmas.{count_sorted, length_sorted, kept_in_order, sorted_back}
 
 -- ---- the graph's own order
 
@@ -44,13 +44,6 @@ pub graph_ascends : (xs : List Triple) → IsStrictlySortedBy triple_cmp xs → 
 unfolding IsStrictlySortedBy
 graph_ascends [] h = tt
 graph_ascends (x ∷ xs) h = (all_up x xs h.0, graph_ascends xs h.1)
-
--- a graph is in its own order
-pub own_sorted : (xs : List Triple) → IsStrictlySortedBy triple_cmp xs → sorted_by (order_cmp Subject) xs ≡ xs
-own_sorted xs h =
-    sym (all_pass (sorted_by (order_cmp Subject) xs))
-    ∙ kept_in_order (order_cmp Subject) triple_cmp (order_total Subject) (λ x. true) (λ x y p q e. ap is_le (own_order x y ∙ e)) xs h
-    ∙ all_pass xs
 
 pub ascends : (order : ℕ) (graph : List Triple) → IsStrictlySortedBy triple_cmp graph → Ascends (order_cmp (first_of order)) (order_total (first_of order)) (in_order order graph)
 ascends zero graph h = graph_ascends graph h

@@ -141,13 +141,3 @@ module _ {X : Type 0} (R S : X → X → Ordering) (o : IsTotalOrder S) (q : X �
       (sorted_ascends S o (filter q (sorted_by R xs)))
       (ascends_kept xs up)
       (λ z. sorted_times S o z (filter q (sorted_by R xs)) ∙ as_often z xs)
-
--- what was sorted by another order before is sorted as it was at first
-pub sorted_twice : {X : Type 0} (R S : X → X → Ordering) (o : IsTotalOrder S) → ((a b : X) → S a b ≡ Equal → a ≡ b) → (xs : List X) → sorted_by S (sorted_by R xs) ≡ sorted_by S xs
-sorted_twice R S o exact xs =
-    one_list S o (λ x. Unit {0}) (λ a b u v e. exact a b e)
-    (sorted_by S (sorted_by R xs)) (sorted_by S xs)
-    (none_asked R S o (λ x. true) _) (none_asked R S o (λ x. true) _)
-    (sorted_ascends S o (sorted_by R xs))
-    (sorted_ascends S o xs)
-    (λ z. sorted_times S o z (sorted_by R xs) ∙ ap (times S o z) (sym (all_pass (sorted_by R xs))) ∙ as_often R S o (λ x. true) z xs ∙ ap (times S o z) (all_pass xs) ∙ sym (sorted_times S o z xs))

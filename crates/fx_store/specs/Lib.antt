@@ -1,4 +1,5 @@
 pub mod Examples
 pub mod Lookups
 pub mod Orders
+pub mod Ranks
 pub mod Stores

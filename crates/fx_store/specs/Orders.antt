@@ -1,6 +1,7 @@
 -- The three orders of a graph's triples.
 use Rattle.std.specs.Prelude.{◌≡◌, ◌≤◌, ◌<◌, ◌-◌, ℕ, zero, suc, List, Option, Some, map, length, take, drop, All}
 use Rattle.std.specs.List.{slice_get}
+use Rattle.std.specs.List.Sorted.{IsPermutation}
 use Rattle.std.specs.Option.{option_to_list}
 use Rattle.std.specs.declared.cmp.Ordering.{Ordering}
 use Rattle.std.specs.Ordering.{on, then_cmp}
@@ -62,7 +63,11 @@ triples_of run graph = take (run.end - run.start) (drop run.start (in_order run.
 abbrev pub found_cmp : (Triple → Triple → Ordering) → Option Triple → Option Triple → Ordering
 found_cmp order = on option_to_list (slice_cmp order)
 
--- the places of a graph's triples, in an order
+-- the places of a graph's triples, each once
+pub record AreAll (graph : List Triple) (places : List ℕ) : Type 0 where
+  pub each : IsPermutation (map Some graph) (map (slice_get graph) places)
+
+-- the same in an order
 pub record AreInOrder (order : Triple → Triple → Ordering) (graph : List Triple) (places : List ℕ) : Type 0 where
   pub all : length places ≡ length graph
   pub sorted : map (slice_get graph) places ≡ map Some (sorted_by order graph)

@@ -4,6 +4,7 @@
 mod evaluation;
 mod lookups;
 pub mod orders;
+mod ranks;
 pub mod stores;
 
 use fx_terms::shareable;

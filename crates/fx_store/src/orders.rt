@@ -7,6 +7,7 @@ ghost use Rattle.fx_algebra.specs.Sequences.{sorted_by};
 ghost use Rattle.fx_store.specs.Orders as spec;
 ghost use Rattle.fx_store.specs.declared.orders.Part.TheVariants.{Subject as BySubject};
 
+use crate::ranks::ranked_places;
 use fx_terms::{Graph, Memory, Triple};
 use std::alloc::Global;
 use std::cmp::Ordering;
@@ -93,10 +94,9 @@ impl Orders {
     pub fn of(alloc: Global, graph: Graph) -> Result<Orders, Memory>
         ensures { IfOk result (λ orders. orders ≡ graph) }
     {
-        let by_subject = own_places(alloc, &graph)?;
-        let by_object = places_by(graph.triples(), Part::Object, by_subject)?;
-        let places = Vec::from_slice(alloc, by_object.as_slice())?;
-        let by_predicate = places_by(graph.triples(), Part::Predicate, places)?;
+        let (by_predicate, by_object) = ranked_places(alloc, graph.triples())?;
+        let by_predicate = places_by(graph.triples(), Part::Predicate, by_predicate)?;
+        let by_object = places_by(graph.triples(), Part::Object, by_object)?;
         Ok(Orders {
             graph,
             by_predicate,
@@ -188,43 +188,24 @@ fn place_at(triples: &[Triple], _first: Part, places: &[usize], place: usize) ->
     places[place]
 }
 
-// The places of triples in the order that begins with a part, from those in the order that ends with it. The sort keeps the order of
-// those that tie, so it looks at this part alone.
+// The places of all triples, in the order that begins with a part. It is fast where they stand in long runs that rise by it.
 fn places_by(triples: &[Triple], first: Part, mut places: Vec<usize>) -> Result<Vec<usize>, Memory>
-    requires { spec.AreInOrder (spec.order_cmp (spec.next first)) triples.now places.items }
+    requires { spec.AreAll triples.now places.items }
     ensures { IfOk result (λ sorted. spec.AreInOrder (spec.order_cmp first) triples.now sorted.items) }
 {
     places.sort_by(|left, right| compare_at(triples, first, *left, *right))?;
     Ok(places)
 }
 
-// The places of a graph's triples in its own order.
-fn own_places(alloc: Global, graph: &Graph) -> Result<Vec<usize>, Memory>
-    ensures { IfOk result (λ places. spec.AreInOrder (spec.order_cmp BySubject) graph.now places.items) }
+/// How the triples at two places stand in the order that begins with a part. A place without a triple comes first.
+pub(crate) fn compare_at(triples: &[Triple], first: Part, left: usize, right: usize) -> Ordering
+    ensures { result ≡ spec.found_cmp (spec.order_cmp first) (slice_get triples.now left) (slice_get triples.now right) }
 {
-    let places = all_places(alloc, graph.triples())?;
-    Ok(places)
+    compare_found(first, triples.get(left), triples.get(right))
 }
 
-fn all_places(alloc: Global, triples: &[Triple]) -> Result<Vec<usize>, Memory>
-    ensures all { IfOk result (λ places. length places.items ≡ length triples.now) }
-    ensures found { IfOk result (λ places. map (slice_get triples.now) places.items ≡ map Some triples.now) }
-{
-    let mut places = Vec::with_capacity(alloc, triples.len())?;
-    for place in 0..triples.len() {
-        places.push(place)?;
-    }
-    Ok(places)
-}
-
-fn compare_at(triples: &[Triple], part: Part, left: usize, right: usize) -> Ordering
-    ensures { result ≡ spec.found_cmp (spec.part_cmp part) (slice_get triples.now left) (slice_get triples.now right) }
-{
-    compare_found(part, triples.get(left), triples.get(right))
-}
-
-fn compare_found(part: Part, left: Option<&Triple>, right: Option<&Triple>) -> Ordering
-    ensures { result ≡ spec.found_cmp (spec.part_cmp part) (option_copied left.entry) (option_copied right.entry) }
+fn compare_found(first: Part, left: Option<&Triple>, right: Option<&Triple>) -> Ordering
+    ensures { result ≡ spec.found_cmp (spec.order_cmp first) (option_copied left.entry) (option_copied right.entry) }
 {
     match left {
         None => match right {
@@ -233,8 +214,29 @@ fn compare_found(part: Part, left: Option<&Triple>, right: Option<&Triple>) -> O
         },
         Some(x) => match right {
             None => Ordering::Greater,
-            Some(y) => compare_part(part, x, y),
+            Some(y) => compare_triples(first, x, y),
         },
+    }
+}
+
+// By a part, and then by the two behind it.
+fn compare_triples(first: Part, left: &Triple, right: &Triple) -> Ordering
+    ensures { result ≡ spec.order_cmp first left.now right.now }
+{
+    match compare_part(first, left, right) {
+        Ordering::Less => Ordering::Less,
+        Ordering::Greater => Ordering::Greater,
+        Ordering::Equal => compare_behind(next(first), left, right),
+    }
+}
+
+fn compare_behind(second: Part, left: &Triple, right: &Triple) -> Ordering
+    ensures { result ≡ spec.two_cmp second left.now right.now }
+{
+    match compare_part(second, left, right) {
+        Ordering::Less => Ordering::Less,
+        Ordering::Greater => Ordering::Greater,
+        Ordering::Equal => compare_part(next(second), left, right),
     }
 }
 

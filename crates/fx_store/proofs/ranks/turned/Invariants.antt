@@ -1,0 +1,6 @@
+use Rattle.std.proofs.Common.{◌≡◌, take}
+use Rattle.fx_store.specs.Ranks as spec
+use Rattle.fx_store.proofs.ranks.turned.Given as goal
+
+abbrev pub invariant-loop-one : goal.invariant-loop-one
+invariant-loop-one l = spec.places_of l.all.items ≡ spec.places_of (take l.one-index l.ranked)
