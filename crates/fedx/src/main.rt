@@ -8,6 +8,8 @@ use fx_commands::{CommandError, Refusal, Status, run, write_refusal};
 use fx_outside::{Folder, Listener, StdSink};
 use fx_wire::TcpWire;
 use std::process::ExitCode;
+use std::sync::Wait;
+use std::thread::Threads;
 use std::{env, io};
 
 // The most requests that may be under way at once.
@@ -15,16 +17,20 @@ const WIRES: usize = 16;
 
 fn main(rt: HostRuntime) -> io::Result<ExitCode> {
     let status = match words(&rt) {
-        Ok(words) => run_words(&rt, words.as_slice())?,
+        Ok(words) => run_words(&rt, &rt, words.as_slice())?,
         // No command has a word that can't be read, so it is answered as no words are.
-        Err(CommandError::Usage) => run_words(&rt, &[])?,
+        Err(CommandError::Usage) => run_words(&rt, &rt, &[])?,
         Err(CommandError::Memory) => no_memory(&rt),
     };
     Ok(ExitCode::from(status.code()))
 }
 
-// Runs the command over the system's files, network and streams.
-fn run_words(rt: &HostRuntime, words: &[String]) -> io::Result<Status> {
+// Runs the command over the system's files, network and streams, with threads for its workers.
+fn run_words<R: Threads + Wait + Sync>(
+    threads: &R,
+    rt: &HostRuntime,
+    words: &[String],
+) -> io::Result<Status> {
     let for_files = rt.clone()?;
     let for_door = rt.clone()?;
     let mut files = Folder::new(rt.alloc(), for_files);
@@ -33,7 +39,7 @@ fn run_words(rt: &HostRuntime, words: &[String]) -> io::Result<Status> {
     let mut out = StdSink::new(rt.stdout());
     let mut err = StdSink::new(rt.stderr());
     Ok(run(
-        rt,
+        threads,
         rt.alloc(),
         words,
         &mut files,

@@ -6,7 +6,9 @@ use fx_wire::TcpWire;
 use std::alloc::Global;
 use std::io::{Read, Write};
 use std::net::{Ipv4Addr, SocketAddr, TcpListener};
+use std::sync::Wait;
 use std::test::Fail;
+use std::thread::Threads;
 use std::time::Duration;
 use std::{io, thread};
 
@@ -51,8 +53,8 @@ fn answer_at_length(listener: &TcpListener) -> io::Result<()> {
 }
 
 // How `query` over one endpoint at a port ends, by its code, and its line. It writes nothing else.
-fn query_over(
-    rt: &HostRuntime,
+fn query_over<R: Threads + Wait + Sync>(
+    rt: &R,
     alloc: Global,
     port: u16,
     wire: TcpWire<HostRuntime>,
