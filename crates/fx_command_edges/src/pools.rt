@@ -1,5 +1,5 @@
 //! Jobs over several wires at once.
-ghost use Rattle.std.specs.Prelude.{◌≡◌, ◌<◌, ◌≤◌, All, IsTrue, length, true};
+ghost use Rattle.std.specs.Prelude.{◌≡◌, ◌<◌, All, IsTrue, length, true};
 ghost use Rattle.fx_outside.specs.Endpoints.{is_sendable};
 
 use fx_outside::Endpoint;
@@ -7,11 +7,21 @@ use fx_pool::{Job, JobReply, RequestText, Work, run_jobs};
 use fx_terms::Iri;
 use fx_wire::{Wire, WireError};
 use std::alloc::Global;
+use std::sync::Wait;
 use std::sync::atomic::{AtomicU64, Ordering};
 use std::test::Fail;
+use std::thread::Threads;
 
 const YES: &str =
     "HTTP/1.1 200 OK\r\nContent-Type: application/sparql-results+json\r\n\r\n{\"head\":{},\"boolean\":true}";
+
+// What the four jobs ask.
+const TEXTS: [&str; 4] = [
+    "ASK { ?a ?b 0 }",
+    "ASK { ?a ?b 1 }",
+    "ASK { ?a ?b 2 }",
+    "ASK { ?a ?b 3 }",
+];
 
 // How many turns the slow exchange looks for the others.
 const TURNS: u32 = 200_000_000;
@@ -70,39 +80,41 @@ fn have_ended(ended: &AtomicU64) -> bool {
 // the job that it does first waits, and one that gives each worker two fixed jobs fails where the first of a worker's waits.
 #[test]
 fn two_wires_at_once(rt: HostRuntime) -> Result<(), Fail> {
-    let texts = [
-        "ASK { ?a ?b 0 }",
-        "ASK { ?a ?b 1 }",
-        "ASK { ?a ?b 2 }",
-        "ASK { ?a ?b 3 }",
-    ];
-    for slow in texts {
-        let alloc = rt.alloc();
-        let ended = AtomicU64::new(0);
-        let mut wires = Vec::new(alloc);
-        for _ in 0..2 {
-            wires.push(MeetingWire {
-                ended: &ended,
-                slow,
-                faults: 0,
-            })?;
-        }
-        let endpoints = vec![in alloc; endpoint(alloc)?]?;
-        let jobs = jobs(alloc, &texts)?;
-        assert!(rt; wires.len() == 2 && jobs.len() == 4 && endpoints.len() == 1);
-        assert!(rt; are_sendable(endpoints.as_slice()) && are_within(jobs.as_slice(), 1));
-        match run_jobs(
-            &rt,
-            alloc,
-            endpoints.as_slice(),
-            jobs.as_slice(),
-            wires.as_mut_slice(),
-        ) {
-            Ok(replies) => assert!(rt; replies.iter().all(is_yes)),
-            Err(_) => return Err("no memory".into()),
-        }
+    for slow in TEXTS {
+        let met = all_are_answered(&rt, rt.alloc(), slow)?;
+        assert!(rt; met);
     }
     Ok(())
+}
+
+// Whether two wires answer all jobs, where that of this text waits for the others.
+fn all_are_answered<R: Threads + Wait + Sync>(
+    rt: &R,
+    alloc: Global,
+    slow: &str,
+) -> Result<bool, Fail> {
+    let ended = AtomicU64::new(0);
+    let endpoints = vec![in alloc; endpoint(alloc)?]?;
+    let jobs = jobs(alloc, &TEXTS)?;
+    let mut wires = [wire(&ended, slow), wire(&ended, slow)];
+    if !are_sendable(endpoints.as_slice()) || !are_within(jobs.as_slice(), endpoints.len()) {
+        return Ok(false);
+    }
+    if jobs.len() > 4 {
+        return Ok(false);
+    }
+    let Ok(replies) = run_jobs(rt, alloc, endpoints.as_slice(), jobs.as_slice(), &mut wires) else {
+        return Err("no memory".into());
+    };
+    Ok(replies.len() == 4 && replies.iter().all(is_yes))
+}
+
+fn wire<'a>(ended: &'a AtomicU64, slow: &'a str) -> MeetingWire<'a> {
+    MeetingWire {
+        ended,
+        slow,
+        faults: 0,
+    }
 }
 
 fn is_yes(reply: &JobReply) -> bool {
