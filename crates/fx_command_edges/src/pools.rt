@@ -67,7 +67,7 @@ impl Wire for MeetingWire<'_> {
 }
 
 // Whether the three other exchanges are seen to have ended.
-fn have_ended(ended: &AtomicU64) -> bool {
+pub(crate) fn have_ended(ended: &AtomicU64) -> bool {
     for _ in 0..TURNS {
         if ended.load(Ordering::SeqCst) >= 3 {
             return true;

@@ -65,7 +65,7 @@ fn query_over<R: Threads + Wait + Sync>(
     let mut door = closed_door(alloc)?;
     let mut out = MemorySink::new(alloc, 100, 100, Vec::new(alloc))?;
     let mut line = MemorySink::new(alloc, 100, 100, Vec::new(alloc))?;
-    let words = words(alloc)?;
+    let words = words(alloc, &["query", "members.txt", "all.rq"])?;
     let status = run(
         rt,
         alloc,
@@ -82,17 +82,17 @@ fn query_over<R: Threads + Wait + Sync>(
     Ok((status.code(), line))
 }
 
-// The words of the command.
-fn words(alloc: Global) -> Result<Vec<String>, Fail> {
+// The words of a command.
+pub(crate) fn words(alloc: Global, all: &[&str]) -> Result<Vec<String>, Fail> {
     let mut words = Vec::new(alloc);
-    for word in ["query", "members.txt", "all.rq"] {
+    for word in all {
         words.push(String::from_str(alloc, word)?)?;
     }
     Ok(words)
 }
 
-// The files of the command.
-fn files(alloc: Global, registry: &str, query: &str) -> Result<MemoryFiles, Fail> {
+// The files of a command.
+pub(crate) fn files(alloc: Global, registry: &str, query: &str) -> Result<MemoryFiles, Fail> {
     let mut files = Vec::new(alloc);
     for (name, content) in [("members.txt", registry), ("all.rq", query)] {
         let mut bytes = Vec::new(alloc);
@@ -103,7 +103,7 @@ fn files(alloc: Global, registry: &str, query: &str) -> Result<MemoryFiles, Fail
 }
 
 // A door at which nobody comes in.
-fn closed_door(alloc: Global) -> Result<MemoryDoor, Fail> {
+pub(crate) fn closed_door(alloc: Global) -> Result<MemoryDoor, Fail> {
     let (inputs, fails) = (Vec::new(alloc), Vec::new(alloc));
     Ok(MemoryDoor::new(alloc, inputs, 0, 1, fails, Vec::new(alloc), Vec::new(alloc))?)
 }

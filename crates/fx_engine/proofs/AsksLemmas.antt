@@ -26,7 +26,7 @@ use Rattle.fx_pool.specs.declared.jobs.JobReply.TheVariants as reply
 use Rattle.fx_pool.proofs.WireLemmas.{after_itself}
 use Rattle.fx_engine.specs.AskSteps.{AreTruthsOf, IsRefused, job_of}
 use Rattle.fx_engine.specs.Asks.{AskedAll, HasProbeCause, IsAnsweredBy, IsAskCause, IsAskRead, IsProbeCause}
-use Rattle.fx_engine.proofs.WiresLemmas.{AllTell, all_after, gained_both, still_tell, still_tell_all}
+use Rattle.fx_pool.proofs.WiresLemmas.{AllTell, all_after, gained_both, still_tell, still_tell_all}
 use Rattle.fx_engine.proofs.ProbeLemmas.{AllAmong, all_answered, all_read, all_told, among_probes, as_many, asks_sent, cause, done_at, failed_counts, no_failures}
 
 module _ (tells alone : Bool) (es : List EndpointParts) where

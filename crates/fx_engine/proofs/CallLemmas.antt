@@ -18,7 +18,7 @@ use Rattle.fx_engine.specs.declared.mediator.DownCause.TheVariants as cause
 use Rattle.fx_engine.specs.declared.services.ServiceError.{ServiceError}
 use Rattle.fx_engine.specs.declared.services.ServiceError.TheVariants as error
 use Rattle.fx_engine.proofs.ChoiceLemmas.{found_here}
-use Rattle.fx_engine.proofs.WiresLemmas.{AllTell, all_after, gained_both, still_tell}
+use Rattle.fx_pool.proofs.WiresLemmas.{AllTell, all_after, gained_both, still_tell}
 
 -- ---- none
 

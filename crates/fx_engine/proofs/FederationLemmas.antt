@@ -47,7 +47,7 @@ use Rattle.fx_engine.proofs.ChoiceLemmas.{has_kept, has_learned, parts_are_by_gr
 use Rattle.fx_engine.proofs.MediationLemmas.{kept_true, known_named, learned_true, stays}
 use Rattle.fx_engine.proofs.RunsSentLemmas.{AreCalled, sent_by_all}
 use Rattle.fx_engine.proofs.StationLemmas.{no_run_sent}
-use Rattle.fx_engine.proofs.WiresLemmas.{AllTell, all_after, gained_both, still_tell_all}
+use Rattle.fx_pool.proofs.WiresLemmas.{AllTell, all_after, gained_both, still_tell_all}
 
 -- no ASK is asked
 pub none_asked : (es : List EndpointParts) (q : Query) (old : List Entry) → AreAsked es q old []

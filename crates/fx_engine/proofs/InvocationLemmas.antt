@@ -17,7 +17,7 @@ use Rattle.fx_engine.specs.declared.mediator.DownCause.TheVariants as cause
 use Rattle.fx_engine.specs.declared.services.ServiceError.{ServiceError}
 use Rattle.fx_engine.specs.declared.services.ServiceError.TheVariants as error
 use Rattle.fx_engine.proofs.CallLemmas.{call_of, called_behind, came_by, none_called, one_called}
-use Rattle.fx_engine.proofs.WiresLemmas.{AllTell}
+use Rattle.fx_pool.proofs.WiresLemmas.{AllTell}
 
 -- what is down of some behind others
 pub down_behind : (n : ℕ) (calls more : List Call) → down_from n (calls ++ more) ≡ down_from n calls ++ down_from (n + length calls) more

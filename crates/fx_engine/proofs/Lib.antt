@@ -35,7 +35,6 @@ pub mod RunRowsLemmas
 pub mod EndLemmas
 pub mod AlternativesLemmas
 pub mod FilterLemmas
-pub mod WiresLemmas
 pub mod TruthLemmas
 pub mod AskTextLemmas
 pub mod ProbeLemmas

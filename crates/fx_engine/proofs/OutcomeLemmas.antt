@@ -40,7 +40,7 @@ use Rattle.fx_engine.specs.declared.tasks.Task.{Task}
 use Rattle.fx_engine.proofs.DownLemmas.{down_at, has_gone}
 use Rattle.fx_engine.proofs.HandLemmas.{Fits, at_hand, calls_fit}
 use Rattle.fx_engine.proofs.TaskLemmas.{AreAtHand, tasks_are_planned}
-use Rattle.fx_engine.proofs.WiresLemmas.{AllTell, all_after, gained_both, still_tell_all}
+use Rattle.fx_pool.proofs.WiresLemmas.{AllTell, all_after, gained_both, still_tell_all}
 
 -- the front of a list
 in_front : {X : Type 0} (xs ys : List X) (i : ℕ) (x : X) → slice_get xs i ≡ Some x → slice_get (xs ++ ys) i ≡ Some x

@@ -46,7 +46,7 @@ use Rattle.fx_engine.proofs.ChoiceLemmas.{found_here, get_below}
 use Rattle.fx_engine.proofs.KnownLemmas.{plain_is_known}
 use Rattle.fx_engine.proofs.OutcomeLemmas.{its_answer, outcomed}
 use Rattle.fx_engine.proofs.StationLemmas.{no_run_sent}
-use Rattle.fx_engine.proofs.WiresLemmas.{AllTell}
+use Rattle.fx_pool.proofs.WiresLemmas.{AllTell}
 
 -- what was asked for where it came to a refusal
 abbrev pub refused_as_told : List EndpointParts → Query → List Part → List (List Bindings) → ℕ → Bool → Bool → List Seen → List Seen → RowsError → Type 0

@@ -201,7 +201,7 @@ module _ (tells alone : Bool) (before after : List Seen) (endpoints : List Endpo
       run_asked found h = record {
         exchanges = h.exchanges;
         failed = h.failed;
-        once = h.once;
+        few = h.few;
         unfailed = h.unfailed;
         went = record { gained = h.gained; after_all = h.after_all; counted = h.counted };
         wanted = h.wanted;
@@ -226,7 +226,7 @@ module _ (tells alone : Bool) (before after : List Seen) (endpoints : List Endpo
       run_refused why h = record {
         exchanges = h.exchanges;
         failed = h.failed;
-        once = h.once;
+        few = h.few;
         unfailed = tt;
         went = record { gained = h.gained; after_all = h.after_all; counted = h.counted };
         wanted = h.wanted;

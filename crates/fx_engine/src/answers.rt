@@ -17,10 +17,13 @@ use fx_solutions::{answer_of_rows, inline_rows, join_with};
 use fx_terms::{Items, Memory};
 use fx_wire::Wire;
 use std::alloc::Global;
+use std::sync::Wait;
+use std::thread::Threads;
 
 /// The answer of a query over the union of the endpoints' graphs, by the parts of its plan and the rows of its occurrences of SERVICE, both in text
 /// order. Where there are fewer of these, the others were refused. The cause of a refusal is that of `answer_by_plan`.
-pub(crate) fn answer_with<W: Wire + Send>(
+pub(crate) fn answer_with<R: Threads + Wait + Sync, W: Wire + Send>(
+    rt: &R,
     alloc: Global,
     query: &Query,
     plan: Vec<Part>,
@@ -37,13 +40,14 @@ pub(crate) fn answer_with<W: Wire + Send>(
 {
     match tasks_of(alloc, plan, found) {
         Err(Memory) => Err(RowsError::Flow(FlowError::Memory)),
-        Ok(tasks) => answer_by_plan(alloc, query, tasks.as_slice(), endpoints, block, wires),
+        Ok(tasks) => answer_by_plan(rt, alloc, query, tasks.as_slice(), endpoints, block, wires),
     }
 }
 
 /// The answer of a query over the union of the endpoints' graphs, by its tasks, in text order. The cause of a refusal is that of a batch of one of the
 /// tasks' units, or an occurrence of SERVICE was refused.
-pub(crate) fn answer_by_plan<W: Wire + Send>(
+pub(crate) fn answer_by_plan<R: Threads + Wait + Sync, W: Wire + Send>(
+    rt: &R,
     alloc: Global,
     query: &Query,
     tasks: &[Task],
@@ -59,6 +63,7 @@ pub(crate) fn answer_by_plan<W: Wire + Send>(
 {
     let mut next = 0;
     match group_rows(
+        rt,
         alloc,
         &query.group,
         tasks,

@@ -20,6 +20,8 @@ use fx_solutions::{extend, filter, inline_rows, join, join_with, left_join_with,
 use fx_terms::{Memory, Name};
 use fx_wire::Wire;
 use std::alloc::Global;
+use std::sync::Wait;
+use std::thread::Threads;
 
 /// The rows of a group over the union of the endpoints' graphs, in some order.
 ///
@@ -31,7 +33,8 @@ use std::alloc::Global;
 ///
 /// The cause of a refusal is that of a batch of one of the tasks' units, or an occurrence of SERVICE was refused. No later run is asked for then.
 #[cycle(rows)]
-pub(crate) fn group_rows<W: Wire + Send>(
+pub(crate) fn group_rows<R: Threads + Wait + Sync, W: Wire + Send>(
+    rt: &R,
     alloc: Global,
     group: &Group,
     tasks: &[Task],
@@ -46,7 +49,7 @@ pub(crate) fn group_rows<W: Wire + Send>(
     requires asked { All (CanBeAsked (length endpoints.now)) tasks.now }
     ensures { Asked W.tells_log W.counts_alone (map W.seen wires.old) (map W.seen wires.new) endpoints.now tasks.now block (spec.GroupGiven endpoints.now block tasks.now next.old next.new group.now) (spec.GroupDue endpoints.now block tasks.now next.old group.now) (solutions_in result) }
 {
-    match unfiltered(alloc, group, tasks, next, endpoints, block, wires) {
+    match unfiltered(rt, alloc, group, tasks, next, endpoints, block, wires) {
         Err(error) => Err(error),
         Ok(rows) => filtered(alloc, group, rows),
     }
@@ -54,7 +57,8 @@ pub(crate) fn group_rows<W: Wire + Send>(
 
 // The rows of a group before its filters, less some that these refuse.
 #[cycle(rows)]
-fn unfiltered<W: Wire + Send>(
+fn unfiltered<R: Threads + Wait + Sync, W: Wire + Send>(
+    rt: &R,
     alloc: Global,
     group: &Group,
     tasks: &[Task],
@@ -75,6 +79,7 @@ fn unfiltered<W: Wire + Send>(
     let mut in_run = false;
     for element in group.elements.as_slice() {
         match after_element(
+            rt,
             alloc,
             element,
             rows,
@@ -89,12 +94,13 @@ fn unfiltered<W: Wire + Send>(
             Ok(found) => rows = found,
         }
     }
-    end_run(alloc, rows, in_run, tasks, next, endpoints, block, wires)
+    end_run(rt, alloc, rows, in_run, tasks, next, endpoints, block, wires)
 }
 
 // The rows behind an element, from those before it. A run that a triple pattern is in goes on until an operator comes, or the group ends.
 #[cycle(rows)]
-fn after_element<W: Wire + Send>(
+fn after_element<R: Threads + Wait + Sync, W: Wire + Send>(
+    rt: &R,
     alloc: Global,
     element: &Element,
     before: Vec<Solution>,
@@ -118,18 +124,19 @@ fn after_element<W: Wire + Send>(
     if keeps_run(element) {
         return Ok(before);
     }
-    match end_run(alloc, before, *in_run, tasks, next, endpoints, block, wires) {
+    match end_run(rt, alloc, before, *in_run, tasks, next, endpoints, block, wires) {
         Err(error) => Err(error),
         Ok(rows) => {
             *in_run = false;
-            after_operator(alloc, element, rows, tasks, next, endpoints, block, wires)
+            after_operator(rt, alloc, element, rows, tasks, next, endpoints, block, wires)
         }
     }
 }
 
 // The rows behind an operator, from those before it.
 #[cycle(rows)]
-fn after_operator<W: Wire + Send>(
+fn after_operator<R: Threads + Wait + Sync, W: Wire + Send>(
+    rt: &R,
     alloc: Global,
     element: &Element,
     before: Vec<Solution>,
@@ -149,10 +156,11 @@ fn after_operator<W: Wire + Send>(
         Element::Triple(_) => Ok(before),
         Element::Filter(_) => Ok(before),
         Element::Optional(group) => {
-            optional(alloc, group, before, tasks, next, endpoints, block, wires)
+            optional(rt, alloc, group, before, tasks, next, endpoints, block, wires)
         }
         Element::Union(groups) => {
             match alternatives(
+                rt,
                 alloc,
                 groups.as_slice(),
                 tasks,
@@ -166,7 +174,7 @@ fn after_operator<W: Wire + Send>(
             }
         }
         Element::Minus(group) => {
-            match group_rows(alloc, group, tasks, next, endpoints, block, wires) {
+            match group_rows(rt, alloc, group, tasks, next, endpoints, block, wires) {
                 Err(error) => Err(error),
                 Ok(found) => lessened(alloc, before.as_slice(), found),
             }
@@ -183,7 +191,8 @@ fn after_operator<W: Wire + Send>(
 
 // The rows behind an OPTIONAL, from those before it.
 #[cycle(rows)]
-fn optional<W: Wire + Send>(
+fn optional<R: Threads + Wait + Sync, W: Wire + Send>(
+    rt: &R,
     alloc: Global,
     group: &Group,
     before: Vec<Solution>,
@@ -200,9 +209,9 @@ fn optional<W: Wire + Send>(
     ensures { Asked W.tells_log W.counts_alone (map W.seen wires.old) (map W.seen wires.new) endpoints.now tasks.now block (spec.OperatorGiven endpoints.now block tasks.now next.old next.new (Element.Optional group.now) before.items) (spec.OperatorDue endpoints.now block tasks.now next.old (Element.Optional group.now) before.items) (solutions_in result) }
 {
     if is_simple(group) {
-        return optional_run(alloc, group, before, tasks, next, endpoints, block, wires);
+        return optional_run(rt, alloc, group, before, tasks, next, endpoints, block, wires);
     }
-    match unfiltered(alloc, group, tasks, next, endpoints, block, wires) {
+    match unfiltered(rt, alloc, group, tasks, next, endpoints, block, wires) {
         Err(error) => Err(error),
         Ok(found) => left_joined(alloc, before.as_slice(), found, group),
     }
@@ -210,7 +219,8 @@ fn optional<W: Wire + Send>(
 
 // The rows of groups, one after the other.
 #[cycle(rows)]
-fn alternatives<W: Wire + Send>(
+fn alternatives<R: Threads + Wait + Sync, W: Wire + Send>(
+    rt: &R,
     alloc: Global,
     groups: &[Group],
     tasks: &[Task],
@@ -227,7 +237,7 @@ fn alternatives<W: Wire + Send>(
 {
     let mut rows = Vec::new(alloc);
     for group in groups {
-        match group_rows(alloc, group, tasks, next, endpoints, block, wires) {
+        match group_rows(rt, alloc, group, tasks, next, endpoints, block, wires) {
             Err(error) => return Err(error),
             Ok(mut found) => {
                 if rows.append(&mut found).is_err() {
@@ -240,7 +250,8 @@ fn alternatives<W: Wire + Send>(
 }
 
 // The rows behind an OPTIONAL whose group is one run, which begins with the rows before it.
-fn optional_run<W: Wire + Send>(
+fn optional_run<R: Threads + Wait + Sync, W: Wire + Send>(
+    rt: &R,
     alloc: Global,
     group: &Group,
     before: Vec<Solution>,
@@ -262,6 +273,7 @@ fn optional_run<W: Wire + Send>(
         return filters_alone(alloc, before.as_slice(), group);
     }
     match after_run(
+        rt,
         alloc,
         before.as_slice(),
         tasks,
@@ -277,7 +289,8 @@ fn optional_run<W: Wire + Send>(
 
 // What comes of the run whose task is next, from these rows on: they are numbered from 0. Where one of its patterns has no source,
 // nothing does, and nothing is asked for.
-fn after_run<W: Wire + Send>(
+fn after_run<R: Threads + Wait + Sync, W: Wire + Send>(
+    rt: &R,
     alloc: Global,
     rows: &[Solution],
     tasks: &[Task],
@@ -299,7 +312,7 @@ fn after_run<W: Wire + Send>(
     *next += 1;
     match task {
         Task::Run { units } => {
-            match run_flow(alloc, endpoints, units.as_slice(), rows, block, wires) {
+            match run_flow(rt, alloc, endpoints, units.as_slice(), rows, block, wires) {
                 Err(error) => Err(RowsError::Flow(error)),
                 Ok(found) => Ok(found),
             }
@@ -311,7 +324,8 @@ fn after_run<W: Wire + Send>(
 }
 
 // The rows behind the run that ends here, if there is one.
-fn end_run<W: Wire + Send>(
+fn end_run<R: Threads + Wait + Sync, W: Wire + Send>(
+    rt: &R,
     alloc: Global,
     before: Vec<Solution>,
     in_run: bool,
@@ -332,6 +346,7 @@ fn end_run<W: Wire + Send>(
     }
     known_to_rise(before.as_slice());
     match after_run(
+        rt,
         alloc,
         before.as_slice(),
         tasks,

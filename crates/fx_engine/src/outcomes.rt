@@ -54,13 +54,14 @@ pub(crate) fn outcome_by_plan<R: Threads + Wait + Sync, W: Wire + Send>(
         down: Vec::new(alloc),
     };
     match invoke_group(rt, alloc, &query.group, registry, &mut invoked, wires) {
-        Ok(()) => answer_all(alloc, query, plan, invoked, registry, block, wires),
-        Err(error) => refuse(alloc, query, plan, invoked, error, registry, block, wires),
+        Ok(()) => answer_all(rt, alloc, query, plan, invoked, registry, block, wires),
+        Err(error) => refuse(rt, alloc, query, plan, invoked, error, registry, block, wires),
     }
 }
 
 // The outcome where each occurrence of SERVICE passed.
-fn answer_all<W: Wire + Send>(
+fn answer_all<R: Threads + Wait + Sync, W: Wire + Send>(
+    rt: &R,
     alloc: Global,
     query: &Query,
     plan: Vec<Part>,
@@ -78,7 +79,7 @@ fn answer_all<W: Wire + Send>(
     ensures { (start : List Seen) → AllTell W.tells_log start → AreInvoked W.tells_log W.counts_alone start (map W.seen wires.old) registry.now (occurrences query.now) [] invoked.down.items [] invoked.rows.items → spec.Outcomed W.tells_log W.counts_alone start (map W.seen wires.new) registry.now query.now plan.items block result }
 {
     let Invoked { rows, down } = invoked;
-    match answer_of_plan(alloc, query, plan, rows, registry, block, wires) {
+    match answer_of_plan(rt, alloc, query, plan, rows, registry, block, wires) {
         Ok(answer) => Ok(Outcome {
             answer,
             down: Items::from_vec(down),
@@ -89,7 +90,8 @@ fn answer_all<W: Wire + Send>(
 }
 
 // The refusal where an occurrence of SERVICE without SILENT has no rows: that of a run before it, or else its own.
-fn refuse<W: Wire + Send>(
+fn refuse<R: Threads + Wait + Sync, W: Wire + Send>(
+    rt: &R,
     alloc: Global,
     query: &Query,
     plan: Vec<Part>,
@@ -110,7 +112,7 @@ fn refuse<W: Wire + Send>(
         return Err(FedError::Memory);
     }
     let Invoked { rows, down: _ } = invoked;
-    match answer_of_plan(alloc, query, plan, rows, registry, block, wires) {
+    match answer_of_plan(rt, alloc, query, plan, rows, registry, block, wires) {
         Err(RowsError::Flow(first)) => Err(named(alloc, registry.endpoints(), first)),
         Err(RowsError::Refused) => Err(told(alloc, registry.endpoints(), error)),
         Ok(_) => Err(told(alloc, registry.endpoints(), error)),
@@ -118,7 +120,8 @@ fn refuse<W: Wire + Send>(
 }
 
 // The answer of a query by its plan, from these rows of its occurrences of SERVICE.
-fn answer_of_plan<W: Wire + Send>(
+fn answer_of_plan<R: Threads + Wait + Sync, W: Wire + Send>(
+    rt: &R,
     alloc: Global,
     query: &Query,
     plan: Vec<Part>,
@@ -132,7 +135,7 @@ fn answer_of_plan<W: Wire + Send>(
     requires asked { (found : List (List Bindings)) → All (CanBeAsked (length registry.now)) (tasks_with plan.items found) }
     ensures { Asked W.tells_log W.counts_alone (map W.seen wires.old) (map W.seen wires.new) registry.now (tasks_with plan.items rows.items) block (AnswerGiven registry.now block (tasks_with plan.items rows.items) query.now) (AnswerDue registry.now block (tasks_with plan.items rows.items) query.now) result }
 {
-    answer_with(alloc, query, plan, rows, registry.endpoints(), block, wires)
+    answer_with(rt, alloc, query, plan, rows, registry.endpoints(), block, wires)
 }
 
 fn is_lost(error: &ServiceError) -> bool

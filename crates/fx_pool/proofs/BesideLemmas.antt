@@ -38,7 +38,7 @@ module _ {X : Type 0} (P : X → Type 0) where
   pub back_all : (xs ys : List X) → All P (xs ++ ys) → All P ys
   back_all xs ys h = All-from_recursion P ys (of_back xs ys (recursion_from_All P (xs ++ ys) h))
 
-after_beside : (s t u v : List Seen) → AreAfter s t → AreAfter u v → AreAfter (s ++ u) (t ++ v)
+pub after_beside : (s t u v : List Seen) → AreAfter s t → AreAfter u v → AreAfter (s ++ u) (t ++ v)
 after_beside [] [] u v h k = k
 after_beside [] (y ∷ t) u v h k = absurd h
 after_beside (x ∷ s) [] u v h k = absurd h

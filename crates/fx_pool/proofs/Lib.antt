@@ -16,6 +16,12 @@ pub mod BatchLemmas
 pub mod MemberLemmas
 pub mod MembersLemmas
 pub mod AskLemmas
-pub mod StepLemmas
-pub mod UnitsLemmas
+pub mod CauseLemmas
+pub mod WiresLemmas
+pub mod LineLemmas
+pub mod ParcelLemmas
+pub mod EventLemmas
+pub mod CutLemmas
+pub mod PutLemmas
+pub mod FollowLemmas
 pub mod FlowLemmas

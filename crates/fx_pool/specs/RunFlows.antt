@@ -1,5 +1,5 @@
 -- What the units of a run, asked for over wires, give, and what that leaves of these.
-use Rattle.std.specs.Prelude.{◌≡◌, ◌<◌, ◌≤◌, ◌+◌, ℕ, Bool, List, IfOk, IfErr, IsTrue, All, Contains, IsPermutation, Some, Result, slice_get}
+use Rattle.std.specs.Prelude.{◌≡◌, ◌<◌, ◌≤◌, ◌+◌, ℕ, Bool, List, length, IfOk, IfErr, IsTrue, All, Contains, IsPermutation, Some, Result, slice_get}
 use Rattle.fx_terms.specs.declared.triples.Triple.{Triple}
 use Rattle.fx_outside.specs.Endpoints.{EndpointParts}
 use Rattle.fx_algebra.specs.Graphs.{union}
@@ -38,14 +38,14 @@ HasFlowCause before after endpoints us block wanted xs e = IsFlowCause before af
 
 -- The units of a run were asked for over wires, from these rows on: what these exchanged, one wire's part behind the other's, what was
 -- wanted of it, texts of batches of these units, and the rows behind the last unit: with rows each reply was read, without a fault. If wires count each
--- address alone, at most one fault was counted, and none with rows.
+-- address alone, at most one fault for each wire was counted, and none with rows.
 pub record RunFlowed (tells alone : Bool) (before after : List Seen) (endpoints : List EndpointParts) (us : List unit.Unit) (block : ℕ) (rows : List Row) (result : Result (List Row) FlowError) : Type 0 where
   pub exchanges : List Exchange
   pub gained : IsTrue tells → HaveGained before after exchanges
   pub honest : All (IsHonestOver before) exchanges
   pub after_all : AreAfter before after
   pub failed : ℕ
-  pub once : failed ≤ 1
+  pub few : failed ≤ length before
   pub unfailed : IfOk result (λ _. failed ≡ 0)
   pub counted : IsTrue alone → (address : List ℕ) → faults_at after address ≤ faults_at before address + failed
   pub wanted : List Sent

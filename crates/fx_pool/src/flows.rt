@@ -1,26 +1,39 @@
 //! The units of a run, asked for in batches.
-ghost use Rattle.std.specs.Prelude.{◌≡◌, ◌<◌, ◌≤◌, All, Contains, IfErr, IfOk, IsPermutation, IsTrue, List, [], true, length, map};
+ghost use Rattle.std.specs.Prelude.{◌≡◌, ◌↔◌, ◌<◌, ◌≤◌, All, Contains, IfErr, IfOk, IsPermutation, IsTrue, List, None, [], true, length, map};
+ghost use Rattle.crossbeam_queue.specs.SegTies.{IsSegPassOf};
 ghost use Rattle.fx_terms.specs.declared.triples.Triple.{Triple as TripleParts};
 ghost use Rattle.fx_algebra.specs.Graphs.{union};
 ghost use Rattle.fx_algebra.specs.Units.{step};
+ghost use Rattle.fx_algebra.specs.declared.units.Row.{Row as RowParts};
 ghost use Rattle.fx_spelling.specs.Units.{IsFit, IsSound};
 ghost use Rattle.fx_bound.specs.Answers.{AreReadOf, numbers};
 ghost use Rattle.fx_outside.specs.Endpoints.{is_sendable};
-ghost use Rattle.fx_pool.specs.Flows.{AskedBatch, AskedMember, AskedMembers, AskedStep, AskedUnits, lists_in, rows_in};
+ghost use Rattle.fx_pool.specs.Flows.{AskedBatch, AskedMember, AskedMembers, lists_in, rows_in};
 ghost use Rattle.fx_pool.specs.Flows as spec;
+ghost use Rattle.fx_pool.specs.Lines.{hand};
 ghost use Rattle.fx_pool.specs.RunFlows.{RunFlowed};
 ghost use Rattle.fx_steps.specs.Steps.{numbered};
+ghost use Rattle.fx_traffic.specs.Batches.{AreCut, IsSized};
 
+use crate::cutting::cut;
 use crate::faults::ReadError;
+use crate::flowing::flow_out;
+use crate::following::put_all;
+use crate::gates::Gate;
 use crate::jobs::{BadReply, JobKind};
+use crate::lines::{Line, Ticket, lined, waiting};
+use crate::parcels::Course;
 use crate::posting::{Posted, post};
 use crate::reading::read_found;
+use crate::steps::Step;
 use fx_algebra::{Row, Solution, Unit};
 use fx_bound::{Batch, Found, batch_text, unite};
 use fx_outside::Endpoint;
 use fx_terms::{Items, Memory};
 use fx_wire::Wire;
 use std::alloc::Global;
+use std::sync::Wait;
+use std::thread::Threads;
 
 /// Why there are no rows behind the units of a run. An endpoint is named by its number, from 0.
 #[derive(Drop)]
@@ -36,14 +49,17 @@ pub enum FlowError {
 }
 
 /// The rows behind the units of a run that begins with these solutions, numbered from 0, asked for over wires in batches of `block` rows at
-/// most. Today the first wire does all of it, unit after unit, batch after batch, member after member.
+/// most, by a worker for each wire. A worker that is free follows the next batch that waits: it asks the members of its unit for it, cuts the rows
+/// that these have into batches for the next unit, keeps one of them in hand and leaves the others to whoever is free. So no unit waits for another.
 ///
 /// Where the wires tell the graphs of all endpoints, and each unit is sound over these, the rows are those of the steps over their union, in
 /// some order: each merges a solution under its number with what the units' patterns have there. Where wires tell their logs, they gained texts
 /// of batches of the units; where they tell the graphs too, of batches of the rows that enter each unit, and no batch is sent to a member twice.
 /// What ends a run early is one of these: `Member`, an exchange with the endpoint failed, which its wire counted as a fault at its address;
 /// `BadReply`, with the first fault of what was replied; `RequestTooLong`, a text has more than 67,108,864 bytes, and wasn't sent; `Memory`.
-pub fn run_flow<W: Wire + Send>(
+/// Where several workers met one, the first of them in the order of the wires is answered.
+pub fn run_flow<R: Threads + Wait + Sync, W: Wire + Send>(
+    rt: &R,
     alloc: Global,
     endpoints: &[Endpoint],
     units: &[Unit],
@@ -59,17 +75,69 @@ pub fn run_flow<W: Wire + Send>(
     requires within { All (λ u. All (λ at. at < length endpoints.now) u.members) units.now }
     ensures { RunFlowed W.tells_log W.counts_alone (map W.seen wires.old) (map W.seen wires.new) endpoints.now units.now block (numbered 0 rows.now) (rows_in result) }
 {
-    match number(alloc, rows) {
-        Err(Memory) => Err(FlowError::Memory),
-        Ok(first) => ask_units(
-            alloc,
-            &mut wires[0],
-            endpoints,
-            units,
-            first,
-            block as usize,
-        ),
+    let course = Course {
+        units: units.len() as u64,
+        block: block as u64,
+    };
+    let Ok(first) = first_batches(alloc, rows, course) else {
+        return Err(FlowError::Memory);
+    };
+    if is_none(first.as_slice()) {
+        return Ok(Vec::new(alloc));
     }
+    let Ok((line, mut me)) = lined(alloc) else {
+        return Err(FlowError::Memory);
+    };
+    let found = all_rows(
+        rt, alloc, &line, &mut me, course, first, endpoints, units, wires,
+    );
+    line.destroy();
+    found
+}
+
+// The batches that enter the first unit.
+fn first_batches(
+    alloc: Global,
+    rows: &[Solution],
+    course: Course,
+) -> Result<Vec<Items<Row>>, Memory>
+    requires { 0 < course.block }
+    ensures { IfOk result (λ batches. AreCut (numbered 0 rows.now) course.block batches.items) }
+{
+    let first = number(alloc, rows)?;
+    cut(alloc, first, course.block)
+}
+
+// Puts the first batches, and follows them over all wires.
+fn all_rows<R: Threads + Wait + Sync, W: Wire + Send, U: Step + Sync>(
+    rt: &R,
+    alloc: Global,
+    line: &Line,
+    me: &mut Ticket,
+    course: Course,
+    first: Vec<Items<Row>>,
+    endpoints: &[Endpoint],
+    units: &[U],
+    wires: &mut [W],
+) -> Result<Vec<Row>, FlowError>
+    requires pass { IsSegPassOf line.now me.old × (me.old.me.view.client ≡ hand 16 None [] []) }
+    requires first { (0 < length first.items) × All (IsSized course.block) first.items }
+    requires course { (course.units ≡ length (map U.unit units.now)) × (0 < course.units) × (0 < course.block) × (course.block ≤ 64) }
+    requires wired { (0 < length wires.old) × (length wires.old ≤ 16) }
+    requires sendable { All (λ e. is_sendable e ≡ true) endpoints.now }
+    requires fit { All IsFit (map U.unit units.now) }
+    requires within { All (λ u. All (λ at. at < length endpoints.now) u.members) (map U.unit units.now) }
+    ensures { (rows : List RowParts) → AreCut rows course.block first.items
+        → RunFlowed W.tells_log W.counts_alone (map W.seen wires.old) (map W.seen wires.new) endpoints.now (map U.unit units.now) course.block rows (rows_in result) }
+{
+    let gate = Gate::new(first.len() as u64);
+    if put_all(rt, line, me, course, 0, first).is_err() {
+        return Err(FlowError::Memory);
+    }
+    let found = flow_out(rt, alloc, line, me, &gate, course, endpoints, units, wires);
+    // After a refusal the parcels that wait are those that nobody took.
+    let _left = waiting(rt, line, me);
+    found
 }
 
 // Solutions as rows, numbered from 0.
@@ -89,74 +157,14 @@ fn number(alloc: Global, solutions: &[Solution]) -> Result<Vec<Row>, Memory>
     Ok(rows)
 }
 
-// The rows behind units, asked for one after another, from these rows on.
-fn ask_units<W: Wire>(
-    alloc: Global,
-    wire: &mut W,
-    endpoints: &[Endpoint],
-    units: &[Unit],
-    first: Vec<Row>,
-    block: usize,
-) -> Result<Vec<Row>, FlowError>
-    requires sendable { All (λ e. is_sendable e ≡ true) endpoints.now }
-    requires fit { All IsFit units.now }
-    requires block { (0 < block) × (block ≤ 64) }
-    requires within { All (λ u. All (λ at. at < length endpoints.now) u.members) units.now }
-    ensures { AskedUnits W.counts_alone (W.seen wire.old) (W.seen wire.new) endpoints.now units.now block first.items (rows_in result) }
+fn is_none(batches: &[Items<Row>]) -> bool
+    ensures { IsTrue result ↔ (batches.now ≡ []) }
 {
-    let mut rows = first;
-    for unit in units {
-        if is_none(rows.as_slice()) {
-            return Ok(rows);
-        }
-        match ask_step(alloc, wire, endpoints, unit, rows.as_slice(), block) {
-            Err(error) => return Err(error),
-            Ok(next) => rows = next,
-        }
-    }
-    Ok(rows)
+    batches.is_empty()
 }
 
-fn is_none(rows: &[Row]) -> bool
-    ensures { IsTrue result → rows.now ≡ [] }
-{
-    rows.is_empty()
-}
-
-// What the members of a unit have for rows, asked for in batches of `block` rows at most.
-fn ask_step<W: Wire>(
-    alloc: Global,
-    wire: &mut W,
-    endpoints: &[Endpoint],
-    unit: &Unit,
-    rows: &[Row],
-    block: usize,
-) -> Result<Vec<Row>, FlowError>
-    requires sendable { All (λ e. is_sendable e ≡ true) endpoints.now }
-    requires fit { IsFit unit.now }
-    requires block { (0 < block) × (block ≤ 64) }
-    requires within { All (λ at. at < length endpoints.now) unit.now.members }
-    ensures { AskedStep W.counts_alone (W.seen wire.old) (W.seen wire.new) endpoints.now unit.now block rows.now (rows_in result) }
-{
-    let mut next = Vec::new(alloc);
-    let mut start = 0;
-    while start < rows.len() {
-        let end = start + (rows.len() - start).min(block);
-        match ask_batch(alloc, wire, endpoints, unit, &rows[start..end]) {
-            Err(error) => return Err(error),
-            Ok(mut more) => {
-                if next.append(&mut more).is_err() {
-                    return Err(FlowError::Memory);
-                }
-            }
-        }
-        start = end;
-    }
-    Ok(next)
-}
-
-// What the members of a unit have for rows, united.
-fn ask_batch<W: Wire>(
+/// What the members of a unit have for rows, united.
+pub(crate) fn ask_batch<W: Wire>(
     alloc: Global,
     wire: &mut W,
     endpoints: &[Endpoint],

@@ -2,15 +2,22 @@
 #![tactic(auto)]
 
 pub mod claims;
+mod cutting;
 pub mod faults;
+mod flowing;
 pub mod flows;
+mod following;
+mod gates;
 pub mod jobs;
 pub mod laws;
+pub mod lines;
 mod ordering;
+pub mod parcels;
 mod posting;
 mod reading;
 pub mod running;
 mod sharing;
+pub mod steps;
 pub mod tasks;
 mod working;
 

@@ -122,9 +122,13 @@ exact_rows a b e =
     let solutions = exact_solutions a.solution b.solution both.1 in
     λ i. record { origin = origins i; solution = solutions i }
 
+-- rows that every weight finds the same are the same in some order
+pub rows_from : (rows others : List Row) → ((h : Row → ℕ) → sum_by h rows ≡ sum_by h others) → IsPermutation rows others
+rows_from rows others same = permutation_from row_cmp rows_total exact_rows rows others same
+
 step_in_any_order : StepInAnyOrder
 step_in_any_order graph u rows others same =
-    permutation_from row_cmp rows_total exact_rows (step graph u rows) (step graph u others)
+    rows_from (step graph u rows) (step graph u others)
     (λ h. sum_by-flat_map h (row_step graph u) rows ∙ weights_from rows others same (λ r. sum_by h (row_step graph u r)) ∙ sym (sum_by-flat_map h (row_step graph u) others))
 
 -- ---- a run

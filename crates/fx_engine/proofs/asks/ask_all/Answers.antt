@@ -3,7 +3,7 @@ use Rattle.std.proofs.lemmas.List.{take_all}
 use Rattle.fx_sources.specs.declared.probes.Probe.{Probe}
 use Rattle.fx_engine.specs.Asks.{AskedAll}
 use Rattle.fx_engine.proofs.AsksLemmas.{are_some, lost, none, some_more, stopped}
-use Rattle.fx_engine.proofs.WiresLemmas.{all_tell}
+use Rattle.fx_pool.proofs.WiresLemmas.{all_tell}
 use Rattle.fx_engine.proofs.asks.ask_all.Goals as goal
 
 pub loop-start-init : goal.loop-start-init

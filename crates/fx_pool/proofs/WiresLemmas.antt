@@ -1,5 +1,5 @@
 -- What is known of several wires after two calls, one after the other.
-use Rattle.std.proofs.Common.{◌≡◌, ◌∙◌, ap, sym, subst, refl, ℕ, ◌≤◌, Bool, true, false, List, [], ◌∷◌, ◌++◌, map, Some, IsTrue, IsPermutation, arith, append_assoc}
+use Rattle.std.proofs.Common.{◌≡◌, ◌∙◌, ap, sym, subst, refl, ℕ, suc, length, ◌≤◌, Bool, true, false, List, [], ◌∷◌, ◌++◌, map, Some, IsTrue, IsPermutation, arith, append_assoc}
 use Rattle.std.specs.List.{AllByRecursion}
 use Rattle.std.proofs.lemmas.List.Elements.{All-from_recursion, recursion_from_All}
 use Rattle.std.proofs.lemmas.List.Sorted.{IsPermutation-refl}
@@ -34,6 +34,12 @@ all_after tells [] (t ∷ ts) us a b h k = absurd h
 all_after tells (s ∷ ss) [] us a b h k = absurd h
 all_after tells (s ∷ ss) (t ∷ ts) [] a b h k = absurd k
 all_after tells (s ∷ ss) (t ∷ ts) (u ∷ us) a b h k = (one_after s t u (a.0 ∙ sym b.0) h.0 k.0, all_after tells ss ts us a.1 b.1 h.1 k.1)
+
+pub as_many : (before after : List Seen) → AreAfter before after → length after ≡ length before
+as_many [] [] h = refl
+as_many [] (t ∷ ts) h = absurd h
+as_many (s ∷ ss) [] h = absurd h
+as_many (s ∷ ss) (t ∷ ts) h = ap suc (as_many ss ts h.1)
 
 -- ---- what they tell of graphs stays
 

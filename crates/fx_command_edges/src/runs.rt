@@ -1,0 +1,114 @@
+//! A run of bound joins over several wires at once.
+
+use crate::pools::have_ended;
+use crate::tests::{closed_door, files, words};
+use fx_commands::run;
+use fx_outside::{Endpoint, MemorySink};
+use fx_wire::{Wire, WireError};
+use std::alloc::Global;
+use std::str;
+use std::sync::Wait;
+use std::sync::atomic::{AtomicU64, Ordering};
+use std::test::Fail;
+use std::thread::Threads;
+
+const YES: &str =
+    "HTTP/1.1 200 OK\r\nContent-Type: application/sparql-results+json\r\n\r\n{\"head\":{},\"boolean\":true}";
+
+const NO_ROWS: &str =
+    "HTTP/1.1 200 OK\r\nContent-Type: application/sparql-results+json\r\n\r\n{\"head\":{\"vars\":[]},\"results\":{\"bindings\":[]}}";
+
+// Four rows, each of which is a batch of its own.
+const QUERY: &str =
+    "SELECT * WHERE { VALUES ?x { <http://e/a> <http://e/b> <http://e/c> <http://e/d> } ?x <http://e/p> ?y }";
+
+// A wire whose exchange of the batch with one row ends only when those of the three others have ended, and fails where it never sees that. All others are
+// answered at once: an ASK with yes, and a batch with no rows.
+#[derive(Drop)]
+struct RunWire<'a> {
+    ended: &'a AtomicU64,
+    slow: &'a str,
+    faults: u64,
+}
+
+impl Wire for RunWire<'_> {
+    ghost use Rattle.std.specs.Prelude.{false, refl, [], None};
+
+    ghost tells_log = { false };
+
+    ghost seen = { λ wire. record { tells_log = false; log = []; graph = λ _. None; faults = λ _. wire.faults } };
+
+    ghost counts_alone = { false };
+
+    ghost told = { λ _. refl };
+
+    fn exchange(
+        &mut self,
+        alloc: Global,
+        _at: &Endpoint,
+        request: &[u8],
+        limit: u64,
+    ) -> Result<Vec<u8>, WireError> {
+        if has(request, "ASK") {
+            return reply(alloc, YES, limit);
+        }
+        if has(request, self.slow) && !have_ended(self.ended) {
+            if self.faults == u64::MAX {
+                return Err(WireError::Memory);
+            }
+            self.faults += 1;
+            return Err(WireError::Failed);
+        }
+        self.ended.fetch_add(1, Ordering::SeqCst);
+        reply(alloc, NO_ROWS, limit)
+    }
+}
+
+fn has(request: &[u8], text: &str) -> bool {
+    str::from_utf8(request).is_ok_and(|request| request.contains(text))
+}
+
+fn reply(alloc: Global, text: &str, limit: u64) -> Result<Vec<u8>, WireError> {
+    let most = text.len().min(limit as usize);
+    Ok(Vec::from_slice(alloc, &text.as_bytes()[..most])?)
+}
+
+// Whichever of four batches of a run waits for the three others, two wires do them all. A run on one thread fails where the batch that it does first waits,
+// and one that gives each worker two fixed batches fails where the first of a worker's waits.
+#[test]
+fn two_wires_at_once_in_a_run(rt: HostRuntime) -> Result<(), Fail> {
+    for slow in ["http://e/a", "http://e/b", "http://e/c", "http://e/d"] {
+        assert_eq!(rt; status_of(&rt, rt.alloc(), slow)?, 0);
+    }
+    Ok(())
+}
+
+// How `query` ends over two wires in batches of one row, where the batch with this row waits for the others.
+fn status_of<R: Threads + Wait + Sync>(rt: &R, alloc: Global, slow: &str) -> Result<u8, Fail> {
+    let ended = AtomicU64::new(0);
+    let mut files = files(alloc, "Amsterdam http://127.0.0.1:8001/sparql\n", QUERY)?;
+    let mut wires = [wire(&ended, slow), wire(&ended, slow)];
+    let mut door = closed_door(alloc)?;
+    let mut out = MemorySink::new(alloc, 1000, 1000, Vec::new(alloc))?;
+    let mut line = MemorySink::new(alloc, 100, 100, Vec::new(alloc))?;
+    let words = words(alloc, &["query", "members.txt", "all.rq", "--workers", "2", "--block", "1"])?;
+    let status = run(
+        rt,
+        alloc,
+        words.as_slice(),
+        &mut files,
+        &mut wires,
+        &mut door,
+        &mut out,
+        &mut line,
+    );
+    Ok(status.code())
+}
+
+fn wire<'a>(ended: &'a AtomicU64, slow: &'a str) -> RunWire<'a> {
+    RunWire {
+        ended,
+        slow,
+        faults: 0,
+    }
+}
