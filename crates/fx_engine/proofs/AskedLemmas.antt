@@ -1,6 +1,6 @@
 -- What asking over several wires leaves of them: nothing asked for, one call after the other, and what is given or lost in the end.
 use Rattle.std.proofs.Common.{◌≡◌, sym, subst, refl, ℕ, ◌+◌, ◌<◌, ◌≤◌, Bool, List, [], ◌++◌, All, IfErr, IfOk, Result, Ok, Err, Contains, IsPermutation, arith, zero-le}
-use Rattle.std.proofs.lemmas.List.Elements.{All-append, All-nil}
+use Rattle.std.proofs.lemmas.List.Elements.{All-append, All-nil, All-weaker}
 use Rattle.std.proofs.lemmas.List.Sorted.{All-permutation, Contains-permutation, IsPermutation-refl}
 use Rattle.std.specs.declared.alloc.Global.{Global}
 use Rattle.std.specs.declared.vec.Vec.{Vec}
@@ -57,6 +57,10 @@ went_both tells alone failed before between after xs ys a b h k =
             omega arith;
       };
     }
+
+-- replies that are read of batches of some units are so of batches of more
+pub read_of_more : (Of Of_also : unit.Unit → Type 0) → ((u : unit.Unit) → Of u → Of_also u) → (xs : List Exchange) → All (IsBatchRead Of) xs → All (IsBatchRead Of_also) xs
+read_of_more Of Of_also more xs h = All-weaker (IsBatchRead Of) (IsBatchRead Of_also) (λ x r. record { unit = r.unit; of_these = more r.unit r.of_these; batch = r.batch; read = r.read }) xs h
 
 -- ---- the cause of a refusal is one of all that was done before it, too
 

@@ -28,7 +28,6 @@ use Rattle.fx_pool.specs.RunFlows.{HasFlowCause, IsFlowCause}
 use Rattle.fx_pool.specs.declared.flows.FlowError.{FlowError}
 use Rattle.fx_pool.specs.declared.flows.FlowError.TheVariants as flow
 use Rattle.fx_pool.specs.declared.jobs.BadReply.{BadReply}
-use Rattle.fx_pool.proofs.UnitsLemmas.{read_of_more}
 use Rattle.fx_engine.specs.Calls.{Call}
 use Rattle.fx_engine.specs.GroupsAsked.{CanBeAsked, task_units, units_in}
 use Rattle.fx_engine.specs.Mediation.{HasFedCause, IsBatchFor, IsNamed, IsPlaced, IsUnitOf}
@@ -41,7 +40,7 @@ use Rattle.fx_engine.specs.declared.sections.Section.TheVariants.{Run, Service}
 use Rattle.fx_engine.specs.declared.tasks.Task.{Task}
 use Rattle.fx_engine.specs.declared.tasks.Task.TheVariants as task
 use Rattle.fx_engine.proofs.AskableLemmas.{by_members}
-use Rattle.fx_engine.proofs.AskedLemmas.{flow_cause_behind}
+use Rattle.fx_engine.proofs.AskedLemmas.{flow_cause_behind, read_of_more}
 use Rattle.fx_engine.proofs.ChoiceLemmas.{below, found_here, its_name}
 use Rattle.fx_engine.proofs.SectionLemmas.{runs_have}
 use Rattle.fx_engine.proofs.TaskLemmas.{run_in_front}

@@ -27,7 +27,6 @@ use Rattle.fx_wire.specs.Exchanges.{Exchange, Seen}
 use Rattle.fx_pool.specs.RunFlows.{HasFlowCause, IsFlowCause, RunFlowed}
 use Rattle.fx_pool.specs.declared.flows.FlowError.{FlowError}
 use Rattle.fx_pool.specs.declared.flows.FlowError.TheVariants as flow
-use Rattle.fx_pool.proofs.UnitsLemmas.{read_of_more}
 use Rattle.fx_engine.specs.Asked.{Asked}
 use Rattle.fx_engine.specs.GroupsAsked.{ComesOf, IsRunFound, RunDue, RunGiven, run_task, task_units, units_in}
 use Rattle.fx_engine.specs.Laws.{HasFitUnits, HasSoundUnits}
@@ -37,7 +36,7 @@ use Rattle.fx_engine.specs.declared.sections.Section.TheVariants.{Run}
 use Rattle.fx_engine.specs.declared.tasks.RowsError.TheVariants as rows_error
 use Rattle.fx_engine.specs.declared.tasks.Task.{Task}
 use Rattle.fx_engine.specs.declared.tasks.Task.TheVariants as task
-use Rattle.fx_engine.proofs.AskedLemmas.{given_unasked}
+use Rattle.fx_engine.proofs.AskedLemmas.{given_unasked, read_of_more}
 use Rattle.fx_engine.proofs.StationLemmas.{sent_alone}
 use Rattle.fx_engine.proofs.UnitLemmas.{sound_part}
 

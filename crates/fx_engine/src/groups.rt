@@ -94,7 +94,9 @@ fn unfiltered<R: Threads + Wait + Sync, W: Wire + Send>(
             Ok(found) => rows = found,
         }
     }
-    end_run(rt, alloc, rows, in_run, tasks, next, endpoints, block, wires)
+    end_run(
+        rt, alloc, rows, in_run, tasks, next, endpoints, block, wires,
+    )
 }
 
 // The rows behind an element, from those before it. A run that a triple pattern is in goes on until an operator comes, or the group ends.
@@ -124,11 +126,15 @@ fn after_element<R: Threads + Wait + Sync, W: Wire + Send>(
     if keeps_run(element) {
         return Ok(before);
     }
-    match end_run(rt, alloc, before, *in_run, tasks, next, endpoints, block, wires) {
+    match end_run(
+        rt, alloc, before, *in_run, tasks, next, endpoints, block, wires,
+    ) {
         Err(error) => Err(error),
         Ok(rows) => {
             *in_run = false;
-            after_operator(rt, alloc, element, rows, tasks, next, endpoints, block, wires)
+            after_operator(
+                rt, alloc, element, rows, tasks, next, endpoints, block, wires,
+            )
         }
     }
 }
@@ -156,7 +162,9 @@ fn after_operator<R: Threads + Wait + Sync, W: Wire + Send>(
         Element::Triple(_) => Ok(before),
         Element::Filter(_) => Ok(before),
         Element::Optional(group) => {
-            optional(rt, alloc, group, before, tasks, next, endpoints, block, wires)
+            optional(
+                rt, alloc, group, before, tasks, next, endpoints, block, wires,
+            )
         }
         Element::Union(groups) => {
             match alternatives(
@@ -209,7 +217,9 @@ fn optional<R: Threads + Wait + Sync, W: Wire + Send>(
     ensures { Asked W.tells_log W.counts_alone (map W.seen wires.old) (map W.seen wires.new) endpoints.now tasks.now block (spec.OperatorGiven endpoints.now block tasks.now next.old next.new (Element.Optional group.now) before.items) (spec.OperatorDue endpoints.now block tasks.now next.old (Element.Optional group.now) before.items) (solutions_in result) }
 {
     if is_simple(group) {
-        return optional_run(rt, alloc, group, before, tasks, next, endpoints, block, wires);
+        return optional_run(
+            rt, alloc, group, before, tasks, next, endpoints, block, wires,
+        );
     }
     match unfiltered(rt, alloc, group, tasks, next, endpoints, block, wires) {
         Err(error) => Err(error),

@@ -55,7 +55,9 @@ pub(crate) fn outcome_by_plan<R: Threads + Wait + Sync, W: Wire + Send>(
     };
     match invoke_group(rt, alloc, &query.group, registry, &mut invoked, wires) {
         Ok(()) => answer_all(rt, alloc, query, plan, invoked, registry, block, wires),
-        Err(error) => refuse(rt, alloc, query, plan, invoked, error, registry, block, wires),
+        Err(error) => refuse(
+            rt, alloc, query, plan, invoked, error, registry, block, wires,
+        ),
     }
 }
 
@@ -135,7 +137,16 @@ fn answer_of_plan<R: Threads + Wait + Sync, W: Wire + Send>(
     requires asked { (found : List (List Bindings)) → All (CanBeAsked (length registry.now)) (tasks_with plan.items found) }
     ensures { Asked W.tells_log W.counts_alone (map W.seen wires.old) (map W.seen wires.new) registry.now (tasks_with plan.items rows.items) block (AnswerGiven registry.now block (tasks_with plan.items rows.items) query.now) (AnswerDue registry.now block (tasks_with plan.items rows.items) query.now) result }
 {
-    answer_with(rt, alloc, query, plan, rows, registry.endpoints(), block, wires)
+    answer_with(
+        rt,
+        alloc,
+        query,
+        plan,
+        rows,
+        registry.endpoints(),
+        block,
+        wires,
+    )
 }
 
 fn is_lost(error: &ServiceError) -> bool
