@@ -15,9 +15,12 @@ use fx_terms::Iri;
 use fx_wire::Wire;
 use fx_wire_cases::wires::endpoint;
 use std::alloc::Global;
+use std::sync::Wait;
+use std::thread::Threads;
 
 /// The rows, and how many exchanges the log has.
-pub(crate) fn flowed(
+pub(crate) fn flowed<R: Threads + Wait + Sync>(
+    rt: &R,
     alloc: Global,
     graph: &str,
     run: &str,
@@ -25,13 +28,14 @@ pub(crate) fn flowed(
     block: &str,
 ) -> Option<String> {
     let mut wires = vec![in alloc; graph_wire(alloc, graph)?].ok()?;
-    let rows = rows_behind(alloc, run, rows, block, wires.as_mut_slice())?;
+    let rows = rows_behind(rt, alloc, run, rows, block, wires.as_mut_slice())?;
     let count = wires.as_slice().first()?.log().len();
     format!(in alloc; "{rows} log of {count}").ok()
 }
 
 /// The rows where the exchange of a number fails.
-pub(crate) fn failing(
+pub(crate) fn failing<R: Threads + Wait + Sync>(
+    rt: &R,
     alloc: Global,
     graph: &str,
     run: &str,
@@ -40,7 +44,7 @@ pub(crate) fn failing(
     fails: &str,
 ) -> Option<String> {
     let mut wires = vec![in alloc; fault_wire(alloc, graph, fails)?].ok()?;
-    rows_behind(alloc, run, rows, block, wires.as_mut_slice())
+    rows_behind(rt, alloc, run, rows, block, wires.as_mut_slice())
 }
 
 fn graph_wire(alloc: Global, graph: &str) -> Option<GraphWire> {
@@ -56,7 +60,8 @@ fn fault_wire(alloc: Global, graph: &str, fails: &str) -> Option<FaultWire> {
     FaultWire::new(alloc, graph_wire(alloc, graph)?, Vec::new(alloc), fails_at).ok()
 }
 
-fn rows_behind<W: Wire + Send>(
+fn rows_behind<R: Threads + Wait + Sync, W: Wire + Send>(
+    rt: &R,
     alloc: Global,
     run: &str,
     rows: &str,
@@ -67,10 +72,11 @@ fn rows_behind<W: Wire + Send>(
     let units = vec![in alloc; unit.into_inner()].ok()?;
     let rows = notation::solutions(alloc, rows)?;
     let block = block.parse::<u32>().ok()?;
-    rows_text(alloc, units.as_slice(), rows.as_slice(), block, wires)
+    rows_text(rt, alloc, units.as_slice(), rows.as_slice(), block, wires)
 }
 
-fn rows_text<W: Wire + Send>(
+fn rows_text<R: Threads + Wait + Sync, W: Wire + Send>(
+    rt: &R,
     alloc: Global,
     units: &[Unit],
     rows: &[Solution],
@@ -81,13 +87,14 @@ fn rows_text<W: Wire + Send>(
     requires fit { All IsFit units.now }
 {
     let endpoints = vec![in alloc; endpoint(alloc, "8001")?].ok()?;
-    match rows_over(alloc, endpoints.as_slice(), units, rows, block, wires)? {
+    match rows_over(rt, alloc, endpoints.as_slice(), units, rows, block, wires)? {
         Ok(rows) => numbered_text(alloc, rows.as_slice()),
         Err(error) => error_text(alloc, error),
     }
 }
 
-fn rows_over<W: Wire + Send>(
+fn rows_over<R: Threads + Wait + Sync, W: Wire + Send>(
+    rt: &R,
     alloc: Global,
     endpoints: &[Endpoint],
     units: &[Unit],
@@ -104,7 +111,7 @@ fn rows_over<W: Wire + Send>(
     if block == 0 || block > 64 || wires.len() != 1 {
         return None;
     }
-    Some(run_flow(alloc, endpoints, units, rows, block, wires))
+    Some(run_flow(rt, alloc, endpoints, units, rows, block, wires))
 }
 
 fn numbered_text(alloc: Global, rows: &[Row]) -> Option<String> {

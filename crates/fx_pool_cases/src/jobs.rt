@@ -28,9 +28,11 @@ pub fn answer<R: Threads + Wait + Sync>(
 ) -> Option<String> {
     match (call, inputs) {
         ("run_jobs", [replies, jobs @ ..]) => jobs_done(rt, alloc, replies, jobs),
-        ("run_flow", [graph, run, rows, block]) => flows::flowed(alloc, graph, run, rows, block),
+        ("run_flow", [graph, run, rows, block]) => flows::flowed(
+            rt, alloc, graph, run, rows, block,
+        ),
         ("run_flow with a failure", [graph, run, rows, block, fails]) => {
-            flows::failing(alloc, graph, run, rows, block, fails)
+            flows::failing(rt, alloc, graph, run, rows, block, fails)
         }
         _ => None,
     }
