@@ -17,8 +17,8 @@ mod serving;
 pub mod statuses;
 
 pub use counting::count_rows;
+pub use fx_words::{Command, CommandError, read_command};
 pub use refusals::Refusal;
 pub use reports::write_refusal;
-pub use fx_words::{Command, CommandError, read_command};
 pub use running::run;
 pub use statuses::Status;
