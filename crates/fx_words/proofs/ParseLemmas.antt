@@ -1,15 +1,12 @@
 -- What a parse gives a command of its words.
-use Rattle.std.proofs.Common.{◌≡◌, ◌∙◌, ℕ, true, List, Option, Some, None, Result, Ok, Err, IfOk, inl, inr, ⊎_elim, refl, sym, ap, ap₂, subst}
-use Rattle.clap.specs.Walk.{Row, Rule, Text, first_of}
-use Rattle.clap.specs.Simple.{App, HasMatchesOf, app_of, is_simple, matches_of, with_rule}
-use Rattle.clap.specs.Built.{AddsArg}
+use Rattle.std.proofs.Common.{◌≡◌, ◌∙◌, true, List, Option, None, Ok, Err, ⊎_elim, sym, ap, subst}
+use Rattle.clap.specs.Walk.{Row, Text, first_of}
+use Rattle.clap.specs.Simple.{App, HasMatchesOf, app_of, is_simple, matches_of}
 use Rattle.clap.specs.Matches.{first_value, found_of}
-use Rattle.clap.specs.Walk.{rule_of}
 use Rattle.clap.specs.Values.{kind_of}
 use Rattle.clap.specs.Kinds.{FailsBy, HasKind, Kinds}
 use Rattle.clap.specs.Faults.{fault_of, is_simple_and_free}
 use Rattle.clap.proofs.WalkLemmas.{first_value-rows}
-use Rattle.clap.specs.declared.builder.arg.Arg.{Arg}
 use Rattle.clap.specs.declared.builder.command.Command as builder
 use Rattle.clap.specs.declared.error.Error.{Error}
 use Rattle.clap.specs.declared.error.kind.ErrorKind.{ErrorKind}
@@ -19,12 +16,6 @@ use Rattle.fx_words.specs.declared.commands.CommandError.TheVariants.{Usage, Mem
 use Rattle.fx_words.specs.Commands.{Asked, GivesCommand, GivesFiles}
 use Rattle.fx_words.specs.Parsed.{refusal_of}
 use Rattle.fx_words.proofs.MeetLemmas.{Meets, meets_fault, meets_ok}
-
--- one argument more
-pub added : {E : Type 0} (old : builder.Command) (a : Arg) (r : Result builder.Command E) (app : App) (rule : Rule) → app_of old ≡ app → rule_of a ≡ rule → a.global ≡ Rattle.std.proofs.Common.false
-    → IfOk r (λ form. AddsArg old a form) → IfOk r (λ form. app_of form ≡ with_rule app rule)
-added old a (Ok form) app rule e f own h = h.shape own ∙ ap₂ with_rule e f
-added old a (Err x) app rule e f own h = tt
 
 -- what an id has
 pub read_of : (app : App) (form : builder.Command) (m : ArgMatches) (words : List Text) (id : Text) → app_of form ≡ app → is_simple app ≡ true → HasMatchesOf (app_of form) words m

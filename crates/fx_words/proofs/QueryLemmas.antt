@@ -2,13 +2,15 @@
 use Rattle.std.proofs.Common.{◌≡◌, ◌∙◌, ◌||◌, ℕ, Bool, true, false, true≢false, not, List, [], ◌∷◌, ◌++◌, Option, Some, None, if◌then◌else◌, cond, refl, sym, ap, ap₂, codes, drop, find, option_map, option_and_then, bytes_eq, slice_get, is_some, IsUtf8}
 use Rattle.std.specs.Option.{option_map_or}
 use Rattle.clap.specs.Lexer.{long_of, short_of}
-use Rattle.clap.specs.Walk.{Held, Row, Rule, Step, Text, Walk, after_flag, after_step, arg_by_id, arg_by_index, arg_by_long, arg_by_short, finished, first_of, has_row, idle, long_met, long_or_other, long_word, next, option, option_met, option_word, plain_word, pushed, short_or_plain, trailing, used, used_by_id, value, walked, word_met}
+use Rattle.clap.specs.Walk.{Held, Row, Rule, Step, Text, Walk, after_flag, after_step, arg_by_id, arg_by_index, arg_by_long, arg_by_short, finished, first_of, has_row, idle, long_met, long_or_other, next, option, option_met, option_word, short_or_plain, trailing, used, value, walked, word_met}
+use Rattle.clap.specs.Walk.{Waiting, is_pending, settled_rows}
+use Rattle.clap.specs.Facts.{explicit_source}
 use Rattle.clap.specs.Simple.{Shape, built, is_simple, matches_of}
 use Rattle.clap.specs.Kinds.{check_kinds, or_else}
 use Rattle.clap.specs.Takes.{is_given}
 use Rattle.clap.specs.Faults.{bundle_fault, check_fault, fault_of, flag_word_fault, is_simple_and_free, long_fault, other_fault, positional_fault, settle_fault, step_fault, stray_fault, use_fault, word_fault}
 use Rattle.fx_words.specs.Commands.{Asked, QueryWords, number_of, plain, query_asked, query_parts, query_words, two_files, with_positional}
-use Rattle.fx_words.specs.Parsed.{given, query_app, query_read}
+use Rattle.fx_words.specs.Parsed.{given, query_app, query_given, query_read}
 use Rattle.fx_words.proofs.LookLemmas.{Bad, held}
 use Rattle.fx_words.proofs.StepLemmas.{Goes, HasNoDefaults, IsKnown, IsPlace, Settles, and_false, at, bad_as, bad_end, bad_first, bad_second, bad_turn, closes, end_check, end_rows, goes_behind, goes_plain}
 use Rattle.fx_words.proofs.StepLemmas.{known, none_bad, nothing_waits, one_value, one_waits, said, same_end, same_fault, stray_bad, stray_behind, stray_plain, strange_bad, tail_fault, twice_bad, use_passes, use_refused, used_once, walk_end}
@@ -269,7 +271,7 @@ module _ (s : Shape) (c : IsQuery s) where
       where
         value_passes : (x : Text) → has_row (text_of o) done ≡ false → long_fault s.rules s.args_override_self (Some (rule_for o)) (Some x) (held rows pending) ≡ []
         value_passes x none =
-            ap (λ ks. or_else ks (use_fault s.args_override_self (rule_for o) (x ∷ []) (Rattle.clap.specs.Walk.settled_rows s.rules pending rows))) g.passes
+            ap (λ ks. or_else ks (use_fault s.args_override_self (rule_for o) (x ∷ []) (settled_rows s.rules pending rows))) g.passes
             ∙ ap₂ (λ (again : Bool) (rs : List Row). use_fault again (rule_for o) (x ∷ []) rs) c.once g.rows_are
             ∙ use_passes (text_of o) (Some (text_of o)) None false x done none
 
@@ -292,7 +294,7 @@ module _ (s : Shape) (c : IsQuery s) where
   place_bad rows pending id k p h =
       let a = one_value id None (Some k) p.required in
       bad_as _ _ (ap (λ q. option_map_or (λ y. positional_fault s.rules s.args_override_self y (held rows pending)) q (stray_fault s)) p.by_index
-      ∙ ap (λ (t : Bool). if t then [] else settle_fault s.rules s.args_override_self (held rows pending)) (and_false (Rattle.clap.specs.Walk.is_pending a pending))) h
+      ∙ ap (λ (t : Bool). if t then [] else settle_fault s.rules s.args_override_self (held rows pending)) (and_false (is_pending a pending))) h
 
   step_bad : (rows : List Row) (pending : Option (Text × List Text)) (files : Files) → Bad (settle_fault s.rules s.args_override_self (held rows pending))
       → Bad (step_fault s (place files) (held rows pending) value)
@@ -301,7 +303,7 @@ module _ (s : Shape) (c : IsQuery s) where
   step_bad rows pending (both_files p q) h = bad_as _ _ (ap (λ o. option_map_or (λ y. positional_fault s.rules s.args_override_self y (held rows pending)) o (stray_fault s)) c.no_third) (stray_bad s)
 
   -- what waits is refused, behind the end of options
-  fails_behind : (rows : List Row) (pending : Option (Text × List Text)) (waiting : Rattle.clap.specs.Walk.Waiting) (files : Files) (ws : List Text)
+  fails_behind : (rows : List Row) (pending : Option (Text × List Text)) (waiting : Waiting) (files : Files) (ws : List Text)
       → Bad (settle_fault s.rules s.args_override_self (held rows pending)) → Bad (tail_fault s (at rows pending waiting (place files) true) ws)
   fails_behind rows pending waiting files [] h = bad_end s _ h
   fails_behind rows pending waiting files (v ∷ ws) h = bad_turn s _ v ws (step_bad rows pending files h)
@@ -346,8 +348,8 @@ module _ (s : Shape) (c : IsQuery s) where
   -- ---- the end
 
   module _ (rows : List Row) (w b : Option Text) where
-    given_row : (id : Text) (o : Option Row) → row_with id rows ≡ o → is_given id rows ≡ option_map_or (λ r. Rattle.clap.specs.Facts.explicit_source r.source) o false
-    given_row id o e = ap (λ q. option_map_or (λ (r : Row). Rattle.clap.specs.Facts.explicit_source r.source) q false) e
+    given_row : (id : Text) (o : Option Row) → row_with id rows ≡ o → is_given id rows ≡ option_map_or (λ r. explicit_source r.source) o false
+    given_row id o e = ap (λ q. option_map_or (λ (r : Row). explicit_source r.source) q false) e
 
     checked : (p q : Bool) → is_given registry_id rows ≡ p → is_given query_id rows ≡ q → check_fault s rows false ≡ check_kinds false false (not p || (not q || false))
     checked p q e f = c.checks rows ∙ ap₂ (λ x y. check_kinds false false (not x || (not y || false))) e f
@@ -366,8 +368,8 @@ module _ (s : Shape) (c : IsQuery s) where
     read_both : (p q : Text) → Holds rows (both_files p q) w b → wanted (both_files p q) w b (Some (plain [])) ≡ query_read rows
     read_both p q h =
         ap₂ (λ x y. query_parts (Some (p, q)) (number_of 16 4 x) (number_of 64 15 y)) (no_more w) (no_more b)
-        ∙ sym (ap₂ (λ x y. Rattle.fx_words.specs.Parsed.query_given x y (first_of (codes "workers") rows) (first_of (codes "block") rows)) (first_said registry_id (Some p) h.registry) (first_said query_id (Some q) h.query)
-        ∙ ap₂ (λ x y. Rattle.fx_words.specs.Parsed.query_given (Some p) (Some q) x y) (first_said (codes "workers") w h.workers_row) (first_said (codes "block") b h.block_row))
+        ∙ sym (ap₂ (λ x y. query_given x y (first_of (codes "workers") rows) (first_of (codes "block") rows)) (first_said registry_id (Some p) h.registry) (first_said query_id (Some q) h.query)
+        ∙ ap₂ (λ x y. query_given (Some p) (Some q) x y) (first_said (codes "workers") w h.workers_row) (first_said (codes "block") b h.block_row))
 
     at_end : (files : Files) → Holds rows files w b → Meets query_read (check_fault s rows false) rows (wanted files w b (Some (plain [])))
     at_end no_file h = meets_bad query_read _ rows _ (bad_as _ _ (c.checks rows ∙ ap (λ x. check_kinds false false (not x || (not (is_given query_id rows) || false))) (given_row registry_id None h.registry)) tt) refl
