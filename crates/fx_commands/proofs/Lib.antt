@@ -11,8 +11,6 @@ pub mod HeadlineLemmas
 pub mod HarmlessLemmas
 pub mod CompletenessLemmas
 pub mod UsedLemmas
-pub mod NumberLemmas
-pub mod WordLemmas
 pub mod CountingLemmas
 pub mod MembersLemmas
 pub mod GeneratorLemmas

@@ -10,7 +10,7 @@ use Rattle.fx_commands.specs.declared.statuses.Status.TheVariants as status
 use Rattle.fx_traffic.specs.Gains.{faults_at}
 use Rattle.fx_wire.specs.Exchanges.{Seen}
 use Rattle.fx_commands.specs.Asking.{WiresSeen, IsUnasked}
-use Rattle.fx_commands.specs.Commands.{Asked, over_file, over_members, planned, served, generated}
+use Rattle.fx_words.specs.Commands.{Asked, over_file, over_members, planned, served, generated}
 use Rattle.fx_commands.specs.Explain.{IsExplainReported, IsExplainWritten}
 use Rattle.fx_commands.specs.FedRefusals.{IsGivenEnd}
 use Rattle.fx_commands.specs.Files.{FileRead, IsQueryThat}

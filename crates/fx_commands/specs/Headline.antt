@@ -20,7 +20,7 @@ use Rattle.fx_commands.specs.declared.limits.TheConstants.{GRAPH_LIMIT, QUERY_LI
 use Rattle.fx_commands.specs.declared.statuses.Status.{Status}
 use Rattle.fx_commands.specs.declared.statuses.Status.TheVariants as status
 use Rattle.fx_commands.specs.Asking.{WiresSeen}
-use Rattle.fx_commands.specs.Commands.{Asked, over_file, over_members, planned, generated}
+use Rattle.fx_words.specs.Commands.{Asked, over_file, over_members, planned, generated}
 use Rattle.fx_commands.specs.Files.{FileRead, Holds}
 use Rattle.fx_commands.specs.Generator.{summary}
 use Rattle.fx_commands.specs.Lines.{Gains, down_lines, member_failed, service_failed}

@@ -1,5 +1,4 @@
 pub mod Asking
-pub mod Commands
 pub mod Completeness
 pub mod Counting
 pub mod Counts

@@ -1,17 +1,17 @@
 -- What a run does, by the command that its words are.
-use Rattle.std.specs.Prelude.{◌≡◌, ℕ, List, [], ◌++◌, Option, Some, None, drop, take}
+use Rattle.std.specs.Prelude.{◌≡◌, ℕ, Bool, List, [], ◌++◌, Option, Some, None, IsTrue, drop, take}
 use Rattle.fx_outside.specs.Doors.{DoorSeen}
 use Rattle.fx_traffic.specs.Gains.{faults_at}
 use Rattle.fx_wire.specs.Exchanges.{Seen}
 use Rattle.fx_commands.specs.declared.statuses.Status.{Status}
 use Rattle.fx_commands.specs.declared.statuses.Status.TheVariants as status
-use Rattle.fx_commands.specs.Asking.{WiresSeen, IsUnasked}
-use Rattle.fx_commands.specs.Commands.{Asked, over_file, over_members, planned, served, generated}
+use Rattle.fx_commands.specs.Asking.{WiresSeen, IsUnasked, wires_seen}
+use Rattle.fx_words.specs.Commands.{Asked, over_file, over_members, planned, served, generated}
 use Rattle.fx_commands.specs.Explain.{IsExplainReported, IsExplainWritten}
 use Rattle.fx_commands.specs.FedRefusals.{IsGivenEnd}
 use Rattle.fx_commands.specs.Files.{FileRead}
 use Rattle.fx_commands.specs.Generator.{summary}
-use Rattle.fx_commands.specs.Lines.{usage_line, no_memory}
+use Rattle.fx_commands.specs.Lines.{Gains, usage_line, no_memory}
 use Rattle.fx_commands.specs.Local.{IsAnswer, IsReported, IsWritten}
 use Rattle.fx_commands.specs.Query.{CountsDown, IsQueryReported, IsQueryWritten, IsUnionAnswer}
 use Rattle.fx_commands.specs.Serving.{IsLastCut, IsMemberReported}
@@ -33,6 +33,10 @@ Reports read w door later (Some (over_members registry query workers block)) s l
 Reports read w door later (Some (planned registry query)) s lines text err = IsExplainReported w (read registry) (read query) s text × (lines ≡ []) × (later ≡ door)
 Reports read w door later (Some (served graph address count)) s lines text err = IsMemberReported (read graph) door later address count s lines text × IsUnasked w × IsLastCut s err lines text
 Reports read w door later (Some (generated size)) s lines text err = IsGivenEnd [] s text × (lines ≡ []) × IsUnasked w × (later ≡ door)
+
+-- what a run reports, and that its sink of lines gained these
+abbrev pub HasReport : (List ℕ → FileRead) → WiresSeen → DoorSeen → DoorSeen → Option Asked → Status → SinkWritten → Type 0
+HasReport read w door later asked s err = (lines : List ℕ) × (text : List ℕ) × Reports read w door later asked s lines text err × (IsTrue err.tells → Gains (err.old ++ lines) err.new err.before err.after text)
 
 -- what a run leaves on standard output
 abbrev pub Writes : (List ℕ → FileRead) → List Seen → Option Asked → Status → List ℕ → List ℕ → Type 0
@@ -70,3 +74,7 @@ wires_used (Some (generated size)) = 0
 -- So many wires at most are used, from the first on: what they are before and after. The others are as they were.
 abbrev pub OnUsed : {W : Type 0} → ℕ → List W → List W → (List W → List W → Type 0) → Type 0
 OnUsed {W} most old new P = (later : List W) × (new ≡ later ++ drop most old) × P (take most old) later
+
+-- the same of what is seen of them
+abbrev pub OnWires : {W : Type 0} → Bool → Bool → (W → Seen) → ℕ → List W → List W → (WiresSeen → Type 0) → Type 0
+OnWires tells alone seen most old new P = OnUsed most old new (λ used later. P (wires_seen tells alone seen used later))

@@ -9,7 +9,7 @@ use Rattle.fx_outside.specs.Doors.{DoorSeen, Output}
 use Rattle.fx_outside.specs.Streams.{AppendsFront, AppendsPart}
 use Rattle.fx_member.specs.Served.{IsServed}
 use Rattle.fx_commands.specs.Files.{FileRead, HasFailed, IsTooLong, IsNoGraph}
-use Rattle.fx_commands.specs.Lines.{cannot_read, graph_refused, graph_too_long, no_memory, cannot_serve}
+use Rattle.fx_commands.specs.Lines.{Gains, cannot_read, graph_refused, graph_too_long, no_memory, cannot_serve}
 use Rattle.fx_commands.specs.Sinks.{SinkWritten}
 use Rattle.fx_commands.specs.declared.limits.TheConstants.{GRAPH_LIMIT}
 use Rattle.fx_commands.specs.declared.serving.Ending.{Ending}
@@ -128,3 +128,7 @@ IsMemberReported g before after address count status.ReadFault lines last = HasF
 IsMemberReported g before after address count status.FileTooLong lines last = IsTooLong GRAPH_LIMIT g × (lines ≡ []) × (last ≡ graph_too_long g.name) × (after ≡ before)
 IsMemberReported g before after address count status.NoMemory lines last = ((lines ≡ []) × (last ≡ no_memory) × (after ≡ before)) ⊎ ((graph : List Triple) × IsGraphOf g graph × IsServingReported before after address count graph status.NoMemory lines last)
 IsMemberReported g before after address count s lines last = (graph : List Triple) × IsGraphOf g graph × IsServingReported before after address count graph s lines last
+
+-- what a member reports, and that its sink of lines gained these
+abbrev pub HasMemberReport : FileRead → DoorSeen → DoorSeen → List ℕ → ℕ → Status → SinkWritten → Type 0
+HasMemberReport g before after address count s err = (lines : List ℕ) × (last : List ℕ) × IsMemberReported g before after address count s lines last × (IsTrue err.tells → Gains (err.old ++ lines) err.new err.before err.after last) × IsLastCut s err lines last

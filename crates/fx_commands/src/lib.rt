@@ -1,7 +1,6 @@
 //! The commands of the program, over files, wires, doors and streams that are handed in.
 #![tactic(auto)]
 
-pub mod commands;
 pub mod counting;
 mod documents;
 mod explained;
@@ -17,8 +16,8 @@ pub mod running;
 mod serving;
 pub mod statuses;
 
-pub use commands::{Command, CommandError, read_command};
 pub use counting::count_rows;
+pub use fx_words::{Command, CommandError, read_command};
 pub use refusals::Refusal;
 pub use reports::write_refusal;
 pub use running::run;

@@ -1,18 +1,16 @@
 //! The program over files, wires and streams that are handed in.
 ghost use Rattle.std.specs.Prelude.{◌≡◌, ◌≤◌, ◌<◌, ◌++◌, IsTrue, List, ℕ, length, map, string_bytes, take};
 ghost use Rattle.fx_traffic.specs.Gains.{AreAfter};
-ghost use Rattle.fx_commands.specs.Asking.{wires_seen};
-ghost use Rattle.fx_commands.specs.Commands.{asked};
+ghost use Rattle.fx_words.specs.Commands.{asked, asked_in};
 ghost use Rattle.fx_commands.specs.Completeness.{Completes};
 ghost use Rattle.fx_commands.specs.Counts.{CountsDoor, CountsOnly};
 ghost use Rattle.fx_commands.specs.Files.{IsQueryThat, file_read};
 ghost use Rattle.fx_commands.specs.Headline.{Headline};
 ghost use Rattle.fx_commands.specs.Lines.{Gains};
 ghost use Rattle.fx_commands.specs.Local.{HasLines, IsAnswer, IsReported, IsWritten};
-ghost use Rattle.fx_commands.specs.Runs.{CountsEndpoints, FailsToWrite, OnUsed, Reports, Writes, wires_used};
+ghost use Rattle.fx_commands.specs.Runs.{CountsEndpoints, FailsToWrite, HasReport, OnWires, Writes, wires_used};
 ghost use Rattle.fx_commands.specs.Sinks.{IsCutShort, sink_written};
 
-use crate::commands::{Command, CommandError, read_command};
 use crate::documents::write_report;
 use crate::explained::run_explain;
 use crate::federated::run_query;
@@ -24,6 +22,7 @@ use crate::serving::run_member;
 use crate::statuses::Status;
 use fx_outside::{Door, Files, Sink};
 use fx_wire::Wire;
+use fx_words::{Command, CommandError, read_command};
 use std::alloc::Global;
 use std::sync::Wait;
 use std::thread::Threads;
@@ -54,14 +53,14 @@ pub fn run<R: Threads + Wait + Sync, F: Files, W: Wire + Send, D: Door, O: Sink,
     // The theorem: where the wires tell the graphs of the members, `Done` says that `out` gained exactly the document of the query's answer over the union of
     // these graphs, where the SERVICEs that are down are exactly those of the lines that `err` gained, or the text of its plan; and an endpoint is named as failed
     // only where its count of faults rose. `local` so over the file's graph. `generate` writes its four lines.
-    ensures headline { OnUsed (wires_used (asked (map (λ w. string_bytes w) words.now))) wires.old wires.new (λ used later. Headline (file_read (F.seen files.old) (F.seen files.new)) (wires_seen W.tells_log W.counts_alone W.seen used later) (asked (map (λ w. string_bytes w) words.now)) result (sink_written O.tells_held O.held O.write_faults out.old out.new) (sink_written E.tells_held E.held E.write_faults err.old err.new)) }
+    ensures headline { OnWires W.tells_log W.counts_alone W.seen (wires_used (asked_in words.now)) wires.old wires.new (λ seen. Headline (file_read (F.seen files.old) (F.seen files.new)) seen (asked_in words.now) result (sink_written O.tells_held O.held O.write_faults out.old out.new) (sink_written E.tells_held E.held E.write_faults err.old err.new)) }
 
     // Where besides each SERVICE is such as the command can take, nothing fails and nothing is too long, the run is done, unless memory ran out.
-    ensures completes { OnUsed (wires_used (asked (map (λ w. string_bytes w) words.now))) wires.old wires.new (λ used later. Completes (file_read (F.seen files.old) (F.seen files.new)) (wires_seen W.tells_log W.counts_alone W.seen used later) (D.seen door.old) (D.seen door.new) (asked (map (λ w. string_bytes w) words.now)) result (sink_written O.tells_held O.held O.write_faults out.old out.new) (sink_written E.tells_held E.held E.write_faults err.old err.new)) }
+    ensures completes { OnWires W.tells_log W.counts_alone W.seen (wires_used (asked_in words.now)) wires.old wires.new (λ seen. Completes (file_read (F.seen files.old) (F.seen files.new)) seen (D.seen door.old) (D.seen door.new) (asked_in words.now) result (sink_written O.tells_held O.held O.write_faults out.old out.new) (sink_written E.tells_held E.held E.write_faults err.old err.new)) }
 
     // Each status comes with its cause alone, and with its line on `err`, behind the lines of the connections that a member served, which are
     // whole. Where members were asked it also says what for.
-    ensures reported { OnUsed (wires_used (asked (map (λ w. string_bytes w) words.now))) wires.old wires.new (λ used later. (lines : List ℕ) × (text : List ℕ) × Reports (file_read (F.seen files.old) (F.seen files.new)) (wires_seen W.tells_log W.counts_alone W.seen used later) (D.seen door.old) (D.seen door.new) (asked (map (λ w. string_bytes w) words.now)) result lines text (sink_written E.tells_held E.held E.write_faults err.old err.new) × (IsTrue E.tells_held → Gains (E.held err.old ++ lines) (E.held err.new) (E.write_faults err.old) (E.write_faults err.new) text)) }
+    ensures reported { OnWires W.tells_log W.counts_alone W.seen (wires_used (asked_in words.now)) wires.old wires.new (λ seen. HasReport (file_read (F.seen files.old) (F.seen files.new)) seen (D.seen door.old) (D.seen door.new) (asked_in words.now) result (sink_written E.tells_held E.held E.write_faults err.old err.new)) }
 
     // With `Done`, `out` gained exactly the document of the query's answer, over the file's graph or over the union of the
     // members' graphs, or the text of the query's plan over these graphs; with `WriteFault` a front of it; else nothing.

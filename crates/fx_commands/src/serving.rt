@@ -6,7 +6,7 @@ ghost use Rattle.fx_outside.specs.Streams.{AppendsFront, AppendsPart};
 ghost use Rattle.fx_commands.specs.Counts.{CountsDoor, CountsOnly};
 ghost use Rattle.fx_commands.specs.Files.{file_read};
 ghost use Rattle.fx_commands.specs.Lines.{Gains};
-ghost use Rattle.fx_commands.specs.Serving.{ending_line, ending_text, IsEnded, IsLastCut, IsMemberReported, IsServingReported};
+ghost use Rattle.fx_commands.specs.Serving.{ending_line, ending_text, HasMemberReport, IsEnded, IsLastCut, IsServingReported};
 ghost use Rattle.fx_commands.specs.Sinks.{sink_written};
 ghost use Rattle.fx_commands.specs.ServingSteps.{end_line, end_status, GivesEnding};
 
@@ -43,7 +43,7 @@ pub fn run_member<F: Files, D: Door, E: Sink>(
     count: u64,
     err: &mut E,
 ) -> Status
-    ensures reported { (lines : List ℕ) × (last : List ℕ) × IsMemberReported (file_read (F.seen files.old) (F.seen files.new) graph.now) (D.seen door.old) (D.seen door.new) address.now count result lines last × (IsTrue E.tells_held → Gains (E.held err.old ++ lines) (E.held err.new) (E.write_faults err.old) (E.write_faults err.new) last) × IsLastCut result (sink_written E.tells_held E.held E.write_faults err.old err.new) lines last }
+    ensures reported { HasMemberReport (file_read (F.seen files.old) (F.seen files.new) graph.now) (D.seen door.old) (D.seen door.new) address.now count result (sink_written E.tells_held E.held E.write_faults err.old err.new) }
     ensures write_fault { result ≡ Status.WriteFault → HasRisen (E.write_faults err.old) (E.write_faults err.new) }
     ensures unfailed_lines { result ≡ Status.Done → E.write_faults err.new ≡ E.write_faults err.old }
     ensures door_faults { CountsDoor result (D.seen door.old).faults (D.seen door.new).faults }

@@ -2,7 +2,7 @@ use Rattle.std.proofs.Common.{◌≡◌, ap, sym, subst, refl, ℕ, List, [], �
 use Rattle.fx_pool.proofs.WireLemmas.{after_itself}
 use Rattle.fx_wire.specs.Exchanges.{Seen}
 use Rattle.fx_commands.specs.Asking.{WiresSeen, wires_seen}
-use Rattle.fx_commands.specs.Commands.{Asked, asked, over_members, planned}
+use Rattle.fx_words.specs.Commands.{Asked, asked, over_members, planned}
 use Rattle.fx_commands.specs.Completeness.{Completes}
 use Rattle.fx_commands.specs.Files.{file_read}
 use Rattle.fx_commands.specs.Explain.{IsExplainWritten}

@@ -1,6 +1,6 @@
 use Rattle.std.proofs.Common.{◌≡◌, drop}
 use Rattle.std.specs.Str.{all_ascii_digits}
-use Rattle.fx_commands.proofs.commands.has_digits.Given as goal
+use Rattle.fx_words.proofs.numbers.has_digits.Given as goal
 
 -- what is left decides
 abbrev pub invariant-loop-b : goal.invariant-loop-b

@@ -1,17 +1,12 @@
 -- How the words of a command line are read.
-use Rattle.std.specs.Prelude.{◌≡◌, ℕ, Bool, true, false, List, [], ◌∷◌, ◌++◌, map, Option, Some, None, Result, Ok, Err, codes, if◌then◌else◌, option_map, option_and_then, ◌==◌, ◌&&◌, not, length, take, drop, nat_le, nat_lt, ◌≤◌}
+use Rattle.std.specs.Prelude.{◌≡◌, ℕ, Bool, false, List, [], ◌∷◌, Option, Some, None, Result, Ok, Err, codes, if◌then◌else◌, option_map, option_and_then, ◌==◌, ◌&&◌, not, length, map, take, drop, nat_le, nat_lt, ◌≤◌, String, string_bytes}
 use Rattle.std.specs.Borrow.{Bor}
 use Rattle.std.specs.Str.{all_ascii_digits, bytes_eq}
 use Rattle.std.specs.Str.Parse.{digits_value}
-use Rattle.std.specs.declared.vec.Vec.{Vec}
-use Rattle.std.specs.declared.alloc.Global.{Global}
-use Rattle.fx_commands.specs.declared.commands.Command.{Command}
-use Rattle.fx_commands.specs.declared.commands.Command.TheVariants.{Local, Query, Explain, Member, Generate}
-use Rattle.fx_commands.specs.declared.commands.CommandError.{CommandError}
-use Rattle.fx_commands.specs.declared.commands.QueryWords as commands
-use Rattle.fx_commands.specs.declared.commands.Next.{Next}
-use Rattle.fx_commands.specs.declared.commands.Next.TheVariants as next
-use Rattle.fx_commands.specs.declared.commands.CommandError.TheVariants.{Usage, Memory}
+use Rattle.fx_words.specs.declared.commands.Command.{Command}
+use Rattle.fx_words.specs.declared.commands.Command.TheVariants.{Local, Query, Explain, Member, Generate}
+use Rattle.fx_words.specs.declared.commands.CommandError.{CommandError}
+use Rattle.fx_words.specs.declared.commands.CommandError.TheVariants.{Usage, Memory}
 
 abbrev pub local_word : List ℕ
 local_word = codes "local"
@@ -42,10 +37,6 @@ abbrev pub in_front : {X : Type 0} → Option X → Option (List X) → Option (
 in_front None rest = None
 in_front (Some x) None = None
 in_front (Some x) (Some xs) = Some (x ∷ xs)
-
--- elements before those that there are, if there are any
-abbrev pub behind : {X : Type 0} → List X → Option (List X) → Option (List X)
-behind front rest = option_map (λ xs. front ++ xs) rest
 
 -- the words that are no options: behind -- every word is one, and before it no option may stand
 abbrev pub positionals : List (List ℕ) → Option (List (List ℕ))
@@ -201,6 +192,10 @@ asked (c ∷ ws) =
     else if bytes_eq c generate_word then option_and_then generate_asked (positionals ws)
     else None
 
+-- the same of words as they are held
+abbrev pub asked_in : {Z : Type 0} → List (String Z) → Option Asked
+asked_in words = asked (map (λ w. string_bytes w) words)
+
 -- ---- answers, where want of memory alone is free
 
 abbrev pub asked_by : Command → Asked
@@ -229,38 +224,3 @@ abbrev pub GivesFiles : Result (Bor (List ℕ) × Bor (List ℕ)) CommandError �
 GivesFiles (Ok p) wanted = wanted ≡ Some (p.0.now, p.1.now)
 GivesFiles (Err Usage) wanted = wanted ≡ None
 GivesFiles (Err Memory) wanted = Unit {0}
-
-abbrev pub texts : List (Bor (List ℕ)) → List (List ℕ)
-texts words = map (λ w. w.now) words
-
-abbrev pub GivesWords : Result (Vec (Bor (List ℕ)) Global) CommandError → Option (List (List ℕ)) → Type 0
-GivesWords (Ok v) wanted = wanted ≡ Some (texts v.items)
-GivesWords (Err Usage) wanted = wanted ≡ None
-GivesWords (Err Memory) wanted = Unit {0}
-
--- the words that are left, where -- was read or was not
-abbrev pub positionals_from : Bool → List (List ℕ) → Option (List (List ℕ))
-positionals_from true ws = Some ws
-positionals_from false ws = positionals ws
-
--- the words that were found
-abbrev pub told : commands.QueryWords → QueryWords
-told g = record { positionals = texts g.positionals.items; workers = texts g.workers.items; blocks = texts g.blocks.items }
-
-abbrev pub GivesQueryWords : Result commands.QueryWords CommandError → Option QueryWords → Type 0
-GivesQueryWords (Ok g) wanted = wanted ≡ Some (told g)
-GivesQueryWords (Err Usage) wanted = wanted ≡ None
-GivesQueryWords (Err Memory) wanted = Unit {0}
-
--- what there is before what words give, if they give anything
-abbrev pub ahead : QueryWords → Option QueryWords → Option QueryWords
-ahead front rest = option_map (λ (g : QueryWords). record { positionals = front.positionals ++ g.positionals; workers = front.workers ++ g.workers; blocks = front.blocks ++ g.blocks }) rest
-
--- what the words that are left give, by what the first of them is
-abbrev pub query_words_from : Next → List (List ℕ) → Option QueryWords
-query_words_from next.Any ws = query_words ws
-query_words_from next.Workers [] = None
-query_words_from next.Workers (v ∷ ws) = with_workers v (query_words ws)
-query_words_from next.Block [] = None
-query_words_from next.Block (v ∷ ws) = with_block v (query_words ws)
-query_words_from next.Positional ws = Some (plain ws)

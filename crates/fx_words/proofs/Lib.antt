@@ -1,0 +1,9 @@
+pub mod LookLemmas
+pub mod StepLemmas
+pub mod PlaceLemmas
+pub mod MeetLemmas
+pub mod FormLemmas
+pub mod OptionLemmas
+pub mod QueryLemmas
+pub mod ParseLemmas
+pub mod NumberLemmas
