@@ -132,7 +132,12 @@ fn failed_at(alloc: Global, wires: &[WatchedWire]) -> Option<String> {
 }
 
 // So many wires, one at least, of which the first fails at its exchange of this number; at none where it is 0.
-fn watched_wires(alloc: Global, count: u64, number: u64, fields: &[&str]) -> Option<Vec<WatchedWire>> {
+fn watched_wires(
+    alloc: Global,
+    count: u64,
+    number: u64,
+    fields: &[&str],
+) -> Option<Vec<WatchedWire>> {
     let mut wires = vec![in alloc; watched_wire(alloc, number, fields)?].ok()?;
     for _ in 1..count {
         wires.push(watched_wire(alloc, 0, fields)?).ok()?;

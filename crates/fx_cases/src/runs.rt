@@ -49,14 +49,26 @@ pub fn answer<R: Threads + Wait + Sync>(
         }
         ("run over blanks with failing calls", [words, name, count, failing, step, files @ ..]) => {
             over_blanks(
-                rt, alloc, words, name, count, failing, step.parse::<u64>().ok()?, files,
+                rt,
+                alloc,
+                words,
+                name,
+                count,
+                failing,
+                step.parse::<u64>().ok()?,
+                files,
             )
         }
         ("run over graphs", [words, failing, fields @ ..]) => over_graphs(
             rt, alloc, words, failing, STEP, fields,
         ),
         ("run over graphs by steps", [words, failing, step, fields @ ..]) => over_graphs(
-            rt, alloc, words, failing, step.parse::<u64>().ok()?, fields,
+            rt,
+            alloc,
+            words,
+            failing,
+            step.parse::<u64>().ok()?,
+            fields,
         ),
         ("run over graphs by wires", [words, count, fields @ ..]) => {
             over_graphs_by_wires(rt, alloc, words, count, fields)
