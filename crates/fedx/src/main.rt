@@ -7,6 +7,7 @@ ghost use Rattle.std.specs.Prelude.{◌<◌, IfOk, vec_len};
 use fx_commands::{CommandError, Refusal, Status, run, write_refusal};
 use fx_outside::{Folder, Listener, StdSink};
 use fx_wire::TcpWire;
+use std::alloc::AllocError;
 use std::process::ExitCode;
 use std::sync::Wait;
 use std::thread::Threads;
@@ -16,21 +17,25 @@ use std::{env, io};
 const WIRES: usize = 16;
 
 fn main(rt: HostRuntime) -> io::Result<ExitCode> {
-    let status = match words(&rt) {
-        Ok(words) => run_words(&rt, &rt, words.as_slice())?,
+    let ended = match words(&rt) {
+        Ok(words) => run_words(&rt, &rt, words.as_slice()),
         // No command has a word that can't be read, so it is answered as no words are.
-        Err(CommandError::Usage) => run_words(&rt, &rt, &[])?,
-        Err(CommandError::Memory) => no_memory(&rt),
+        Err(CommandError::Usage) => run_words(&rt, &rt, &[]),
+        Err(CommandError::Memory) => Err(AllocError),
+    };
+    let status = match ended {
+        Ok(status) => status,
+        Err(AllocError) => no_memory(&rt),
     };
     Ok(ExitCode::from(status.code()))
 }
 
-// Runs the command over the system's files, network and streams, with threads for its workers.
+// Runs the command over the system's files, network and streams, with threads for its workers. It fails where there is no memory for these.
 fn run_words<R: Threads + Wait + Sync>(
     threads: &R,
     rt: &HostRuntime,
     words: &[String],
-) -> io::Result<Status> {
+) -> Result<Status, AllocError> {
     let for_files = rt.clone()?;
     let for_door = rt.clone()?;
     let mut files = Folder::new(rt.alloc(), for_files);
@@ -51,7 +56,7 @@ fn run_words<R: Threads + Wait + Sync>(
 }
 
 // The wires that a command may use.
-fn wires(rt: &HostRuntime) -> io::Result<Vec<TcpWire<HostRuntime>>>
+fn wires(rt: &HostRuntime) -> Result<Vec<TcpWire<HostRuntime>>, AllocError>
     ensures { IfOk result (λ wires. 0 < vec_len wires) }
 {
     let mut wires = vec![in rt.alloc(); wire(rt)?]?;
@@ -61,11 +66,11 @@ fn wires(rt: &HostRuntime) -> io::Result<Vec<TcpWire<HostRuntime>>>
     Ok(wires)
 }
 
-fn wire(rt: &HostRuntime) -> io::Result<TcpWire<HostRuntime>> {
+fn wire(rt: &HostRuntime) -> Result<TcpWire<HostRuntime>, AllocError> {
     Ok(TcpWire::new(rt.alloc(), rt.clone()?))
 }
 
-// The end of a run for whose words there is no memory.
+// The end of a run for whose words or wires there is no memory.
 fn no_memory(rt: &HostRuntime) -> Status {
     let mut err = StdSink::new(rt.stderr());
     write_refusal(&mut err, &Refusal::Memory, "", "");

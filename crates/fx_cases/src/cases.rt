@@ -1,6 +1,6 @@
 //! What the calls of each table give.
 
-use crate::{commands, runs, served};
+use crate::{commands, devices, runs, served};
 use fx_bound_cases::batches;
 use fx_mediator_cases::mediations;
 use fx_plan_cases::{engine, plans, registries, sources};
@@ -48,6 +48,7 @@ pub fn answer<R: Threads + Wait + Sync>(
         "runs" => runs::answer(rt, alloc, call, inputs),
         "hostile" => runs::answer(rt, alloc, call, inputs),
         "served" => served::answer(rt, alloc, call, inputs),
+        "devices" => devices::answer(rt, alloc, call, inputs),
         "drawn" => runs::answer(rt, alloc, call, inputs),
         _ => None,
     }

@@ -7,16 +7,18 @@
 mod cases;
 mod commands;
 mod counting;
+mod devices;
 mod runs;
 mod served;
 mod tables;
+mod watched;
 
 use std::process::ExitCode;
 use std::{fs, io};
 use tables::{Outcome, try_table};
 
 // The tables, in the order of the crates whose calls they try.
-const TABLES: [&str; 26] = [
+const TABLES: [&str; 27] = [
     "terms",
     "outside",
     "ntriples",
@@ -42,6 +44,7 @@ const TABLES: [&str; 26] = [
     "runs",
     "hostile",
     "served",
+    "devices",
     "drawn",
 ];
 

@@ -20,10 +20,11 @@ use std::str::from_utf8;
 use std::sync::Wait;
 use std::thread::Threads;
 
-// How many bytes a stream takes, and one write of it, where no other number is given.
+// How many bytes a stream takes.
 const ROOM: u64 = 65536;
 
-const STEP: u64 = 4096;
+/// How many bytes one write of a stream takes, where no other number is given.
+pub const STEP: u64 = 4096;
 
 /// What a call gives.
 pub fn answer<R: Threads + Wait + Sync>(
@@ -44,11 +45,31 @@ pub fn answer<R: Threads + Wait + Sync>(
             with_each_write_failing(rt, alloc, words, step, most, files)
         }
         ("run over blanks", [words, name, count, files @ ..]) => {
-            over_blanks(rt, alloc, words, name, count, files)
+            over_blanks(rt, alloc, words, name, count, "", STEP, files)
         }
-        ("run over graphs", [words, failing, fields @ ..]) => {
-            over_graphs(rt, alloc, words, failing, fields)
+        ("run over blanks with failing calls", [words, name, count, failing, step, files @ ..]) => {
+            over_blanks(
+                rt,
+                alloc,
+                words,
+                name,
+                count,
+                failing,
+                step.parse::<u64>().ok()?,
+                files,
+            )
         }
+        ("run over graphs", [words, failing, fields @ ..]) => over_graphs(
+            rt, alloc, words, failing, STEP, fields,
+        ),
+        ("run over graphs by steps", [words, failing, step, fields @ ..]) => over_graphs(
+            rt,
+            alloc,
+            words,
+            failing,
+            step.parse::<u64>().ok()?,
+            fields,
+        ),
         ("run over graphs by wires", [words, count, fields @ ..]) => {
             over_graphs_by_wires(rt, alloc, words, count, fields)
         }
@@ -73,7 +94,7 @@ fn over_replies<R: Threads + Wait + Sync>(
     step: u64,
     fields: &[&str],
 ) -> Option<String> {
-    let mut wires = [ScriptWire::new(alloc, replies(alloc, fields)?).ok()?];
+    let mut wires = [ScriptWire::new(alloc, replies(alloc, fields, "")?).ok()?];
     over_wires(rt, alloc, words, failing, step, fields, &mut wires)
 }
 
@@ -83,10 +104,11 @@ fn over_graphs<R: Threads + Wait + Sync>(
     alloc: Global,
     words: &str,
     failing: &str,
+    step: u64,
     fields: &[&str],
 ) -> Option<String> {
     let mut wires = [fault_wire(alloc, failing, fields)?];
-    over_wires(rt, alloc, words, failing, STEP, fields, &mut wires)
+    over_wires(rt, alloc, words, failing, step, fields, &mut wires)
 }
 
 fn fault_wire(alloc: Global, failing: &str, fields: &[&str]) -> Option<FaultWire> {
@@ -132,7 +154,7 @@ fn over_replies_with_log<R: Threads + Wait + Sync>(
     words: &str,
     fields: &[&str],
 ) -> Option<String> {
-    let mut wires = [ScriptWire::new(alloc, replies(alloc, fields)?).ok()?];
+    let mut wires = [ScriptWire::new(alloc, replies(alloc, fields, "")?).ok()?];
     let mut text = over_wires(rt, alloc, words, "", STEP, fields, &mut wires)?;
     push_log(&mut text, wires[0].log())?;
     Some(text)
@@ -150,7 +172,8 @@ fn push_log(text: &mut String, log: &[Answered]) -> Option<()> {
     Some(())
 }
 
-fn over_wires<R: Threads + Wait + Sync, W: Wire + Send>(
+/// What a run gives over files and wires, with writes to the streams of so many bytes.
+pub fn over_wires<R: Threads + Wait + Sync, W: Wire + Send>(
     rt: &R,
     alloc: Global,
     words: &str,
@@ -172,14 +195,16 @@ fn over_blanks<R: Threads + Wait + Sync>(
     words: &str,
     name: &str,
     count: &str,
+    failing: &str,
+    step: u64,
     fields: &[&str],
 ) -> Option<String> {
-    let mut files = files_of(alloc, "", with_blanks(alloc, name, count, fields)?)?;
+    let mut files = files_of(alloc, failing, with_blanks(alloc, name, count, fields)?)?;
     let mut wires = [ScriptWire::new(alloc, Vec::new(alloc)).ok()?];
-    ran(rt, alloc, words, "", STEP, &mut files, &mut wires)
+    ran(rt, alloc, words, failing, step, &mut files, &mut wires)
 }
 
-// Where `{long}` stands once at most in each file, for so many letters.
+// Where `{long}` stands once at most in each file and in each reply, for so many letters.
 fn over_long_files<R: Threads + Wait + Sync>(
     rt: &R,
     alloc: Global,
@@ -198,7 +223,7 @@ fn over_long_files<R: Threads + Wait + Sync>(
         }
     }
     let mut files = files_of(alloc, "", contents)?;
-    let mut wires = [ScriptWire::new(alloc, replies(alloc, fields)?).ok()?];
+    let mut wires = [ScriptWire::new(alloc, replies(alloc, fields, count)?).ok()?];
     ran(rt, alloc, words, "", STEP, &mut files, &mut wires)
 }
 
@@ -389,14 +414,15 @@ pub fn contents(alloc: Global, fields: &[&str]) -> Option<Vec<(String, Vec<u8>)>
     Some(contents)
 }
 
-fn replies(alloc: Global, fields: &[&str]) -> Option<Vec<(Iri, Vec<u8>)>> {
+// The replies of fields, where `{long}` stands once at most in each, for so many letters.
+fn replies(alloc: Global, fields: &[&str], count: &str) -> Option<Vec<(Iri, Vec<u8>)>> {
     let mut replies = Vec::new(alloc);
     for field in fields {
         let (name, content) = field.split_once('=')?;
         if is_address(name) {
             let address = Iri::read(alloc, name).ok()?;
             replies
-                .push((address, escapes::bytes(alloc, content)?))
+                .push((address, lengthened(alloc, content, count)?))
                 .ok()?;
         }
     }

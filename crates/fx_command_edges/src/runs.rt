@@ -91,7 +91,18 @@ fn status_of<R: Threads + Wait + Sync>(rt: &R, alloc: Global, slow: &str) -> Res
     let mut door = closed_door(alloc)?;
     let mut out = MemorySink::new(alloc, 1000, 1000, Vec::new(alloc))?;
     let mut line = MemorySink::new(alloc, 100, 100, Vec::new(alloc))?;
-    let words = words(alloc, &["query", "members.txt", "all.rq", "--workers", "2", "--block", "1"])?;
+    let words = words(
+        alloc,
+        &[
+            "query",
+            "members.txt",
+            "all.rq",
+            "--workers",
+            "2",
+            "--block",
+            "1",
+        ],
+    )?;
     let status = run(
         rt,
         alloc,

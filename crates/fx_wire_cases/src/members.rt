@@ -92,7 +92,7 @@ fn failing_reads_of(alloc: Global, store: &Store, input: &[u8]) -> Option<String
     shown::word(alloc, "nothing is written")
 }
 
-// Each of the first 99 writes in turn fails, where a byte is written at a time.
+// Each write in turn fails, where a byte is written at a time.
 fn failing_writes(alloc: Global, graph: &str, input: &str, whole: &str) -> Option<String> {
     let store = store(alloc, graph)?;
     let whole = escapes::text(alloc, whole)?;
@@ -101,7 +101,7 @@ fn failing_writes(alloc: Global, graph: &str, input: &str, whole: &str) -> Optio
 
 fn failing_writes_of(alloc: Global, store: &Store, input: &str, whole: &str) -> Option<String> {
     let input = escapes::bytes(alloc, input)?;
-    for number in 1..100u64 {
+    for number in 1..=whole.len() as u64 {
         let text = served_text(alloc, store, input.as_slice(), 1, 0, number)?;
         let front = whole.get(..number as usize - 1)?;
         if text.as_str().strip_prefix("WriteFault behind ") != Some(front) {

@@ -1,0 +1,153 @@
+//! Calls of `fx_commands::run` over devices of which one fails. The calls of `runs` stand in their table too.
+//!
+//! Words, files and graphs are as in `runs`. Each wire is over all members, and the first fails at its exchange of one number.
+
+use crate::runs;
+use crate::runs::{STEP, graphs, over_wires};
+use crate::watched::WatchedWire;
+use fx_member::{FaultWire, GraphWire};
+use std::alloc::Global;
+use std::sync::Wait;
+use std::thread::Threads;
+
+/// What a call gives.
+pub fn answer<R: Threads + Wait + Sync>(
+    rt: &R,
+    alloc: Global,
+    call: &str,
+    inputs: &[&str],
+) -> Option<String> {
+    match (call, inputs) {
+        ("run with each exchange failing", [words, count, most, fields @ ..]) => {
+            with_each_failing(rt, alloc, words, count, most, fields)
+        }
+        ("ends with each exchange failing", [words, most, fields @ ..]) => {
+            ends(rt, alloc, words, most, fields)
+        }
+        _ => runs::answer(rt, alloc, call, inputs),
+    }
+}
+
+// What a run over so many wires gives where none fails, if each run in which one exchange of the first wire is to fail, up to that of the last number, has an
+// end that may be; else the end of the first that has another.
+fn with_each_failing<R: Threads + Wait + Sync>(
+    rt: &R,
+    alloc: Global,
+    words: &str,
+    count: &str,
+    most: &str,
+    fields: &[&str],
+) -> Option<String> {
+    let count = count.parse::<u64>().ok()?;
+    let whole = given_by(rt, alloc, words, count, fields)?;
+    for number in 1..=most.parse::<u64>().ok()? {
+        let end = end_at(rt, alloc, words, count, number, whole.as_str(), fields)?;
+        if end.contains(' ') {
+            return format!(in alloc; "at exchange {number} {end}").ok();
+        }
+    }
+    Some(whole)
+}
+
+// The ends of the runs over one wire of which one exchange is to fail, from the first up to the last number, with blanks between.
+fn ends<R: Threads + Wait + Sync>(
+    rt: &R,
+    alloc: Global,
+    words: &str,
+    most: &str,
+    fields: &[&str],
+) -> Option<String> {
+    let whole = given_by(rt, alloc, words, 1, fields)?;
+    let mut text = String::new(alloc);
+    for number in 1..=most.parse::<u64>().ok()? {
+        if number > 1 {
+            text.push(' ').ok()?;
+        }
+        let end = end_at(rt, alloc, words, 1, number, whole.as_str(), fields)?;
+        text.push_str(end.as_str()).ok()?;
+    }
+    Some(text)
+}
+
+// What a run over so many wires gives where none fails.
+fn given_by<R: Threads + Wait + Sync>(
+    rt: &R,
+    alloc: Global,
+    words: &str,
+    count: u64,
+    fields: &[&str],
+) -> Option<String> {
+    let mut wires = watched_wires(alloc, count, 0, fields)?;
+    if wires.is_empty() {
+        return None;
+    }
+    over_wires(rt, alloc, words, "", STEP, fields, wires.as_mut_slice())
+}
+
+// How a run ends whose first wire fails at its exchange of this number.
+fn end_at<R: Threads + Wait + Sync>(
+    rt: &R,
+    alloc: Global,
+    words: &str,
+    count: u64,
+    number: u64,
+    whole: &str,
+    fields: &[&str],
+) -> Option<String> {
+    let mut wires = watched_wires(alloc, count, number, fields)?;
+    if wires.is_empty() {
+        return None;
+    }
+    let given = over_wires(rt, alloc, words, "", STEP, fields, wires.as_mut_slice())?;
+    let failed = failed_at(alloc, wires.as_slice())?;
+    end_text(alloc, given.as_str(), whole, failed.as_str())
+}
+
+// `whole` where all is given and no exchange failed; the name of an endpoint where one exchange failed, which was with it, and the run says this and nothing
+// else; else what is given, and where exchanges failed.
+fn end_text(alloc: Global, given: &str, whole: &str, failed: &str) -> Option<String> {
+    if failed.is_empty() && given == whole {
+        return String::from_str(alloc, "whole").ok();
+    }
+    let named = format!(in alloc; "status 5 | err member {failed} failed\n").ok()?;
+    if !failed.is_empty() && given == named.as_str() {
+        String::from_str(alloc, failed).ok()
+    } else {
+        format!(in alloc; "gives {given}, where failed: {failed}").ok()
+    }
+}
+
+// The names of the endpoints of all exchanges that failed, with blanks between.
+fn failed_at(alloc: Global, wires: &[WatchedWire]) -> Option<String> {
+    let mut text = String::new(alloc);
+    for wire in wires {
+        for name in wire.failed() {
+            if !text.is_empty() {
+                text.push(' ').ok()?;
+            }
+            text.push_str(name.as_str()).ok()?;
+        }
+    }
+    Some(text)
+}
+
+// So many wires, one at least, of which the first fails at its exchange of this number; at none where it is 0.
+fn watched_wires(
+    alloc: Global,
+    count: u64,
+    number: u64,
+    fields: &[&str],
+) -> Option<Vec<WatchedWire>> {
+    let mut wires = vec![in alloc; watched_wire(alloc, number, fields)?].ok()?;
+    for _ in 1..count {
+        wires.push(watched_wire(alloc, 0, fields)?).ok()?;
+    }
+    Some(wires)
+}
+
+fn watched_wire(alloc: Global, number: u64, fields: &[&str]) -> Option<WatchedWire> {
+    let fails = vec![in alloc; number].ok()?;
+    let graphs = GraphWire::new(alloc, graphs(alloc, fields)?).ok()?;
+    let wire = FaultWire::new(alloc, graphs, fails, Vec::new(alloc)).ok()?;
+    Some(WatchedWire::new(alloc, wire))
+}
