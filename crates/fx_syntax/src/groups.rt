@@ -1,95 +1,20 @@
 //! Groups. `depth` says how many more groups may stand within one another.
-ghost use Rattle.fx_algebra.specs.Scopes.{all_of, mentions, with_name};
-ghost use Rattle.std.specs.Prelude.{◌≡◌, ℕ, fold, IfOk, OnOk, true, map, [], ◌∷◌};
+ghost use Rattle.std.specs.Prelude.{◌≡◌, ℕ, []};
 ghost use Rattle.fx_grammar.specs.Rule as rule;
 ghost use Rattle.fx_grammar.specs.Grammar as grammar;
-ghost use Rattle.fx_syntax.specs.Gives.{Gives};
+ghost use Rattle.fx_readers.specs.Gives.{Gives};
 
-use crate::expressions::{call, expression, parens, sees_call};
-use crate::faults::Fault;
-use crate::readers::{iri_name, mark, refuse, sees, sees_iri_name};
-use crate::triples::{sees_graph_term, triples};
-use crate::values::{add, block, has, no_names};
-use fx_algebra::scopes::add_element;
-use fx_algebra::{Element, Expr, Group};
-use fx_grammar::{Kind, SyntaxKind, Text, Token};
-use fx_terms::{Boxed, Iri, Items, Memory, Name, Pattern};
+use fx_algebra::{Element, Group};
+use fx_expressions::{constraint, whole_expression};
+use fx_grammar::{Kind, SyntaxKind, Token};
+use fx_readers::{Fault, Prefixes, iri_name, mark, refuse, sees, sees_iri_name};
+use fx_terms::{Boxed, Iri, Items, Name};
+use fx_trees::elements;
+use fx_trees::elements::{bound, filtered, note, one_element, one_group};
+use fx_trees::names::{has_name, no_names};
+use fx_triples::{behind_other, first_triples, inline_values};
 use indexmap::IndexSet;
-use std::alloc::{AllocError, Global};
-
-#[tactic(auto, unfolding(fx_grammar::specs::Grammar::whole_expression))]
-fn whole_expression<'a>(
-    alloc: Global,
-    tokens: &'a [Token],
-    prefixes: &[(Text, Iri)],
-) -> Result<(Boxed<Expr>, &'a [Token]), Fault>
-    ensures { Gives (λ x. (x.0, x.1.now)) result ((grammar.whole_expression prefixes.now).read tokens.now) }
-{
-    expression(alloc, tokens, prefixes, 64)
-}
-
-/// An expression between brackets.
-#[tactic(auto, unfolding(fx_grammar::specs::Grammar::whole_expression))]
-pub fn whole_parens<'a>(
-    alloc: Global,
-    tokens: &'a [Token],
-    prefixes: &[(Text, Iri)],
-) -> Result<(Boxed<Expr>, &'a [Token]), Fault>
-    ensures { Gives (λ x. (x.0, x.1.now)) result ((grammar.parens (grammar.whole_expression prefixes.now)).read tokens.now) }
-{
-    parens(alloc, tokens, prefixes, 64)
-}
-
-#[tactic(auto, unfolding(fx_grammar::specs::Grammar::whole_expression))]
-fn whole_call<'a>(
-    alloc: Global,
-    tokens: &'a [Token],
-    prefixes: &[(Text, Iri)],
-) -> Result<(Boxed<Expr>, &'a [Token]), Fault>
-    ensures { Gives (λ x. (x.0, x.1.now)) result ((grammar.call (grammar.whole_expression prefixes.now)).read tokens.now) }
-{
-    call(alloc, tokens, prefixes, 64)
-}
-
-#[tactic(auto, unfolding(fx_grammar::specs::Grammar::whole_expression))]
-fn sees_whole_call(tokens: &[Token]) -> bool
-    ensures { (ps : grammar.Prefixes) → result ≡ rule.sees (grammar.call (grammar.whole_expression ps)).begins tokens.now }
-{
-    sees_call(tokens)
-}
-
-/// An expression between brackets, or a call.
-pub fn constraint<'a>(
-    alloc: Global,
-    tokens: &'a [Token],
-    prefixes: &[(Text, Iri)],
-) -> Result<(Boxed<Expr>, &'a [Token]), Fault>
-    ensures { Gives (λ x. (x.0, x.1.now)) result ((grammar.constraint prefixes.now).read tokens.now) }
-{
-    if sees(tokens, Kind::LeftParen) {
-        return whole_parens(alloc, tokens, prefixes);
-    }
-    if sees_whole_call(tokens) {
-        return whole_call(alloc, tokens, prefixes);
-    }
-    if sees_iri_name(tokens) {
-        return Err(refuse(SyntaxKind::Unsupported, tokens));
-    }
-    Err(refuse(SyntaxKind::Unexpected, tokens))
-}
-
-/// The next token is one with which a constraint begins, or one that is refused by name in its place.
-pub fn sees_constraint(tokens: &[Token]) -> bool
-    ensures { (ps : grammar.Prefixes) → result ≡ rule.sees (grammar.constraint ps).begins tokens.now }
-{
-    if sees(tokens, Kind::LeftParen) {
-        return true;
-    }
-    if sees_whole_call(tokens) {
-        return true;
-    }
-    sees_iri_name(tokens)
-}
+use std::alloc::Global;
 
 #[tactic(auto, unfolding(fx_grammar::specs::Grammar::unbound))]
 fn unbound<'a>(tokens: &'a [Token], names: &IndexSet<Name>) -> Result<(Name, &'a [Token]), Fault>
@@ -97,7 +22,7 @@ fn unbound<'a>(tokens: &'a [Token], names: &IndexSet<Name>) -> Result<(Name, &'a
 {
     match tokens {
         [Token::Variable(name), rest @ ..] => {
-            if has(names, name) {
+            if has_name(names, name) {
                 Err(refuse(SyntaxKind::BindInScope, tokens))
             } else {
                 Ok((name.copy()?, rest))
@@ -107,24 +32,24 @@ fn unbound<'a>(tokens: &'a [Token], names: &IndexSet<Name>) -> Result<(Name, &'a
     }
 }
 
-fn bound(alloc: Global, expr: Boxed<Expr>, name: Name) -> Result<Boxed<Element>, AllocError>
-    ensures { IfOk result (λ e. e ≡ Element.Bind expr name) }
+fn filter<'a>(
+    alloc: Global,
+    tokens: &'a [Token],
+    prefixes: &Prefixes,
+) -> Result<(Boxed<Element>, &'a [Token]), Fault>
+    ensures { Gives (λ x. (x.0, x.1.now)) result ((rule.made Element.Filter (rule.after (rule.token Kind.Filter) (grammar.constraint prefixes.now))).read tokens.now) }
 {
-    let expr = expr.into_inner();
-    Boxed::new(alloc, Element::Bind { expr, name })
-}
-
-fn filtered(alloc: Global, condition: Boxed<Expr>) -> Result<Boxed<Element>, AllocError>
-    ensures { IfOk result (λ e. e ≡ Element.Filter condition) }
-{
-    Boxed::new(alloc, Element::Filter(condition.into_inner()))
+    let rest = mark(tokens, Kind::Filter)?;
+    let (condition, rest) = constraint(alloc, rest, prefixes)?;
+    let element = filtered(alloc, condition)?;
+    Ok((element, rest))
 }
 
 #[tactic(auto, unfolding(fx_grammar::specs::Grammar::binding))]
 fn binding<'a>(
     alloc: Global,
     tokens: &'a [Token],
-    prefixes: &[(Text, Iri)],
+    prefixes: &Prefixes,
     names: &IndexSet<Name>,
 ) -> Result<(Boxed<Element>, &'a [Token]), Fault>
     ensures { Gives (λ x. (x.0, x.1.now)) result ((grammar.binding prefixes.now names.now.keys).read tokens.now) }
@@ -143,7 +68,7 @@ fn binding<'a>(
 fn service_name<'a>(
     alloc: Global,
     tokens: &'a [Token],
-    prefixes: &[(Text, Iri)],
+    prefixes: &Prefixes,
 ) -> Result<(Iri, &'a [Token]), Fault>
     ensures { Gives (λ x. (x.0, x.1.now)) result ((grammar.service_name prefixes.now).read tokens.now) }
 {
@@ -154,105 +79,6 @@ fn service_name<'a>(
         return Err(refuse(SyntaxKind::Unsupported, tokens));
     }
     Err(refuse(SyntaxKind::Unexpected, tokens))
-}
-
-fn one_element(alloc: Global, part: Boxed<Element>) -> Result<Items<Element>, AllocError>
-    ensures { IfOk result (λ parts. parts ≡ part ∷ []) }
-{
-    let mut parts = Items::new(alloc);
-    parts.push(part.into_inner())?;
-    Ok(parts)
-}
-
-fn elements_of(alloc: Global, patterns: &[Pattern]) -> Result<Items<Element>, Memory>
-    ensures { IfOk result (λ es. es ≡ map Element.Triple patterns.now) }
-{
-    let mut elements = Items::new(alloc);
-    for pattern in patterns {
-        elements.push(Element::Triple(pattern.copy()?))?;
-    }
-    Ok(elements)
-}
-
-fn opt_triples<'a>(
-    alloc: Global,
-    tokens: &'a [Token],
-    prefixes: &[(Text, Iri)],
-) -> Result<(Items<Element>, &'a [Token]), Fault>
-    ensures { Gives (λ x. (x.0, x.1.now)) result ((rule.made grammar.triple_elements (rule.opt (grammar.triples prefixes.now))).read tokens.now) }
-{
-    if sees_graph_term(tokens) {
-        let (patterns, rest) = triples(alloc, tokens, prefixes)?;
-        let elements = elements_of(alloc, patterns.as_slice())?;
-        return Ok((elements, rest));
-    }
-    let none = Items::new(alloc);
-    Ok((none, tokens))
-}
-
-#[tactic(auto, unfolding(fx_grammar::specs::Grammar::behind_other))]
-fn behind_other<'a>(
-    alloc: Global,
-    tokens: &'a [Token],
-    prefixes: &[(Text, Iri)],
-) -> Result<(Items<Element>, &'a [Token]), Fault>
-    ensures { Gives (λ x. (x.0, x.1.now)) result ((grammar.behind_other prefixes.now).read tokens.now) }
-{
-    let rest = if sees(tokens, Kind::Dot) {
-        mark(tokens, Kind::Dot)?
-    } else {
-        tokens
-    };
-    opt_triples(alloc, rest, prefixes)
-}
-
-fn first_triples<'a>(
-    alloc: Global,
-    tokens: &'a [Token],
-    prefixes: &[(Text, Iri)],
-) -> Result<(Items<Element>, &'a [Token]), Fault>
-    ensures { Gives (λ x. (x.0, x.1.now)) result ((grammar.first_triples prefixes.now).read tokens.now) }
-{
-    if sees(tokens, Kind::Select) {
-        return Err(refuse(SyntaxKind::Unsupported, tokens));
-    }
-    opt_triples(alloc, tokens, prefixes)
-}
-
-/// The names that elements bind, beside those that were there.
-fn note(alloc: Global, names: &mut IndexSet<Name>, elements: &[Element]) -> Result<(), Memory>
-    ensures { OnOk result (names.new.keys ≡ grammar.with_elements names.old.keys elements.now) }
-{
-    let mentions = mentions(alloc, elements)?;
-    note_names(names, mentions.as_slice())
-}
-
-fn mentions(alloc: Global, elements: &[Element]) -> Result<Vec<Name>, Memory>
-    ensures { IfOk result (λ names. names.items ≡ all_of (map mentions elements.now)) }
-{
-    let mut names = Vec::new(alloc);
-    for element in elements {
-        add_element(&mut names, element)?;
-    }
-    Ok(names)
-}
-
-// More names, each where the names lack it.
-fn note_names(names: &mut IndexSet<Name>, more: &[Name]) -> Result<(), Memory>
-    ensures { OnOk result (names.new.keys ≡ fold with_name names.old.keys more.now) }
-{
-    for name in more {
-        add(names, name.copy()?)?;
-    }
-    Ok(())
-}
-
-fn one_group(alloc: Global, part: Group) -> Result<Items<Group>, AllocError>
-    ensures { IfOk result (λ parts. parts ≡ part ∷ []) }
-{
-    let mut parts = Items::new(alloc);
-    parts.push(part)?;
-    Ok(parts)
 }
 
 /// The next token is one with which an element other than a triple may begin, or one that is refused by name there.
@@ -275,7 +101,7 @@ fn sees_item(tokens: &[Token]) -> bool
 pub fn group<'a>(
     alloc: Global,
     tokens: &'a [Token],
-    prefixes: &[(Text, Iri)],
+    prefixes: &Prefixes,
     depth: u32,
 ) -> Result<(Group, &'a [Token]), Fault>
     ensures { Gives (λ x. (x.0, x.1.now)) result ((grammar.group prefixes.now depth).read tokens.now) }
@@ -291,7 +117,7 @@ pub fn group<'a>(
 fn braced<'a>(
     alloc: Global,
     tokens: &'a [Token],
-    prefixes: &[(Text, Iri)],
+    prefixes: &Prefixes,
     depth: u32,
 ) -> Result<(Group, &'a [Token]), Fault>
     ensures { Gives (λ x. (x.0, x.1.now)) result ((grammar.braced prefixes.now (grammar.group prefixes.now depth)).read tokens.now) }
@@ -306,7 +132,7 @@ fn braced<'a>(
 fn inside<'a>(
     alloc: Global,
     tokens: &'a [Token],
-    prefixes: &[(Text, Iri)],
+    prefixes: &Prefixes,
     depth: u32,
 ) -> Result<(Group, &'a [Token]), Fault>
     ensures { Gives (λ x. (x.0, x.1.now)) result ((grammar.inside prefixes.now (grammar.group prefixes.now depth)).read tokens.now) }
@@ -325,7 +151,7 @@ fn items<'a>(
     mut elements: Items<Element>,
     mut names: IndexSet<Name>,
     tokens: &'a [Token],
-    prefixes: &[(Text, Iri)],
+    prefixes: &Prefixes,
     depth: u32,
 ) -> Result<(Items<Element>, &'a [Token]), Fault>
     ensures { Gives (λ x. (x.0, x.1.now)) result (rule.with_each (λ es. es) elements (grammar.items_from prefixes.now (grammar.group prefixes.now depth) names.keys tokens.now)) }
@@ -345,7 +171,7 @@ fn items<'a>(
 fn item<'a>(
     alloc: Global,
     tokens: &'a [Token],
-    prefixes: &[(Text, Iri)],
+    prefixes: &Prefixes,
     names: &IndexSet<Name>,
     depth: u32,
 ) -> Result<(Items<Element>, &'a [Token]), Fault>
@@ -363,7 +189,7 @@ fn item<'a>(
 fn other<'a>(
     alloc: Global,
     tokens: &'a [Token],
-    prefixes: &[(Text, Iri)],
+    prefixes: &Prefixes,
     names: &IndexSet<Name>,
     depth: u32,
 ) -> Result<(Boxed<Element>, &'a [Token]), Fault>
@@ -373,34 +199,22 @@ fn other<'a>(
         return union(alloc, tokens, prefixes, depth);
     }
     if sees(tokens, Kind::Optional) {
-        let rest = mark(tokens, Kind::Optional)?;
-        let (inner, rest) = group(alloc, rest, prefixes, depth)?;
-        let element = Boxed::new(alloc, Element::Optional(inner))?;
-        return Ok((element, rest));
+        return optional(alloc, tokens, prefixes, depth);
     }
     if sees(tokens, Kind::Minus) {
-        let rest = mark(tokens, Kind::Minus)?;
-        let (inner, rest) = group(alloc, rest, prefixes, depth)?;
-        let element = Boxed::new(alloc, Element::Minus(inner))?;
-        return Ok((element, rest));
+        return minus(alloc, tokens, prefixes, depth);
     }
     if sees(tokens, Kind::Service) {
         return service(alloc, tokens, prefixes, depth);
     }
     if sees(tokens, Kind::Filter) {
-        let rest = mark(tokens, Kind::Filter)?;
-        let (condition, rest) = constraint(alloc, rest, prefixes)?;
-        let element = filtered(alloc, condition)?;
-        return Ok((element, rest));
+        return filter(alloc, tokens, prefixes);
     }
     if sees(tokens, Kind::Bind) {
         return binding(alloc, tokens, prefixes, names);
     }
     if sees(tokens, Kind::Values) {
-        let rest = mark(tokens, Kind::Values)?;
-        let (inline, rest) = block(alloc, rest, prefixes)?;
-        let element = Boxed::new(alloc, Element::Values(inline))?;
-        return Ok((element, rest));
+        return inline_values(alloc, tokens, prefixes);
     }
     if sees(tokens, Kind::Graph) {
         return Err(refuse(SyntaxKind::Unsupported, tokens));
@@ -408,12 +222,42 @@ fn other<'a>(
     Err(refuse(SyntaxKind::Unexpected, tokens))
 }
 
+#[cycle(groups)]
+fn optional<'a>(
+    alloc: Global,
+    tokens: &'a [Token],
+    prefixes: &Prefixes,
+    depth: u32,
+) -> Result<(Boxed<Element>, &'a [Token]), Fault>
+    ensures { Gives (λ x. (x.0, x.1.now)) result ((rule.made Element.Optional (rule.after (rule.token Kind.Optional) (grammar.group prefixes.now depth))).read tokens.now) }
+{
+    let rest = mark(tokens, Kind::Optional)?;
+    let (inner, rest) = group(alloc, rest, prefixes, depth)?;
+    let element = elements::optional(alloc, inner)?;
+    Ok((element, rest))
+}
+
+#[cycle(groups)]
+fn minus<'a>(
+    alloc: Global,
+    tokens: &'a [Token],
+    prefixes: &Prefixes,
+    depth: u32,
+) -> Result<(Boxed<Element>, &'a [Token]), Fault>
+    ensures { Gives (λ x. (x.0, x.1.now)) result ((rule.made Element.Minus (rule.after (rule.token Kind.Minus) (grammar.group prefixes.now depth))).read tokens.now) }
+{
+    let rest = mark(tokens, Kind::Minus)?;
+    let (inner, rest) = group(alloc, rest, prefixes, depth)?;
+    let element = elements::minus(alloc, inner)?;
+    Ok((element, rest))
+}
+
 #[tactic(auto, unfolding(fx_grammar::specs::Grammar::union))]
 #[cycle(groups)]
 fn union<'a>(
     alloc: Global,
     tokens: &'a [Token],
-    prefixes: &[(Text, Iri)],
+    prefixes: &Prefixes,
     depth: u32,
 ) -> Result<(Boxed<Element>, &'a [Token]), Fault>
     ensures { Gives (λ x. (x.0, x.1.now)) result ((grammar.union prefixes.now (grammar.group prefixes.now depth)).read tokens.now) }
@@ -421,7 +265,7 @@ fn union<'a>(
     let (first, rest) = group(alloc, tokens, prefixes, depth)?;
     let parts = one_group(alloc, first)?;
     let (parts, rest) = union_more(alloc, parts, rest, prefixes, depth)?;
-    let element = Boxed::new(alloc, Element::Union(parts))?;
+    let element = elements::union(alloc, parts)?;
     Ok((element, rest))
 }
 
@@ -431,7 +275,7 @@ fn union_more<'a>(
     alloc: Global,
     mut parts: Items<Group>,
     tokens: &'a [Token],
-    prefixes: &[(Text, Iri)],
+    prefixes: &Prefixes,
     depth: u32,
 ) -> Result<(Items<Group>, &'a [Token]), Fault>
     ensures { Gives (λ x. (x.0, x.1.now)) result (rule.with_front parts (rule.more Kind.Union (grammar.group prefixes.now depth) tokens.now)) }
@@ -451,7 +295,7 @@ fn union_more<'a>(
 fn service<'a>(
     alloc: Global,
     tokens: &'a [Token],
-    prefixes: &[(Text, Iri)],
+    prefixes: &Prefixes,
     depth: u32,
 ) -> Result<(Boxed<Element>, &'a [Token]), Fault>
     ensures { Gives (λ x. (x.0, x.1.now)) result ((grammar.service prefixes.now (grammar.group prefixes.now depth)).read tokens.now) }
@@ -465,6 +309,6 @@ fn service<'a>(
     };
     let (iri, rest) = service_name(alloc, rest, prefixes)?;
     let (group, rest) = group(alloc, rest, prefixes, depth)?;
-    let element = Boxed::new(alloc, Element::Service { silent, iri, group })?;
+    let element = elements::service(alloc, silent, iri, group)?;
     Ok((element, rest))
 }

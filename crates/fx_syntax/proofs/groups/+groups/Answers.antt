@@ -3,7 +3,7 @@ use Rattle.std.proofs.lemmas.Result.{err_from_is_err_and}
 use Rattle.fx_grammar.specs.declared.kinds.Kind.TheVariants as k
 use Rattle.fx_grammar.specs.Grammar.{group, braced}
 use Rattle.fx_grammar.proofs.GrammarLaws.{group_law}
-use Rattle.fx_syntax.proofs.Loops.{hands_on, chain_made, chain_made_refused, chain_turn, chain_fails, chain_ends, chain_smaller, nested_none, nested_more}
+use Rattle.fx_readers.proofs.Loops.{hands_on, chain_made, chain_made_refused, chain_turn, chain_fails, chain_ends, chain_smaller, nested_none, nested_more}
 use Rattle.fx_syntax.proofs.GroupLaws.{items_turn, items_fail, items_end, items_smaller, inside_made, inside_refused, inside_unread}
 use Rattle.fx_grammar.specs.Grammar as grammar
 use Rattle.fx_algebra.specs.declared.queries.Element.TheVariants as element

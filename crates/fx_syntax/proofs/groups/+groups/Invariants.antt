@@ -16,6 +16,12 @@ decreases-union l = 16 * l.depth + 2
 abbrev pub decreases-service : goal.decreases-service
 decreases-service l = 16 * l.depth + 2
 
+abbrev pub decreases-optional : goal.decreases-optional
+decreases-optional l = 16 * l.depth + 2
+
+abbrev pub decreases-minus : goal.decreases-minus
+decreases-minus l = 16 * l.depth + 2
+
 abbrev pub decreases-other : goal.decreases-other
 decreases-other l = 16 * l.depth + 3
 

@@ -1,5 +1,5 @@
 use Rattle.std.proofs.Common.{sym, ◌∙◌, refl}
-use Rattle.fx_syntax.proofs.ExpressionLaws.{condition_sees}
+use Rattle.fx_expressions.proofs.ExpressionLaws.{condition_sees}
 use Rattle.fx_syntax.proofs.queries.sees_condition.Goals as goal
 
 pub returns-then-sees : goal.returns-then-sees

@@ -1,0 +1,93 @@
+//! What triples and blocks of VALUES are where they stand in a group or behind a query.
+ghost use Rattle.std.specs.Prelude.{◌≡◌};
+ghost use Rattle.fx_grammar.specs.Rule as rule;
+ghost use Rattle.fx_grammar.specs.Grammar as grammar;
+ghost use Rattle.fx_readers.specs.Gives.{Gives};
+
+use crate::subjects::{sees_graph_term, triples};
+use crate::values::block;
+use fx_algebra::{Element, Inline};
+use fx_grammar::{Kind, SyntaxKind, Token};
+use fx_readers::{Fault, Prefixes, mark, refuse, sees};
+use fx_terms::{Boxed, Items};
+use fx_trees::elements;
+use fx_trees::elements::elements_of;
+use std::alloc::Global;
+
+/// A VALUES.
+pub fn inline_values<'a>(
+    alloc: Global,
+    tokens: &'a [Token],
+    prefixes: &Prefixes,
+) -> Result<(Boxed<Element>, &'a [Token]), Fault>
+    ensures { Gives (λ x. (x.0, x.1.now)) result ((rule.made Element.Values (rule.after (rule.token Kind.Values) (grammar.block prefixes.now))).read tokens.now) }
+{
+    let rest = mark(tokens, Kind::Values)?;
+    let (inline, rest) = block(alloc, rest, prefixes)?;
+    let element = elements::inline_values(alloc, inline)?;
+    Ok((element, rest))
+}
+
+fn opt_triples<'a>(
+    alloc: Global,
+    tokens: &'a [Token],
+    prefixes: &Prefixes,
+) -> Result<(Items<Element>, &'a [Token]), Fault>
+    ensures { Gives (λ x. (x.0, x.1.now)) result ((rule.made grammar.triple_elements (rule.opt (grammar.triples prefixes.now))).read tokens.now) }
+{
+    if sees_graph_term(tokens) {
+        let (patterns, rest) = triples(alloc, tokens, prefixes)?;
+        let elements = elements_of(alloc, patterns.as_slice())?;
+        return Ok((elements, rest));
+    }
+    let none = Items::new(alloc);
+    Ok((none, tokens))
+}
+
+/// A dot behind another element, and the triples behind it, each where there are.
+#[tactic(auto, unfolding(fx_grammar::specs::Grammar::behind_other))]
+pub fn behind_other<'a>(
+    alloc: Global,
+    tokens: &'a [Token],
+    prefixes: &Prefixes,
+) -> Result<(Items<Element>, &'a [Token]), Fault>
+    ensures { Gives (λ x. (x.0, x.1.now)) result ((grammar.behind_other prefixes.now).read tokens.now) }
+{
+    let rest = if sees(tokens, Kind::Dot) {
+        mark(tokens, Kind::Dot)?
+    } else {
+        tokens
+    };
+    opt_triples(alloc, rest, prefixes)
+}
+
+/// The triples with which a group begins, where it does.
+pub fn first_triples<'a>(
+    alloc: Global,
+    tokens: &'a [Token],
+    prefixes: &Prefixes,
+) -> Result<(Items<Element>, &'a [Token]), Fault>
+    ensures { Gives (λ x. (x.0, x.1.now)) result ((grammar.first_triples prefixes.now).read tokens.now) }
+{
+    if sees(tokens, Kind::Select) {
+        return Err(refuse(SyntaxKind::Unsupported, tokens));
+    }
+    opt_triples(alloc, tokens, prefixes)
+}
+
+/// The VALUES behind a query, where there is one.
+#[tactic(auto, unfolding(fx_grammar::specs::Grammar::block))]
+pub fn opt_values<'a>(
+    alloc: Global,
+    tokens: &'a [Token],
+    prefixes: &Prefixes,
+) -> Result<(Option<Inline>, &'a [Token]), Fault>
+    ensures { Gives (λ x. (x.0, x.1.now)) result ((rule.opt (rule.after (rule.token Kind.Values) (grammar.block prefixes.now))).read tokens.now) }
+{
+    if sees(tokens, Kind::Values) {
+        let rest = mark(tokens, Kind::Values)?;
+        let (inline, rest) = block(alloc, rest, prefixes)?;
+        return Ok((Some(inline), rest));
+    }
+    Ok((None, tokens))
+}
