@@ -3,7 +3,6 @@
 //! `parse` reads a text exactly where it is accepted by the grammar of `fx_grammar`, and else refuses it with its reason at its place.
 #![tactic(auto)]
 
-mod groups;
 mod parsing;
 mod queries;
 

@@ -4,10 +4,10 @@ use Rattle.fx_grammar.specs.declared.kinds.Kind.TheVariants as k
 use Rattle.fx_grammar.specs.Grammar.{group, braced}
 use Rattle.fx_grammar.proofs.GrammarLaws.{group_law}
 use Rattle.fx_readers.proofs.Loops.{hands_on, chain_made, chain_made_refused, chain_turn, chain_fails, chain_ends, chain_smaller, nested_none, nested_more}
-use Rattle.fx_syntax.proofs.GroupLaws.{items_turn, items_fail, items_end, items_smaller, inside_made, inside_refused, inside_unread}
+use Rattle.fx_groups.proofs.GroupLaws.{items_turn, items_fail, items_end, items_smaller, inside_made, inside_refused, inside_unread}
 use Rattle.fx_grammar.specs.Grammar as grammar
 use Rattle.fx_algebra.specs.declared.queries.Element.TheVariants as element
-use Rattle.fx_syntax.proofs.groups.+groups.Goals as goal
+use Rattle.fx_groups.proofs.groups.+groups.Goals as goal
 
 pub group-returns-then-depth-eq0 : goal.group-returns-then-depth-eq0
 unfolding group

@@ -2,7 +2,7 @@ use Rattle.std.proofs.Common.{◌≡◌, ◌+◌, ◌*◌, length}
 use Rattle.fx_grammar.specs.Rule.{with_front, with_each, more}
 use Rattle.fx_grammar.specs.Grammar.{group, items_from}
 use Rattle.fx_grammar.specs.declared.kinds.Kind.TheVariants as k
-use Rattle.fx_syntax.proofs.groups.+groups.Given as goal
+use Rattle.fx_groups.proofs.groups.+groups.Given as goal
 
 abbrev pub decreases-group : goal.decreases-group
 decreases-group l = 16 * l.depth
