@@ -4,65 +4,17 @@ ghost use Rattle.fx_grammar.specs.Rule as rule;
 ghost use Rattle.fx_grammar.specs.Grammar as grammar;
 ghost use Rattle.fx_readers.specs.Gives.{Gives};
 
+use crate::elements::ReadsElements;
 use fx_algebra::{Element, Group};
-use fx_expressions::{constraint, whole_expression};
 use fx_grammar::{Kind, SyntaxKind, Token};
 use fx_readers::{Fault, Prefixes, iri_name, mark, refuse, sees, sees_iri_name};
 use fx_terms::{Boxed, Iri, Items, Name};
 use fx_trees::elements;
-use fx_trees::elements::{bound, filtered, note, one_element, one_group};
-use fx_trees::names::{has_name, no_names};
+use fx_trees::elements::{note, one_element, one_group};
+use fx_trees::names::no_names;
 use fx_triples::{behind_other, first_triples, inline_values};
 use indexmap::IndexSet;
 use std::alloc::Global;
-
-#[tactic(auto, unfolding(fx_grammar::specs::Grammar::unbound))]
-fn unbound<'a>(tokens: &'a [Token], names: &IndexSet<Name>) -> Result<(Name, &'a [Token]), Fault>
-    ensures { Gives (λ x. (x.0, x.1.now)) result ((grammar.unbound names.now.keys).read tokens.now) }
-{
-    match tokens {
-        [Token::Variable(name), rest @ ..] => {
-            if has_name(names, name) {
-                Err(refuse(SyntaxKind::BindInScope, tokens))
-            } else {
-                Ok((name.copy()?, rest))
-            }
-        }
-        _ => Err(refuse(SyntaxKind::Unexpected, tokens)),
-    }
-}
-
-fn filter<'a>(
-    alloc: Global,
-    tokens: &'a [Token],
-    prefixes: &Prefixes,
-) -> Result<(Boxed<Element>, &'a [Token]), Fault>
-    ensures { Gives (λ x. (x.0, x.1.now)) result ((rule.made Element.Filter (rule.after (rule.token Kind.Filter) (grammar.constraint prefixes.now))).read tokens.now) }
-{
-    let rest = mark(tokens, Kind::Filter)?;
-    let (condition, rest) = constraint(alloc, rest, prefixes)?;
-    let element = filtered(alloc, condition)?;
-    Ok((element, rest))
-}
-
-#[tactic(auto, unfolding(fx_grammar::specs::Grammar::binding))]
-fn binding<'a>(
-    alloc: Global,
-    tokens: &'a [Token],
-    prefixes: &Prefixes,
-    names: &IndexSet<Name>,
-) -> Result<(Boxed<Element>, &'a [Token]), Fault>
-    ensures { Gives (λ x. (x.0, x.1.now)) result ((grammar.binding prefixes.now names.now.keys).read tokens.now) }
-{
-    let rest = mark(tokens, Kind::Bind)?;
-    let rest = mark(rest, Kind::LeftParen)?;
-    let (expr, rest) = whole_expression(alloc, rest, prefixes)?;
-    let rest = mark(rest, Kind::As)?;
-    let (name, rest) = unbound(rest, names)?;
-    let rest = mark(rest, Kind::RightParen)?;
-    let element = bound(alloc, expr, name)?;
-    Ok((element, rest))
-}
 
 #[tactic(auto, unfolding(fx_grammar::specs::Grammar::service_name, fx_grammar::specs::Grammar::iri_name))]
 fn service_name<'a>(
@@ -98,7 +50,7 @@ fn sees_item(tokens: &[Token]) -> bool
 
 /// A group.
 #[cycle(groups)]
-pub fn group<'a>(
+pub fn group<'a, E: ReadsElements>(
     alloc: Global,
     tokens: &'a [Token],
     prefixes: &Prefixes,
@@ -109,12 +61,12 @@ pub fn group<'a>(
     if depth == 0 {
         return Err(refuse(SyntaxKind::Unexpected, tokens));
     }
-    braced(alloc, tokens, prefixes, depth - 1)
+    braced::<E>(alloc, tokens, prefixes, depth - 1)
 }
 
 #[tactic(auto, unfolding(fx_grammar::specs::Grammar::braced))]
 #[cycle(groups)]
-fn braced<'a>(
+fn braced<'a, E: ReadsElements>(
     alloc: Global,
     tokens: &'a [Token],
     prefixes: &Prefixes,
@@ -123,13 +75,13 @@ fn braced<'a>(
     ensures { Gives (λ x. (x.0, x.1.now)) result ((grammar.braced prefixes.now (grammar.group prefixes.now depth)).read tokens.now) }
 {
     let rest = mark(tokens, Kind::LeftBrace)?;
-    let (inner, rest) = inside(alloc, rest, prefixes, depth)?;
+    let (inner, rest) = inside::<E>(alloc, rest, prefixes, depth)?;
     let rest = mark(rest, Kind::RightBrace)?;
     Ok((inner, rest))
 }
 
 #[cycle(groups)]
-fn inside<'a>(
+fn inside<'a, E: ReadsElements>(
     alloc: Global,
     tokens: &'a [Token],
     prefixes: &Prefixes,
@@ -140,13 +92,13 @@ fn inside<'a>(
     let (first, rest) = first_triples(alloc, tokens, prefixes)?;
     let mut names = no_names(alloc);
     note(alloc, &mut names, first.as_slice())?;
-    let (elements, rest) = items(alloc, first, names, rest, prefixes, depth)?;
+    let (elements, rest) = items::<E>(alloc, first, names, rest, prefixes, depth)?;
     Ok((Group { elements }, rest))
 }
 
 // The elements behind the first triples, with those before in `elements`.
 #[cycle(groups)]
-fn items<'a>(
+fn items<'a, E: ReadsElements>(
     alloc: Global,
     mut elements: Items<Element>,
     mut names: IndexSet<Name>,
@@ -158,7 +110,7 @@ fn items<'a>(
 {
     let mut rest = tokens;
     'more: while sees_item(rest) {
-        let (next, after) = item(alloc, rest, prefixes, &names, depth)?;
+        let (next, after) = item::<E>(alloc, rest, prefixes, &names, depth)?;
         note(alloc, &mut names, next.as_slice())?;
         elements.append(next)?;
         rest = after;
@@ -168,7 +120,7 @@ fn items<'a>(
 
 #[tactic(auto, unfolding(fx_grammar::specs::Grammar::item))]
 #[cycle(groups)]
-fn item<'a>(
+fn item<'a, E: ReadsElements>(
     alloc: Global,
     tokens: &'a [Token],
     prefixes: &Prefixes,
@@ -177,7 +129,7 @@ fn item<'a>(
 ) -> Result<(Items<Element>, &'a [Token]), Fault>
     ensures { Gives (λ x. (x.0, x.1.now)) result ((grammar.item prefixes.now (grammar.group prefixes.now depth) names.now.keys).read tokens.now) }
 {
-    let (first, rest) = other(alloc, tokens, prefixes, names, depth)?;
+    let (first, rest) = other::<E>(alloc, tokens, prefixes, names, depth)?;
     let (more, rest) = behind_other(alloc, rest, prefixes)?;
     let mut elements = one_element(alloc, first)?;
     elements.append(more)?;
@@ -186,7 +138,7 @@ fn item<'a>(
 
 #[tactic(auto, unfolding(fx_grammar::specs::Grammar::other, fx_grammar::specs::Grammar::union, fx_grammar::specs::Grammar::service, fx_grammar::specs::Grammar::binding, fx_grammar::specs::Grammar::group, fx_grammar::specs::Grammar::braced))]
 #[cycle(groups)]
-fn other<'a>(
+fn other<'a, E: ReadsElements>(
     alloc: Global,
     tokens: &'a [Token],
     prefixes: &Prefixes,
@@ -196,22 +148,22 @@ fn other<'a>(
     ensures { Gives (λ x. (x.0, x.1.now)) result ((grammar.other prefixes.now (grammar.group prefixes.now depth) names.now.keys).read tokens.now) }
 {
     if sees(tokens, Kind::LeftBrace) {
-        return union(alloc, tokens, prefixes, depth);
+        return union::<E>(alloc, tokens, prefixes, depth);
     }
     if sees(tokens, Kind::Optional) {
-        return optional(alloc, tokens, prefixes, depth);
+        return optional::<E>(alloc, tokens, prefixes, depth);
     }
     if sees(tokens, Kind::Minus) {
-        return minus(alloc, tokens, prefixes, depth);
+        return minus::<E>(alloc, tokens, prefixes, depth);
     }
     if sees(tokens, Kind::Service) {
-        return service(alloc, tokens, prefixes, depth);
+        return service::<E>(alloc, tokens, prefixes, depth);
     }
     if sees(tokens, Kind::Filter) {
-        return filter(alloc, tokens, prefixes);
+        return E::filter(alloc, tokens, prefixes);
     }
     if sees(tokens, Kind::Bind) {
-        return binding(alloc, tokens, prefixes, names);
+        return E::binding(alloc, tokens, prefixes, names);
     }
     if sees(tokens, Kind::Values) {
         return inline_values(alloc, tokens, prefixes);
@@ -223,7 +175,7 @@ fn other<'a>(
 }
 
 #[cycle(groups)]
-fn optional<'a>(
+fn optional<'a, E: ReadsElements>(
     alloc: Global,
     tokens: &'a [Token],
     prefixes: &Prefixes,
@@ -232,13 +184,13 @@ fn optional<'a>(
     ensures { Gives (λ x. (x.0, x.1.now)) result ((rule.made Element.Optional (rule.after (rule.token Kind.Optional) (grammar.group prefixes.now depth))).read tokens.now) }
 {
     let rest = mark(tokens, Kind::Optional)?;
-    let (inner, rest) = group(alloc, rest, prefixes, depth)?;
+    let (inner, rest) = group::<E>(alloc, rest, prefixes, depth)?;
     let element = elements::optional(alloc, inner)?;
     Ok((element, rest))
 }
 
 #[cycle(groups)]
-fn minus<'a>(
+fn minus<'a, E: ReadsElements>(
     alloc: Global,
     tokens: &'a [Token],
     prefixes: &Prefixes,
@@ -247,14 +199,14 @@ fn minus<'a>(
     ensures { Gives (λ x. (x.0, x.1.now)) result ((rule.made Element.Minus (rule.after (rule.token Kind.Minus) (grammar.group prefixes.now depth))).read tokens.now) }
 {
     let rest = mark(tokens, Kind::Minus)?;
-    let (inner, rest) = group(alloc, rest, prefixes, depth)?;
+    let (inner, rest) = group::<E>(alloc, rest, prefixes, depth)?;
     let element = elements::minus(alloc, inner)?;
     Ok((element, rest))
 }
 
 #[tactic(auto, unfolding(fx_grammar::specs::Grammar::union))]
 #[cycle(groups)]
-fn union<'a>(
+fn union<'a, E: ReadsElements>(
     alloc: Global,
     tokens: &'a [Token],
     prefixes: &Prefixes,
@@ -262,16 +214,16 @@ fn union<'a>(
 ) -> Result<(Boxed<Element>, &'a [Token]), Fault>
     ensures { Gives (λ x. (x.0, x.1.now)) result ((grammar.union prefixes.now (grammar.group prefixes.now depth)).read tokens.now) }
 {
-    let (first, rest) = group(alloc, tokens, prefixes, depth)?;
+    let (first, rest) = group::<E>(alloc, tokens, prefixes, depth)?;
     let parts = one_group(alloc, first)?;
-    let (parts, rest) = union_more(alloc, parts, rest, prefixes, depth)?;
+    let (parts, rest) = union_more::<E>(alloc, parts, rest, prefixes, depth)?;
     let element = elements::union(alloc, parts)?;
     Ok((element, rest))
 }
 
 // The groups of a union after the first, with those before in `parts`.
 #[cycle(groups)]
-fn union_more<'a>(
+fn union_more<'a, E: ReadsElements>(
     alloc: Global,
     mut parts: Items<Group>,
     tokens: &'a [Token],
@@ -283,7 +235,7 @@ fn union_more<'a>(
     let mut rest = tokens;
     'more: while sees(rest, Kind::Union) {
         let after = mark(rest, Kind::Union)?;
-        let (next, after) = group(alloc, after, prefixes, depth)?;
+        let (next, after) = group::<E>(alloc, after, prefixes, depth)?;
         parts.push(next)?;
         rest = after;
     }
@@ -292,7 +244,7 @@ fn union_more<'a>(
 
 #[tactic(auto, unfolding(fx_grammar::specs::Grammar::service))]
 #[cycle(groups)]
-fn service<'a>(
+fn service<'a, E: ReadsElements>(
     alloc: Global,
     tokens: &'a [Token],
     prefixes: &Prefixes,
@@ -308,7 +260,7 @@ fn service<'a>(
         rest
     };
     let (iri, rest) = service_name(alloc, rest, prefixes)?;
-    let (group, rest) = group(alloc, rest, prefixes, depth)?;
+    let (group, rest) = group::<E>(alloc, rest, prefixes, depth)?;
     let element = elements::service(alloc, silent, iri, group)?;
     Ok((element, rest))
 }

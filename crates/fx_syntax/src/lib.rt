@@ -3,6 +3,8 @@
 //! `parse` reads a text exactly where it is accepted by the grammar of `fx_grammar`, and else refuses it with its reason at its place.
 #![tactic(auto)]
 
+mod elements;
+mod orders;
 mod parsing;
 mod queries;
 

@@ -4,10 +4,12 @@ ghost use Rattle.fx_grammar.specs.Rule as rule;
 ghost use Rattle.fx_grammar.specs.Grammar as grammar;
 ghost use Rattle.fx_readers.specs.Gives.{Gives};
 
+use crate::elements::Expressions;
+use crate::orders::modifiers;
 use fx_algebra::{Group, Query};
 use fx_grammar::{Kind, Main, SyntaxKind, Token};
 use fx_groups::group;
-use fx_heads::{modifiers, prologue, query_head};
+use fx_heads::{prologue, query_head};
 use fx_readers::{Fault, Prefixes, mark, refuse, sees};
 use fx_terms::Boxed;
 use fx_trees::queries::query_of;
@@ -24,12 +26,12 @@ fn where_group<'a>(
 {
     if sees(tokens, Kind::Where) {
         let rest = mark(tokens, Kind::Where)?;
-        return group(alloc, rest, prefixes, 64);
+        return group::<Expressions>(alloc, rest, prefixes, 64);
     }
     if sees(tokens, Kind::From) {
         return Err(refuse(SyntaxKind::Unsupported, tokens));
     }
-    group(alloc, tokens, prefixes, 64)
+    group::<Expressions>(alloc, tokens, prefixes, 64)
 }
 
 #[tactic(auto, unfolding(fx_grammar::specs::Grammar::main))]

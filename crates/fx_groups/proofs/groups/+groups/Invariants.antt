@@ -5,48 +5,48 @@ use Rattle.fx_grammar.specs.declared.kinds.Kind.TheVariants as k
 use Rattle.fx_groups.proofs.groups.+groups.Given as goal
 
 abbrev pub decreases-group : goal.decreases-group
-decreases-group l = 16 * l.depth
+decreases-group g l = 16 * l.depth
 
 abbrev pub decreases-union_more : goal.decreases-union_more
-decreases-union_more l = 16 * l.depth + 1
+decreases-union_more g l = 16 * l.depth + 1
 
 abbrev pub decreases-union : goal.decreases-union
-decreases-union l = 16 * l.depth + 2
+decreases-union g l = 16 * l.depth + 2
 
 abbrev pub decreases-service : goal.decreases-service
-decreases-service l = 16 * l.depth + 2
+decreases-service g l = 16 * l.depth + 2
 
 abbrev pub decreases-optional : goal.decreases-optional
-decreases-optional l = 16 * l.depth + 2
+decreases-optional g l = 16 * l.depth + 2
 
 abbrev pub decreases-minus : goal.decreases-minus
-decreases-minus l = 16 * l.depth + 2
+decreases-minus g l = 16 * l.depth + 2
 
 abbrev pub decreases-other : goal.decreases-other
-decreases-other l = 16 * l.depth + 3
+decreases-other g l = 16 * l.depth + 3
 
 abbrev pub decreases-item : goal.decreases-item
-decreases-item l = 16 * l.depth + 4
+decreases-item g l = 16 * l.depth + 4
 
 abbrev pub decreases-items : goal.decreases-items
-decreases-items l = 16 * l.depth + 5
+decreases-items g l = 16 * l.depth + 5
 
 abbrev pub decreases-inside : goal.decreases-inside
-decreases-inside l = 16 * l.depth + 6
+decreases-inside g l = 16 * l.depth + 6
 
 abbrev pub decreases-braced : goal.decreases-braced
-decreases-braced l = 16 * l.depth + 7
+decreases-braced g l = 16 * l.depth + 7
 
 abbrev pub invariant-union_more-more : goal.invariant-union_more-more
-invariant-union_more-more l =
+invariant-union_more-more g l =
     with_front l.parts (more k.Union (group l.prefixes l.depth) l.rest) ≡ with_front l.fn.parts (more k.Union (group l.prefixes l.depth) l.tokens)
 
 abbrev pub decreases-union_more-more : goal.decreases-union_more-more
-decreases-union_more-more l = length l.rest
+decreases-union_more-more g l = length l.rest
 
 abbrev pub invariant-items-more : goal.invariant-items-more
-invariant-items-more l =
+invariant-items-more g l =
     with_each (λ es. es) l.elements (items_from l.prefixes (group l.prefixes l.depth) l.names.keys l.rest) ≡ with_each (λ es. es) l.fn.elements (items_from l.prefixes (group l.prefixes l.depth) l.fn.names.keys l.tokens)
 
 abbrev pub decreases-items-more : goal.decreases-items-more
-decreases-items-more l = length l.rest
+decreases-items-more g l = length l.rest

@@ -4,10 +4,10 @@ ghost use Rattle.fx_grammar.specs.Rule as rule;
 ghost use Rattle.fx_grammar.specs.Grammar as grammar;
 ghost use Rattle.fx_readers.specs.Gives.{Gives};
 
-use crate::heads::opt_limits;
 use fx_algebra::{Expr, Order};
 use fx_expressions::{constraint, sees_constraint, variable_expression, whole_parens};
 use fx_grammar::{Kind, Modifiers, SyntaxKind, Token};
+use fx_heads::opt_limits;
 use fx_readers::{Fault, Prefixes, mark, refuse, sees};
 use fx_terms::{Boxed, Items};
 use fx_trees::queries::{add_order, limits_or, one_order};

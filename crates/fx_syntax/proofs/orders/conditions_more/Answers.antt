@@ -3,7 +3,7 @@ use Rattle.std.proofs.lemmas.Result.{err_from_is_err_and}
 use Rattle.fx_grammar.specs.Grammar.{condition}
 use Rattle.fx_grammar.proofs.GrammarLaws.{condition_law, condition_takes}
 use Rattle.fx_readers.proofs.Loops.{hands_on, any_turn, any_fails, any_ends, any_smaller}
-use Rattle.fx_heads.proofs.orders.conditions_more.Goals as goal
+use Rattle.fx_syntax.proofs.orders.conditions_more.Goals as goal
 
 pub returns-in_err-descending : goal.returns-in_err-descending
 returns-in_err-descending c =

@@ -1,6 +1,6 @@
 use Rattle.std.proofs.Common.{sym, ◌∙◌, refl}
 use Rattle.fx_expressions.proofs.ExpressionLaws.{condition_sees}
-use Rattle.fx_heads.proofs.orders.sees_condition.Goals as goal
+use Rattle.fx_syntax.proofs.orders.sees_condition.Goals as goal
 
 pub returns-then-sees : goal.returns-then-sees
 returns-then-sees c = λ ps. rw (condition_sees ps c.args.tokens.now, sym c.sees.ensures ∙ c.if-sees.true) refl

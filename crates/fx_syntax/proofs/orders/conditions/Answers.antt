@@ -1,6 +1,6 @@
 use Rattle.fx_grammar.specs.Grammar.{condition}
 use Rattle.fx_readers.proofs.Loops.{some_is}
-use Rattle.fx_heads.proofs.orders.conditions.Goals as goal
+use Rattle.fx_syntax.proofs.orders.conditions.Goals as goal
 
 pub returns : goal.returns
 returns c =
