@@ -12,7 +12,8 @@ use fx_terms::{Boxed, Iri, Items, Name};
 use fx_trees::elements;
 use fx_trees::elements::{note, one_element, one_group};
 use fx_trees::names::no_names;
-use fx_triples::{behind_other, first_triples, inline_values};
+use fx_triples::{behind_other, first_triples};
+use fx_values::inline_values;
 use indexmap::IndexSet;
 use std::alloc::Global;
 

@@ -13,7 +13,7 @@ use fx_heads::{prologue, query_head};
 use fx_readers::{Fault, Prefixes, mark, refuse, sees};
 use fx_terms::Boxed;
 use fx_trees::queries::query_of;
-use fx_triples::opt_values;
+use fx_values::opt_values;
 use std::alloc::Global;
 
 #[tactic(auto, unfolding(fx_grammar::specs::Grammar::where_group, fx_grammar::specs::Grammar::whole_group))]

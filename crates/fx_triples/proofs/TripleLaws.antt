@@ -1,7 +1,6 @@
--- Loops that depend on what was read: dots between triples, and columns; and where triples begin.
-use Rattle.std.proofs.Common.{◌≡◌, ℕ, ◌<◌, Bool, true, false, ◌||◌, List, [], ◌∷◌, ◌++◌, length, Option, is_some, Ok, Err, refl}
+-- Loops that depend on what was read: dots between triples; and where triples begin.
+use Rattle.std.proofs.Common.{◌≡◌, ◌<◌, Bool, true, false, ◌||◌, List, [], ◌∷◌, ◌++◌, length, Option, is_some, Ok, Err, refl}
 use Rattle.fx_terms.specs.declared.patterns.Pattern.{Pattern}
-use Rattle.fx_algebra.specs.Scopes.{is_among, with_name}
 use Rattle.fx_grammar.specs.Kinds.{is}
 use Rattle.fx_grammar.specs.declared.kinds.Kind.{Kind}
 use Rattle.fx_grammar.specs.declared.kinds.Kind.TheVariants as k
@@ -9,10 +8,10 @@ use Rattle.fx_grammar.specs.declared.kinds.Token.{Token}
 use Rattle.fx_grammar.specs.declared.refusals.SyntaxKind.TheVariants.{Unsupported}
 use Rattle.fx_grammar.proofs.KindLaws.{apart_by}
 use Rattle.fx_grammar.proofs.RuleLaws.{sees-left, sees-right, sees-apart}
-use Rattle.fx_grammar.specs.Rule.{Apart, Outcome, Refusal, refuse, made, opt, sees, shape_of, with_front, with_each, number_from}
-use Rattle.fx_grammar.specs.Grammar.{Prefixes, option_items, same_subject, dot_triples, more_triples, more_triples_from, triples, row, new_column, columns, first_triples, triple_elements, graph_term, part_literal, literal, text_suffix, datatype, iri_name, variable, properties, more_properties, property, objects, verb, verb_iri, no_path}
-use Rattle.fx_grammar.proofs.GrammarLaws.{dot_law, dot_fits, dot_takes, new_column_law, new_column_fits, new_column_takes}
-use Rattle.fx_readers.proofs.Loops.{from_turn, from_fails, from_ends, from_smaller, from_each_turn, from_each_fails, from_each_ends, each_is, no_front, sees-alone}
+use Rattle.fx_grammar.specs.Rule.{Apart, Refusal, refuse, made, opt, sees, shape_of, with_each, number_from}
+use Rattle.fx_grammar.specs.Grammar.{Prefixes, option_items, same_subject, dot_triples, more_triples, more_triples_from, triples, first_triples, triple_elements, graph_term, part_literal, literal, text_suffix, datatype, iri_name, variable, properties, more_properties, property, objects, verb, verb_iri, no_path}
+use Rattle.fx_grammar.proofs.GrammarLaws.{dot_law, dot_fits, dot_takes}
+use Rattle.fx_readers.proofs.Loops.{from_smaller, from_each_turn, from_each_fails, from_each_ends, each_is, sees-alone}
 
 module _ (ps : Prefixes) where
   dot_sees : (ts : List Token) (b : Bool) → sees (is k.Dot) ts ≡ b → sees (shape_of (dot_triples ps true)).begins ts ≡ b
@@ -39,10 +38,6 @@ module _ (ps : Prefixes) where
   unfolding triples more_triples more_triples_from number_from
   triples_are ts mid x e = each_is (same_subject ps) (more_triples ps true) (λ x. x) option_items ts mid x x e refl
 
-  pub row_sees : (width : ℕ) (ts : List Token) (b : Bool) → sees (is k.LeftParen) ts ≡ b → sees (row ps width).begins ts ≡ b
-  unfolding row
-  row_sees width ts b e = sees-alone (λ kind. is k.LeftParen kind || false) ts b (sees-alone (is k.LeftParen) ts b e)
-
 -- ---- where triples begin
 
 module _ (ps : Prefixes) where
@@ -53,39 +48,6 @@ module _ (ps : Prefixes) where
   pub triples_see : (ts : List Token) (b : Bool) → sees (graph_term ps).begins ts ≡ b → sees (triples ps).begins ts ≡ b
   unfolding triples same_subject graph_term part_literal literal text_suffix datatype iri_name variable
   triples_see ts b e = sees-alone (same_subject ps).begins ts b (subject_sees ts b e)
-
--- ---- columns, each once
-
-unfoldable pub columns_from : List (List ℕ) → List Token → Outcome (List (List ℕ))
-columns_from names ts = with_front names (number_from (shape_of (new_column [])) new_column (λ names name. names ++ name ∷ []) names ts)
-
-column_sees : (ts : List Token) (b : Bool) → sees (is k.Variable) ts ≡ b → sees (shape_of (new_column [])).begins ts ≡ b
-unfolding new_column
-column_sees ts b e = e
-
-pub columns_turn : (names : List (List ℕ)) (ts next : List Token) (x : List ℕ) → sees (is k.Variable) ts ≡ true → (new_column names).read ts ≡ Ok (x, next) → columns_from (names ++ x ∷ []) next ≡ columns_from names ts
-unfolding columns_from
-columns_turn names ts next x b e = from_turn (shape_of (new_column [])) new_column (λ names name. names ++ name ∷ []) new_column_law new_column_fits new_column_takes names names ts next x (column_sees ts true b) e
-
-pub columns_fail : (names : List (List ℕ)) (ts : List Token) (r : Refusal) → sees (is k.Variable) ts ≡ true → (new_column names).read ts ≡ Err r → columns_from names ts ≡ Err r
-unfolding columns_from
-columns_fail names ts r b e = from_fails (shape_of (new_column [])) new_column (λ names name. names ++ name ∷ []) new_column_law new_column_fits new_column_takes names names ts r (column_sees ts true b) e
-
-pub columns_end : (names : List (List ℕ)) (ts : List Token) → sees (is k.Variable) ts ≡ false → columns_from names ts ≡ Ok (names, ts)
-unfolding columns_from
-columns_end names ts b = from_ends (shape_of (new_column [])) new_column (λ names name. names ++ name ∷ []) new_column_law new_column_fits new_column_takes names names ts (column_sees ts false b)
-
-pub columns_smaller : (names : List (List ℕ)) (ts next : List Token) (x : List ℕ) → (new_column names).read ts ≡ Ok (x, next) → length next < length ts
-columns_smaller names ts next x e = from_smaller (shape_of (new_column [])) new_column (λ names name. names ++ name ∷ []) new_column_law new_column_fits new_column_takes names ts next x e
-
-pub columns_are : (ts : List Token) → columns_from [] ts ≡ (columns []).read ts
-unfolding columns_from columns number_from
-columns_are ts = no_front ((columns []).read ts)
-
--- a name that the names lack
-pub is_new : (names : List (List ℕ)) (name : List ℕ) → is_among names name ≡ false → with_name names name ≡ names ++ name ∷ []
-unfolding with_name
-is_new names name e = rw e refl
 
 sees-neither : (p q : Kind → Bool) (ts : List Token) → sees p ts ≡ false → sees q ts ≡ false → sees (λ kind. p kind || q kind) ts ≡ false
 sees-neither p q [] e f = refl

@@ -1,32 +1,16 @@
-//! What triples and blocks of VALUES are where they stand in a group or behind a query.
+//! Triples where they stand in a group.
 ghost use Rattle.std.specs.Prelude.{◌≡◌};
 ghost use Rattle.fx_grammar.specs.Rule as rule;
 ghost use Rattle.fx_grammar.specs.Grammar as grammar;
 ghost use Rattle.fx_readers.specs.Gives.{Gives};
 
 use crate::subjects::{sees_graph_term, triples};
-use crate::values::block;
-use fx_algebra::{Element, Inline};
+use fx_algebra::Element;
 use fx_grammar::{Kind, SyntaxKind, Token};
 use fx_readers::{Fault, Prefixes, mark, refuse, sees};
-use fx_terms::{Boxed, Items};
-use fx_trees::elements;
+use fx_terms::Items;
 use fx_trees::elements::elements_of;
 use std::alloc::Global;
-
-/// A VALUES.
-pub fn inline_values<'a>(
-    alloc: Global,
-    tokens: &'a [Token],
-    prefixes: &Prefixes,
-) -> Result<(Boxed<Element>, &'a [Token]), Fault>
-    ensures { Gives (λ x. (x.0, x.1.now)) result ((rule.made Element.Values (rule.after (rule.token Kind.Values) (grammar.block prefixes.now))).read tokens.now) }
-{
-    let rest = mark(tokens, Kind::Values)?;
-    let (inline, rest) = block(alloc, rest, prefixes)?;
-    let element = elements::inline_values(alloc, inline)?;
-    Ok((element, rest))
-}
 
 fn opt_triples<'a>(
     alloc: Global,
@@ -73,21 +57,4 @@ pub fn first_triples<'a>(
         return Err(refuse(SyntaxKind::Unsupported, tokens));
     }
     opt_triples(alloc, tokens, prefixes)
-}
-
-/// The VALUES behind a query, where there is one.
-#[tactic(auto, unfolding(fx_grammar::specs::Grammar::block))]
-pub fn opt_values<'a>(
-    alloc: Global,
-    tokens: &'a [Token],
-    prefixes: &Prefixes,
-) -> Result<(Option<Inline>, &'a [Token]), Fault>
-    ensures { Gives (λ x. (x.0, x.1.now)) result ((rule.opt (rule.after (rule.token Kind.Values) (grammar.block prefixes.now))).read tokens.now) }
-{
-    if sees(tokens, Kind::Values) {
-        let rest = mark(tokens, Kind::Values)?;
-        let (inline, rest) = block(alloc, rest, prefixes)?;
-        return Ok((Some(inline), rest));
-    }
-    Ok((None, tokens))
 }
