@@ -14,11 +14,11 @@ use Rattle.fx_grammar.specs.declared.places.Context.{Context}
 use Rattle.fx_grammar.specs.Classified.{classified, all_placed, behind, outermost, says}
 use Rattle.fx_grammar.specs.Grammar.{query}
 use Rattle.fx_grammar.specs.Rule.{Refusal, read_whole}
-use Rattle.fx_syntax.specs.Gives.{IsRefusal}
+use Rattle.fx_readers.specs.Gives.{IsRefusal}
 use Rattle.fx_grammar.specs.declared.refusals.SyntaxKind.{SyntaxKind}
 use Rattle.fx_grammar.specs.declared.refusals.SyntaxKind.TheVariants.{BadUtf8, BadToken}
-use Rattle.fx_syntax.specs.declared.faults.Fault.{Fault}
-use Rattle.fx_syntax.specs.declared.faults.Fault.TheVariants as fault
+use Rattle.fx_readers.specs.declared.faults.Fault.{Fault}
+use Rattle.fx_readers.specs.declared.faults.Fault.TheVariants as fault
 use Rattle.fx_grammar.specs.declared.refusals.SyntaxError.{SyntaxError}
 use Rattle.fx_grammar.specs.declared.refusals.SyntaxError.TheVariants.{Refused, Memory}
 use Rattle.fx_grammar.specs.declared.kinds.Token.{Token}

@@ -11,8 +11,8 @@ use Rattle.fx_grammar.specs.Refused.{IsRefused, IsCause, place_of}
 use Rattle.fx_grammar.specs.Rule.{Refusal, read_whole}
 use Rattle.fx_grammar.specs.declared.refusals.SyntaxKind.{SyntaxKind}
 use Rattle.fx_grammar.specs.declared.refusals.SyntaxKind.TheVariants.{BadToken}
-use Rattle.fx_syntax.specs.declared.faults.Fault.{Fault}
-use Rattle.fx_syntax.specs.declared.faults.Fault.TheVariants as fault
+use Rattle.fx_readers.specs.declared.faults.Fault.{Fault}
+use Rattle.fx_readers.specs.declared.faults.Fault.TheVariants as fault
 use Rattle.fx_grammar.specs.declared.refusals.SyntaxError.{SyntaxError}
 use Rattle.fx_grammar.specs.declared.refusals.SyntaxError.TheVariants.{Refused, Memory}
 

@@ -3,16 +3,10 @@
 //! `parse` reads a text exactly where it is accepted by the grammar of `fx_grammar`, and else refuses it with its reason at its place.
 #![tactic(auto)]
 
-mod classify;
-mod expressions;
-mod faults;
-mod groups;
-mod keywords;
+mod elements;
+mod orders;
 mod parsing;
 mod queries;
-mod readers;
-mod triples;
-mod values;
 
 pub use fx_grammar::{SyntaxError, SyntaxKind};
 pub use parsing::parse;

@@ -11,11 +11,11 @@ ghost use Rattle.fx_grammar.specs.Accepted.{Accepted};
 ghost use Rattle.fx_syntax.specs.Answers as answers;
 ghost use Rattle.fx_grammar.specs.Refused as spec;
 
-use crate::classify::classify;
-use crate::faults::Fault;
 use crate::queries::whole_query;
 use fx_algebra::Query;
 use fx_grammar::{SyntaxError, SyntaxKind};
+use fx_lexicon::classify;
+use fx_readers::Fault;
 use fx_tokens::{Token, TokenError, tokens};
 use std::alloc::Global;
 use std::str;
@@ -104,7 +104,7 @@ fn parse_tokens(alloc: Global, text: &str, read: &[Token]) -> Result<Query, Synt
 {
     let said = classify(alloc, text, read)?;
     match whole_query(alloc, said.as_slice()) {
-        Ok(query) => Ok(query),
+        Ok(query) => Ok(query.into_inner()),
         Err(fault) => Err(fault_at(text, read, fault)),
     }
 }

@@ -2,7 +2,7 @@ use Rattle.std.proofs.Common.{List, ◌∙◌, subst}
 use Rattle.fx_grammar.specs.declared.kinds.Token.{Token}
 use Rattle.fx_grammar.specs.Grammar.{query}
 use Rattle.fx_grammar.specs.Rule.{read_whole}
-use Rattle.fx_syntax.specs.Gives.{IsRefusal}
+use Rattle.fx_readers.specs.Gives.{IsRefusal}
 use Rattle.fx_syntax.proofs.ParsingLaws.{stands_within, fault_answers}
 use Rattle.fx_syntax.proofs.parsing.parse_tokens.Goals as goal
 

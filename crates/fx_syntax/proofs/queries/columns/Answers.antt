@@ -1,7 +1,0 @@
-use Rattle.fx_grammar.specs.Grammar.{column}
-use Rattle.fx_syntax.proofs.Loops.{some_is}
-use Rattle.fx_syntax.proofs.queries.columns.Goals as goal
-
-pub returns : goal.returns
-returns c =
-    rw (some_is column c.args.tokens.now c.in_ok-first.rest.now c.in_ok-first.first c.in_ok-parts.parts c.in_ok-first.ensures c.in_ok-parts.ensures) c.columns_more.ensures

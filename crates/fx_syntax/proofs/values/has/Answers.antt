@@ -1,6 +1,0 @@
-use Rattle.std.proofs.Common.{◌∙◌}
-use Rattle.fx_syntax.proofs.ScopeLaws.{any_is}
-use Rattle.fx_syntax.proofs.values.has.Goals as goal
-
-pub returns : goal.returns
-returns c = c.contains.ensures ∙ any_is c.args.names.now.keys c.args.name.now
