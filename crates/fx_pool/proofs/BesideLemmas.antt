@@ -1,5 +1,5 @@
 -- What workers with two halves of the wires did is what workers with all of them did.
-use Rattle.std.proofs.Common.{◌≡◌, ◌∙◌, ap, sym, subst, refl, ℕ, ◌+◌, ◌-◌, ◌/◌, ◌≤◌, Bool, List, [], ◌∷◌, ◌++◌, map, All, IfOk, IfSome, IsOkAnd, IsPermutation, IsTrue, Option, Some, None, Ok, Err, Result, Vec, length, ltb, slice_get, arith}
+use Rattle.std.proofs.Common.{◌≡◌, ◌∙◌, ap, sym, subst, ℕ, ◌+◌, ◌-◌, ◌/◌, ◌≤◌, Bool, List, [], ◌∷◌, ◌++◌, map, All, IfOk, IfSome, IsOkAnd, Option, Some, None, Ok, Err, Result, Vec, length, ltb, slice_get, arith}
 use Rattle.std.specs.List.{AllByRecursion}
 use Rattle.std.specs.declared.alloc.Global.{Global}
 use Rattle.std.proofs.lemmas.Grind.{flat_map-append}
@@ -13,7 +13,7 @@ use Rattle.fx_traffic.proofs.GainLemmas.{gain_laws}
 use Rattle.fx_wire.specs.Exchanges.{Seen}
 use Rattle.fx_pool.specs.Claims.{hand}
 use Rattle.fx_pool.specs.Jobs.{failures_at}
-use Rattle.fx_pool.specs.Runs.{AreDoneInSome, IsHonestOver, WiresDid, jobs_at}
+use Rattle.fx_pool.specs.Runs.{AreDoneInSome, IsHonestOver, WiresDid}
 use Rattle.fx_pool.specs.Sharing.{HaveWorked, at_most_one, below, jobs_of, number_of, replies_in, reply_of}
 use Rattle.fx_pool.specs.declared.claims.Drawn.{Drawn}
 use Rattle.fx_pool.specs.declared.jobs.Done.{Done}

@@ -1,16 +1,15 @@
 -- What holds of the parcels of a run after every list of events.
-use Rattle.std.proofs.Common.{◌≡◌, ◌∙◌, ap, sym, subst, refl, ℕ, ◌+◌, ◌<◌, List, [], ◌∷◌, ◌++◌, All, IsPermutation, length, sum_by, arith, append-nil}
+use Rattle.std.proofs.Common.{◌≡◌, ◌∙◌, ap, sym, subst, refl, ℕ, ◌+◌, List, [], ◌∷◌, ◌++◌, All, IsPermutation, sum_by, arith, append-nil}
 use Rattle.std.proofs.lemmas.Grind.{flat_map-append}
 use Rattle.std.proofs.lemmas.List.{map-append}
 use Rattle.std.proofs.lemmas.List.Elements.{All-append, All-from_recursion}
 use Rattle.std.proofs.lemmas.List.Sums.{sum_by-append, sum_by-cons}
 use Rattle.fx_terms.specs.declared.triples.Triple.{Triple}
-use Rattle.fx_outside.specs.Endpoints.{EndpointParts}
 use Rattle.fx_algebra.specs.declared.units.Row.{Row}
 use Rattle.fx_algebra.specs.declared.units.Unit as unit
 use Rattle.fx_steps.specs.Steps.{stepped}
-use Rattle.fx_traffic.specs.Batches.{AreCut, IsRunSent}
-use Rattle.fx_pool.specs.FlowLaw.{Changes, Event, FlowsAreKept, IsKept, Leads, State, begun, finish, owed, put, take}
+use Rattle.fx_traffic.specs.Batches.{IsRunSent}
+use Rattle.fx_pool.specs.FlowLaw.{Changes, Event, FlowsAreKept, Leads, State, begun, finish, owed, put, take}
 use Rattle.fx_pool.specs.Parcels.{Finished, IsFinished, IsParcelOf, IsStepOf, created, made, made_by, next_of, of_finished, parcels, sent_in_turn}
 use Rattle.fx_pool.specs.declared.parcels.Course.{Course}
 use Rattle.fx_pool.specs.declared.parcels.Parcel.{Parcel}

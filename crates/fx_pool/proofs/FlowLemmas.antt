@@ -1,6 +1,5 @@
 -- What workers on one queue of parcels did, with several wires.
 use Rattle.std.proofs.Common.{◌≡◌, ◌∙◌, ap, sym, subst, refl, ℕ, zero, suc, ◌+◌, ◌-◌, ◌/◌, ◌<◌, ◌≤◌, Bool, List, [], ◌∷◌, ◌++◌, map, Option, Some, None, IfOk, IfErr, OnOk, IsTrue, Result, Ok, Err, All, Contains, length, get_or, slice_get, slice_set, sum_by, arith, append-nil, inl, inr, length-append, zero-le, IsPermutation}
-use Rattle.std.specs.List.{AllByRecursion}
 use Rattle.std.specs.declared.alloc.Global.{Global}
 use Rattle.std.specs.declared.vec.Vec.{Vec}
 use Rattle.std.proofs.lemmas.Grind.{flat_map-append}
@@ -21,14 +20,14 @@ use Rattle.fx_algebra.proofs.MemberLemmas.{among_flat_map, among_left, among_rig
 use Rattle.fx_spelling.specs.Units.{IsSound}
 use Rattle.fx_bound.specs.Parts.{Parts}
 use Rattle.fx_steps.specs.Steps.{numbered, stepped}
-use Rattle.fx_traffic.specs.Batches.{AreCut, IsBatchText, IsRunSent, IsSized, unit_sent}
-use Rattle.fx_traffic.specs.Gains.{AreAfter, GainsOfBoth, HaveGained, Tell, TellAll, faults_at}
-use Rattle.fx_traffic.specs.Sent.{Sent, Sends}
+use Rattle.fx_traffic.specs.Batches.{AreCut, IsBatchText}
+use Rattle.fx_traffic.specs.Gains.{AreAfter, Tell, TellAll, faults_at}
+use Rattle.fx_traffic.specs.Sent.{Sent}
 use Rattle.fx_traffic.proofs.CutLemmas.{batch_laws}
 use Rattle.fx_traffic.proofs.GainLemmas.{gain_laws}
 use Rattle.fx_traffic.proofs.SentLemmas.{sent_laws}
 use Rattle.fx_wire.specs.Exchanges.{Exchange, Seen}
-use Rattle.fx_pool.specs.Flows.{AreTold, HasMemberCause, IsBadBatch, IsBatchCause, IsBatchRead, IsCause, IsMemberCause, rows_in}
+use Rattle.fx_pool.specs.Flows.{AreTold, IsBatchCause, IsBatchRead, IsCause, IsMemberCause, rows_in}
 use Rattle.fx_pool.specs.Followed.{AreOfBoth, ArePut, HasFlowed, HasTriedCause, HaveFlowed, IsEven, IsTriedCause, WireFlowed, WiresFlowed, all_sent}
 use Rattle.fx_pool.specs.Lines.{hand}
 use Rattle.fx_pool.specs.Parcels.{Finished, IsFinished, IsParcelOf, IsStepOf, SameParcels, created, made, of_finished, parcel_sent, parcels, parcels_sent, sent_for, sent_in_turn}

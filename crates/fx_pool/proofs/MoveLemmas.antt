@@ -1,12 +1,11 @@
 -- Lists whose elements change places, and what stands beside these.
-use Rattle.std.proofs.Common.{◌≡◌, ◌∙◌, ap, sym, subst, refl, ℕ, zero, suc, ◌+◌, ◌<◌, ◌≤◌, List, [], ◌∷◌, map, set, IsPermutation, get_or, length, arith}
+use Rattle.std.proofs.Common.{◌≡◌, ◌∙◌, ap, sym, subst, refl, ℕ, zero, suc, ◌+◌, ◌<◌, ◌≤◌, List, [], ◌∷◌, map, set, IsPermutation, get_or, length, arith, zero-add}
 use lib.ListN.{get_or-map}
 use lib.Seq.{map-set}
 use Rattle.std.specs.List.{flat_map, swap}
 use Rattle.std.proofs.lemmas.List.{length-map}
 use Rattle.std.proofs.lemmas.List.Folds.{flat_map-map}
 use Rattle.std.proofs.lemmas.List.Sorted.{IsPermutation-keeps, IsPermutation-refl, IsPermutation-swap, IsPermutation-trans}
-use Rattle.fx_pool.specs.Claims.{times}
 use Rattle.fx_pool.proofs.NumberLemmas.{all_moved, counted, times_moved}
 
 map_swapped : {X Y : Type 0} (f : X → Y) (xs : List X) (i j : ℕ) → map f (swap xs i j) ≡ swap (map f xs) i j
@@ -49,14 +48,11 @@ module _ {X : Type 0} (d : X) where
       plus_one : (m k : ℕ) → (m + 1) + k ≡ m + suc k
       plus_one m k = omega arith
 
-  from_none : (k : ℕ) → 0 + k ≡ k
-  from_none k = omega arith
-
   pub made_moved : {Y : Type 0} (f : X → List Y) (xs ys : List X) → IsPermutation xs ys → IsPermutation (flat_map f xs) (flat_map f ys)
   made_moved f xs ys p =
       let get : ℕ → X = λ k. get_or xs k d in
       let numbers : List ℕ = counted 0 (length xs) in
-      let whole : map get numbers ≡ xs = read_all xs 0 get (λ k low. ap get (from_none k)) in
+      let whole : map get numbers ≡ xs = read_all xs 0 get (λ k low. ap get (zero-add k)) in
       let moved = followed get numbers ys (subst (λ (v : List X). IsPermutation v ys) (sym whole) p) in
       let left : flat_map f xs ≡ flat_map (λ k. f (get k)) numbers = ap (flat_map f) (sym whole) ∙ flat_map-map f get numbers in
       let right : flat_map f ys ≡ flat_map (λ k. f (get k)) moved.list = ap (flat_map f) (sym moved.makes) ∙ flat_map-map f get moved.list in

@@ -1,21 +1,19 @@
 -- What workers did in the order of their draws is what was asked for, in the order of the jobs.
-use Rattle.std.proofs.Common.{◌≡◌, ◌∙◌, ap, sym, subst, refl, ℕ, zero, suc, ◌+◌, ◌<◌, ◌≤◌, Bool, true, false, cond, eqb, ltb, List, [], ◌∷◌, ◌++◌, map, filter, sum_by, All, IfSome, IsPermutation, IsTrue, Option, Some, None, IfOk, Result, Ok, Err, Vec, length, get_or, slice_get, arith, append_assoc, inl, inr, ◌⊎◌}
+use Rattle.std.proofs.Common.{◌≡◌, ◌∙◌, ap, sym, subst, refl, ℕ, suc, ◌+◌, ◌<◌, ◌≤◌, Bool, true, false, cond, eqb, ltb, List, [], ◌∷◌, ◌++◌, map, filter, sum_by, All, IsPermutation, Option, Some, None, IfOk, Result, Ok, Err, Vec, length, get_or, slice_get, arith, append_assoc, inl, inr, ◌⊎◌, zero-add}
 use Rattle.std.specs.List.{AllByRecursion, flat_map}
-use Rattle.std.specs.List.Sorted.{IsNonDecreasingBy}
 use Rattle.std.specs.declared.alloc.Global.{Global}
 use Rattle.std.proofs.lemmas.Bool.Decides.{nat_tests}
 use Rattle.std.proofs.lemmas.Grind.{flat_map-append}
-use Rattle.std.proofs.lemmas.List.{map-append}
 use Rattle.std.proofs.lemmas.List.Elements.{All-from_recursion, recursion_from_All}
 use Rattle.std.proofs.lemmas.List.Sorted.{All-permutation, IsPermutation-append, IsPermutation-map, IsPermutation-refl, IsPermutation-sym, IsPermutation-trans, sum_by-IsPermutation}
 use Rattle.std.proofs.lemmas.List.Sums.{sum_by-append, sum_by-cons}
-use Rattle.std.proofs.lemmas.Option.{slice_get_cases}
+use Rattle.std.proofs.lemmas.Option.{slice_get_cases, slice_get_past}
 use Rattle.fx_terms.specs.declared.allocation.Memory.{Memory}
 use Rattle.fx_outside.specs.Endpoints.{EndpointParts}
 use Rattle.fx_http.specs.Requests.{request_of}
 use Rattle.fx_traffic.specs.Gains.{faults_at}
 use Rattle.fx_traffic.proofs.GainLemmas.{gain_laws}
-use Rattle.fx_traffic.specs.Sent.{Sent, Sends, sent_of}
+use Rattle.fx_traffic.specs.Sent.{Sent, sent_of}
 use Rattle.fx_wire.specs.Exchanges.{Exchange, Seen}
 use Rattle.fx_pool.specs.Claims.{once_below, times}
 use Rattle.fx_pool.specs.Jobs.{AreDone, AreWanted, IsDone, failures_at, is_at, is_failure, text_of}
@@ -45,16 +43,8 @@ read_from (j ∷ js) a get h =
     plus_one : (m k : ℕ) → (m + 1) + k ≡ m + suc k
     plus_one m k = omega arith
 
-from_none : (k : ℕ) → 0 + k ≡ k
-from_none k = omega arith
-
 all_by_number : (jobs : List Job) → jobs_of jobs (counted 0 (length jobs)) ≡ jobs
-all_by_number jobs = read_from jobs 0 (λ n. at_most_one (slice_get jobs n)) (λ k. ap (λ (m : ℕ). at_most_one (slice_get jobs m)) (from_none k))
-
-past : (jobs : List Job) (n : ℕ) → length jobs ≤ n → slice_get jobs n ≡ None
-past [] n high = refl
-past (j ∷ jobs) zero high = absurd (omega (arith, high))
-past (j ∷ jobs) (suc n) high = past jobs n (omega (arith, high))
+all_by_number jobs = read_from jobs 0 (λ n. at_most_one (slice_get jobs n)) (λ k. ap (λ (m : ℕ). at_most_one (slice_get jobs m)) (zero-add k))
 
 -- those past the jobs have none
 of_below : (jobs : List Job) (ns : List ℕ) → jobs_of jobs ns ≡ jobs_of jobs (below (length jobs) ns)
@@ -66,7 +56,7 @@ of_below jobs (n ∷ ns) = by (ltb n (length jobs)) refl (of_below jobs ns)
 
     by : (b : Bool) → ltb n (length jobs) ≡ b → jobs_of jobs ns ≡ jobs_of jobs (below (length jobs) ns) → jobs_of jobs (n ∷ ns) ≡ jobs_of jobs (cond b (n ∷ below (length jobs) ns) (below (length jobs) ns))
     by true e rest = ap (λ (v : List Job). at_most_one (slice_get jobs n) ++ v) rest
-    by false e rest = ap (λ (o : Option Job). at_most_one o ++ jobs_of jobs ns) (past jobs n (high e)) ∙ rest
+    by false e rest = ap (λ (o : Option Job). at_most_one o ++ jobs_of jobs ns) (slice_get_past jobs n (high e)) ∙ rest
 
 -- ---- what was drawn once each is some of all
 
@@ -335,7 +325,7 @@ module _ (tells alone : Bool) (s t : List Seen) (es : List EndpointParts) (jobs 
       failures_same : (address : List ℕ) → failures_at es address jobs qs ≡ failures_at es address (jobs_of jobs ns) (map reply_of ds)
       failures_same address =
           ap (failures_at es address jobs) o.taken
-          ∙ failures_in_order es jobs address jobs 0 (λ k. ap (slice_get jobs) (from_none k)) o.ordered in_order_numbers
+          ∙ failures_in_order es jobs address jobs 0 (λ k. ap (slice_get jobs) (zero-add k)) o.ordered in_order_numbers
           ∙ sum_by-IsPermutation (fails_at es jobs address) ds o.ordered o.same
           ∙ sym (failures_drawn es jobs address ds low)
           ∙ ap (λ (v : List Job). failures_at es address v (map reply_of ds)) (sym drawn)
@@ -347,7 +337,7 @@ module _ (tells alone : Bool) (s t : List Seen) (es : List EndpointParts) (jobs 
           let traced : AllByRecursion (Traced es jobs) moved.list =
           recursion_from_All (Traced es jobs) moved.list (All-permutation (Traced es jobs) ts.list moved.list moved.same (All-from_recursion (Traced es jobs) ts.list ts.traced)) in
           let numbers : map number_of (map (done_in es jobs) moved.list) ≡ counted 0 (length jobs) = ap (map number_of) moved.makes ∙ in_order_numbers in
-          let done = back es jobs jobs 0 (λ k. ap (slice_get jobs) (from_none k)) moved.list numbers traced in
+          let done = back es jobs jobs 0 (λ k. ap (slice_get jobs) (zero-add k)) moved.list numbers traced in
           let replies : map reply_of (map (done_in es jobs) moved.list) ≡ qs = ap (map reply_of) moved.makes ∙ sym o.taken in
           let same : IsPermutation (flat_map (own_in es jobs) ts.list) (flat_map (own_in es jobs) moved.list) = made_moved no_exchange (own_in es jobs) ts.list moved.list moved.same in
           let first : IsPermutation h.done.0 (flat_map (own_in es jobs) moved.list) = subst (λ (v : List Exchange). IsPermutation v (flat_map (own_in es jobs) moved.list)) ts.exchanged same in (

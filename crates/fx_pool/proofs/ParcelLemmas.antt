@@ -1,9 +1,8 @@
 -- What holds of the parcels of a run, whoever followed them.
-use Rattle.std.proofs.Common.{◌≡◌, ◌∙◌, ap, sym, subst, refl, ℕ, zero, suc, Bool, true, false, ◌+◌, ◌*◌, ◌/◌, ◌<◌, ◌≤◌, List, [], ◌∷◌, ◌++◌, map, cond, eqb, drop, Option, Some, None, All, IsPermutation, length, slice_get, sum_by, arith, append-nil, length-append, div-mul-le_self}
+use Rattle.std.proofs.Common.{◌≡◌, ◌∙◌, ap, sym, subst, refl, ℕ, zero, suc, Bool, true, false, ◌+◌, ◌*◌, ◌/◌, ◌<◌, ◌≤◌, List, [], ◌∷◌, ◌++◌, cond, eqb, drop, Some, All, IsPermutation, length, slice_get, sum_by, arith, append-nil, length-append, div-mul-le_self}
 use Rattle.std.specs.List.{AllByRecursion, flat_map}
 use Rattle.std.proofs.lemmas.Bool.Decides.{nat_tests}
 use Rattle.std.proofs.lemmas.Grind.{flat_map-append}
-use Rattle.std.proofs.lemmas.List.{map-append}
 use Rattle.std.proofs.lemmas.List.Elements.{All-append, All-from_recursion, recursion_from_All}
 use Rattle.std.proofs.lemmas.List.Sorted.{IsPermutation-append_right, IsPermutation-refl, IsPermutation-sym, IsPermutation-trans, length_permutation}
 use Rattle.std.proofs.lemmas.List.Sums.{sum_by-append, sum_by-cons}
@@ -21,7 +20,7 @@ use Rattle.fx_traffic.proofs.CutLemmas.{batch_laws, rows_from}
 use Rattle.fx_traffic.proofs.SentLemmas.{middle_changes}
 use Rattle.fx_traffic.proofs.TextLemmas.{texts_of_batches}
 use Rattle.fx_pool.specs.FlowLaw.{owed, owed_by}
-use Rattle.fx_pool.specs.Parcels.{Finished, IsFinished, IsParcelOf, IsStepOf, SameParcels, at_step, created, entering_at, made, made_by, next_of, of_finished, parcel, parcel_sent, parcels, parcels_sent, sent_for, sent_in_turn}
+use Rattle.fx_pool.specs.Parcels.{Finished, IsFinished, IsParcelOf, IsStepOf, at_step, created, entering_at, made, made_by, next_of, of_finished, parcel, parcel_sent, parcels, parcels_sent, sent_for, sent_in_turn}
 use Rattle.fx_pool.specs.declared.parcels.Course.{Course}
 use Rattle.fx_pool.specs.declared.parcels.Parcel.{Parcel}
 

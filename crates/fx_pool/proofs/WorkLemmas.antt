@@ -1,10 +1,11 @@
 -- What one worker did, job after job.
-use Rattle.std.proofs.Common.{◌≡◌, ◌∙◌, ap, sym, subst, refl, ℕ, zero, suc, ◌+◌, ◌<◌, ◌≤◌, ◌++◌, Bool, List, [], ◌∷◌, map, Option, Some, None, Ok, Vec, cond, get_or, length, ltb, slice_get, arith, append-nil}
+use Rattle.std.proofs.Common.{◌≡◌, ◌∙◌, ap, sym, subst, ℕ, zero, suc, ◌+◌, ◌<◌, ◌≤◌, ◌++◌, Bool, List, [], ◌∷◌, map, Option, Some, None, Ok, Vec, cond, get_or, length, ltb, slice_get, arith, append-nil}
 use Rattle.std.specs.List.{AllByRecursion}
 use Rattle.std.specs.declared.alloc.Global.{Global}
 use Rattle.std.proofs.lemmas.Bool.Decides.{nat_tests}
 use Rattle.std.proofs.lemmas.Grind.{flat_map-append}
 use Rattle.std.proofs.lemmas.List.{map-append}
+use Rattle.std.proofs.lemmas.Option.{slice_get_past}
 use Rattle.fx_outside.specs.Endpoints.{EndpointParts}
 use Rattle.fx_wire.specs.Exchanges.{Seen}
 use Rattle.fx_pool.specs.Claims.{IsFresh, IsSameSeat, with_drawn}
@@ -21,15 +22,10 @@ use Rattle.fx_pool.proofs.RunLemmas.{did_both, replies_lost}
 pub jobs_more : (jobs : List Job) (ns : List ℕ) (n : ℕ) (j : Job) → slice_get jobs n ≡ Some j → jobs_of jobs (ns ++ n ∷ []) ≡ jobs_of jobs ns ++ j ∷ []
 jobs_more jobs ns n j at = flat_map-append (λ m. at_most_one (slice_get jobs m)) ns (n ∷ []) ∙ ap (λ (o : Option Job). jobs_of jobs ns ++ (at_most_one o ++ [])) at
 
-past_none : (jobs : List Job) (n : ℕ) → length jobs ≤ n → slice_get jobs n ≡ None
-past_none [] n high = refl
-past_none (j ∷ jobs) zero high = absurd (omega (arith, high))
-past_none (j ∷ jobs) (suc n) high = past_none jobs n (omega (arith, high))
-
 -- a number past the jobs
 pub jobs_past : (jobs : List Job) (ns : List ℕ) (n : ℕ) → length jobs ≤ n → jobs_of jobs (ns ++ n ∷ []) ≡ jobs_of jobs ns
 jobs_past jobs ns n high =
-    flat_map-append (λ m. at_most_one (slice_get jobs m)) ns (n ∷ []) ∙ ap (λ (o : Option Job). jobs_of jobs ns ++ (at_most_one o ++ [])) (past_none jobs n high) ∙ append-nil (jobs_of jobs ns)
+    flat_map-append (λ m. at_most_one (slice_get jobs m)) ns (n ∷ []) ∙ ap (λ (o : Option Job). jobs_of jobs ns ++ (at_most_one o ++ [])) (slice_get_past jobs n high) ∙ append-nil (jobs_of jobs ns)
 
 module _ (alone : Bool) (s t : Seen) (es : List EndpointParts) (jobs : List Job) (ns : List ℕ) (n : ℕ) (j : Job) (at : slice_get jobs n ≡ Some j) (rs : List JobReply) (h : WireDid alone s t es (jobs_of jobs ns) (Some rs)) where
   -- its job was done

@@ -1,5 +1,5 @@
 -- What holds of the parcels of a run after every list of events: parcels are put for others and taken by one, and finished. (FedX: bound joins.)
-use Rattle.std.specs.Prelude.{◌≡◌, ◌<◌, ◌+◌, ◌++◌, ℕ, List, [], ◌∷◌, length, drop, All, IsPermutation, sum_by}
+use Rattle.std.specs.Prelude.{◌≡◌, ◌<◌, ◌+◌, ◌++◌, ℕ, List, [], ◌∷◌, length, drop, IsPermutation, sum_by}
 use Rattle.std.specs.List.{flat_map}
 use Rattle.fx_terms.specs.declared.triples.Triple.{Triple}
 use Rattle.fx_outside.specs.Endpoints.{EndpointParts}

@@ -1,5 +1,5 @@
 -- What asking for the units of a run leaves of a wire, and what it gives.
-use Rattle.std.specs.Prelude.{◌≡◌, ◌<◌, ◌≤◌, ◌+◌, ◌*◌, ◌/◌, ◌++◌, ℕ, Bool, List, [], ◌∷◌, Option, Some, IfOk, IfErr, IsTrue, All, Contains, IsPermutation, Result, Ok, Err, length, slice_get}
+use Rattle.std.specs.Prelude.{◌≡◌, ◌<◌, ◌≤◌, ◌+◌, ◌++◌, ℕ, Bool, List, [], ◌∷◌, Option, Some, IfOk, IfErr, IsTrue, All, Contains, IsPermutation, Result, Ok, Err, length, slice_get}
 use Rattle.std.specs.List.{flat_map}
 use Rattle.std.specs.declared.alloc.Global.{Global}
 use Rattle.std.specs.declared.vec.Vec.{Vec}
@@ -15,8 +15,7 @@ use Rattle.fx_http.specs.declared.replies.ReplyError.TheVariants.{TooLong}
 use Rattle.fx_bound.specs.Answers.{AreReadOf, IsRead, numbers}
 use Rattle.fx_bound.specs.Parts.{Parts, text_of}
 use Rattle.fx_bound.specs.declared.founds.Found.{Found}
-use Rattle.fx_traffic.specs.Batches.{AreBatchesOf, AreCut, IsBatchText, IsRunSent, IsSized, batches_sent, member_sent, unit_sent}
-use Rattle.fx_steps.specs.Steps.{stepped}
+use Rattle.fx_traffic.specs.Batches.{member_sent, unit_sent}
 use Rattle.fx_traffic.specs.Sent.{Sent, Sends}
 use Rattle.fx_wire.specs.Exchanges.{Exchange, Seen, exchanged}
 use Rattle.fx_pool.specs.Posting.{AreHonest}

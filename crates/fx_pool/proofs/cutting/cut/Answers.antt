@@ -1,8 +1,8 @@
-use Rattle.std.proofs.Common.{◌≡◌, ◌∙◌, ◌++◌, ◌∷◌, [], ap, sym, subst, List, Ok, IfOk, append-nil, arith, rules}
+use Rattle.std.proofs.Common.{◌≡◌, subst, List, IfOk, arith, rules}
 use Rattle.std.proofs.lemmas.Grind.{common_steps}
 use Rattle.fx_algebra.specs.declared.units.Row.{Row}
 use Rattle.fx_traffic.specs.Batches.{AreCut}
-use Rattle.fx_pool.proofs.CutLemmas.{AreCutSoFar, cut_all, none_cut, one_more}
+use Rattle.fx_pool.proofs.CutLemmas.{cut_all, one_more}
 use Rattle.fx_pool.proofs.cutting.cut.Goals as goal
 
 pub loop-row-preserved : goal.loop-row-preserved

@@ -1,4 +1,4 @@
-use Rattle.std.proofs.Common.{map, Ok, rules}
+use Rattle.std.proofs.Common.{map, rules}
 use Rattle.fx_pool.proofs.FlowLemmas.{first_flowed, then_flowed}
 use Rattle.fx_pool.proofs.WiresLemmas.{all_tell}
 use Rattle.fx_pool.proofs.flowing.flow_out.Goals as goal

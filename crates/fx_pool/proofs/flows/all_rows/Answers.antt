@@ -1,4 +1,4 @@
-use Rattle.std.proofs.Common.{◌≡◌, ◌∙◌, ◌<◌, map, subst, arith, rules}
+use Rattle.std.proofs.Common.{◌≡◌, ◌∙◌, map, arith, rules}
 use Rattle.fx_pool.proofs.FlowLemmas.{at_the_begin, not_flowed, on_ok, run_flowed}
 use Rattle.fx_pool.proofs.flows.all_rows.Goals as goal
 

@@ -1,4 +1,4 @@
-use Rattle.std.proofs.Common.{◌≡◌, ◌∙◌, List, [], Ok, Err, ap, map, sym, subst, rules}
+use Rattle.std.proofs.Common.{◌≡◌, ◌∙◌, List, [], Ok, ap, map, sym, subst}
 use Rattle.fx_algebra.specs.declared.units.Row.{Row}
 use Rattle.fx_steps.specs.Steps.{numbered}
 use Rattle.fx_traffic.specs.Batches.{joined}

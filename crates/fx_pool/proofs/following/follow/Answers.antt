@@ -1,4 +1,4 @@
-use Rattle.std.proofs.Common.{◌≡◌, ◌<◌, List, Ok, Err, Some, map, length, refl, sym, subst, All, Contains, arith, slice_get}
+use Rattle.std.proofs.Common.{◌≡◌, ◌<◌, List, Ok, Err, map, length, refl, subst, All, arith}
 use Rattle.std.proofs.lemmas.List.{length-map}
 use Rattle.std.proofs.lemmas.List.Elements.{All-contains}
 use Rattle.fx_terms.proofs.SetLemmas.{contains_from}

@@ -1,4 +1,4 @@
-use Rattle.std.proofs.Common.{arith, rules}
+use Rattle.std.proofs.Common.{rules}
 use Rattle.fx_pool.proofs.PutLemmas.{behind_the_last}
 use Rattle.fx_pool.proofs.following.pass_on.Goals as goal
 

@@ -1,4 +1,4 @@
-use Rattle.std.proofs.Common.{Err, rules}
+use Rattle.std.proofs.Common.{rules}
 use Rattle.fx_pool.proofs.PutLemmas.{put_but_one}
 use Rattle.fx_pool.proofs.following.put_all_but_one.Goals as goal
 

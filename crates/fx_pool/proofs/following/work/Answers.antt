@@ -1,9 +1,8 @@
-use Rattle.std.proofs.Common.{◌≡◌, ◌∙◌, ◌<◌, [], List, None, Some, map, refl, sym, subst, All, arith, rules}
+use Rattle.std.proofs.Common.{◌≡◌, ◌∙◌, [], map, refl, sym, subst, arith}
 use Rattle.std.proofs.lemmas.List.Elements.{All-nil}
-use Rattle.fx_algebra.specs.declared.units.Row.{Row}
-use Rattle.fx_pool.specs.Followed.{WireFlowed, in_hand}
+use Rattle.fx_pool.specs.Followed.{WireFlowed}
 use Rattle.fx_pool.specs.Parcels.{IsParcelOf}
-use Rattle.fx_pool.proofs.FollowLemmas.{at_rest, its_parcel, same_pass, unmoved, worked_on, worked_out, worked_until}
+use Rattle.fx_pool.proofs.FollowLemmas.{at_rest, its_parcel, same_pass, unmoved, worked_on, worked_until}
 use Rattle.fx_pool.proofs.following.work.Goals as goal
 
 pub loop-init : goal.loop-init

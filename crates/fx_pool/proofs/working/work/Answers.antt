@@ -7,8 +7,6 @@ use Rattle.fx_pool.specs.Sharing.{below, jobs_of, number_of, reply_of}
 use Rattle.fx_pool.specs.declared.claims.Drawn.{Drawn}
 use Rattle.fx_pool.specs.declared.jobs.Done.{Done}
 use Rattle.fx_pool.specs.declared.jobs.Job.{Job}
-use Rattle.fx_pool.specs.declared.jobs.JobReply.{JobReply}
-use Rattle.fx_pool.proofs.NumberLemmas.{below_past}
 use Rattle.fx_pool.proofs.RunLemmas.{did_nothing}
 use Rattle.fx_pool.proofs.WorkLemmas.{did_more, drew, ended_at, finished, held_at, lost_at, numbers_more, read_made}
 use Rattle.fx_pool.proofs.working.work.Goals as goal
