@@ -33,7 +33,7 @@ HasRowsCause before after endpoints tasks block wanted xs rows_error.Refused = C
 
 -- Something was asked for, by units of these tasks: what was exchanged, what was wanted of it, which is texts of batches of no more rows than so many,
 -- and what is known of that and of the result where the graphs of the endpoints are told. Where something is given each reply was read, without a fault.
--- At most one fault for each wire was counted, and none where something is given.
+-- At each address no more faults were counted, together, than there are wires, and none where something is given.
 pub record Asked {X : Type 0} (tells alone : Bool) (before after : List Seen) (endpoints : List EndpointParts) (tasks : List Task) (block : ℕ) (Given : List (List Triple) → List Sent → X → Type 0) (Due : List (List Triple) → List Sent → Type 0) (result : Result X RowsError) : Type 0 where
   pub exchanges : List Exchange
   pub failed : ℕ

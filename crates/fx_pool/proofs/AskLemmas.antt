@@ -21,7 +21,7 @@ use Rattle.std.proofs.lemmas.List.Sorted.{IsPermutation-refl}
 
 module _ (alone : Bool) (s t : Seen) (es : List EndpointParts) (p : Parts) where
   pub refused : (why : FlowError) → AskedMembers alone s t es p p.unit.members (Err why) → AskedBatch alone s t es p (Err why)
-  refused why h = record { exchanges = h.exchanges; failed = h.failed; once = h.once; unfailed = tt; passed = h.passed; left = h.left; sent = h.sent; faultless = tt; done = tt; cause = h.cause }
+  refused why h = record { exchanges = h.exchanges; failed = h.failed; once = h.once; unfailed = tt; passed = h.passed; left = h.left; sent = h.sent; whole = tt; faultless = tt; done = tt; cause = h.cause }
 
   pub given : (lists : List (List Found)) (result : Result (Vec Row Global) FlowError) → AskedMembers alone s t es p p.unit.members (Ok lists)
       → ((graphs : List (List Triple)) → IsSound graphs p.unit → AreReadOf graphs p p.unit.members lists → IfOk result (λ rows. IsPermutation rows.items (step (union graphs) p.unit p.rows)))
@@ -34,6 +34,7 @@ module _ (alone : Bool) (s t : Seen) (es : List EndpointParts) (p : Parts) where
     passed = h.passed;
     left = h.left;
     sent = h.sent;
+    whole = h.whole;
     faultless = h.faultless;
     done = λ graphs told sound. f graphs sound (h.read graphs told);
     cause = tt;
@@ -46,6 +47,7 @@ module _ (alone : Bool) (s t : Seen) (es : List EndpointParts) (p : Parts) where
     passed = h.passed;
     left = h.left;
     sent = h.sent;
+    whole = tt;
     faultless = tt;
     done = tt;
     cause = subst (HasMemberCause s t es p p.unit.members h.exchanges) (sym m) tt;
@@ -60,6 +62,7 @@ module _ (alone : Bool) (s t : Seen) (es : List EndpointParts) (p : Parts) where
     passed = passed_none alone s;
     left = unit_sent es p.unit p.rows;
     sent = IsPermutation-refl (unit_sent es p.unit p.rows);
+    whole = tt;
     faultless = tt;
     done = tt;
     cause = tt;

@@ -9,13 +9,13 @@ use Rattle.fx_algebra.specs.declared.units.Row.{Row}
 use Rattle.fx_algebra.specs.declared.units.Unit as unit
 use Rattle.fx_steps.specs.Steps.{stepped}
 use Rattle.fx_traffic.specs.Batches.{IsRunSent}
-use Rattle.fx_pool.specs.FlowLaw.{Changes, Event, FlowsAreKept, Leads, State, begun, finish, owed, put, take}
+use Rattle.fx_pool.specs.FlowLaw.{Changes, Event, FlowsAreKept, Leads, State, begun, finish, owed, put, take, there}
 use Rattle.fx_pool.specs.Parcels.{Finished, IsFinished, IsParcelOf, IsStepOf, created, made, made_by, next_of, of_finished, parcels, sent_in_turn}
-use Rattle.fx_pool.specs.declared.parcels.Course.{Course}
+use Rattle.fx_pool.specs.declared.parcels.RunShape.{RunShape}
 use Rattle.fx_pool.specs.declared.parcels.Parcel.{Parcel}
-use Rattle.fx_pool.proofs.ParcelLemmas.{all_rows, may_be_sent}
+use Rattle.fx_pool.proofs.ParcelLemmas.{all_entered, all_rows, first_of_all, may_be_sent, next_of_step}
 
-module _ (graph : List Triple) (us : List unit.Unit) (c : Course) (batches : List (List Row)) where
+module _ (graph : List Triple) (us : List unit.Unit) (c : RunShape) (batches : List (List Row)) where
   record Holds (s : State) : Type 0 where
     fin : All (IsFinished c) s.spent
     is : All (IsStepOf graph us) s.spent
@@ -70,13 +70,20 @@ module _ (graph : List Triple) (us : List unit.Unit) (c : Course) (batches : Lis
 pub flows_are_kept : FlowsAreKept
 flows_are_kept es graph us c rows batches events s positive units some cut leads =
     let h = all_events graph us c batches (begun c batches) events s (at_the_begin graph us c batches) leads in
+    let no_left : (w : Parcel → ℕ) → sum_by w (parcels c 0 batches) + sum_by w (created s.spent) ≡ (sum_by w (of_finished s.spent) + sum_by w (s.held ++ s.waiting)) + sum_by w [] = λ w.
+    (let e = h.even w in let b = sum_by-append w s.held s.waiting in let nil : sum_by w [] ≡ 0 = refl in omega (arith, e, b, nil)) in
+    let all_there : (w : Parcel → ℕ) → sum_by w (parcels c 0 batches ++ created s.spent) ≡ sum_by w (there s) = λ w.
+    (let e = h.even w in omega (arith, e, sum_by-append w (parcels c 0 batches) (created s.spent), sum_by-append w (of_finished s.spent) (s.held ++ s.waiting), sum_by-append w s.held s.waiting)) in
     let both : (w : Parcel → ℕ) → sum_by w (s.held ++ s.waiting) ≡ sum_by w s.held + sum_by w s.waiting = λ w. sum_by-append w s.held s.waiting in
     record {
       all = h.even;
+      first = first_of_all es graph us c positive units batches s.spent (s.held ++ s.waiting) [] h.fin h.is no_left (there s) all_there;
+      next = λ k u at more. next_of_step es graph us c positive units batches s.spent (s.held ++ s.waiting) [] h.fin h.is no_left k u at more (there s) all_there;
+      entered = all_entered es graph us c positive units batches s.spent (s.held ++ s.waiting) [] h.fin h.is no_left rows cut;
       rows_are =
           subst (λ (v : List Row). IsPermutation (v ++ owed graph us (s.held ++ s.waiting)) (stepped graph us rows)) (sym h.done)
           (all_rows graph us c units rows batches s.spent (s.held ++ s.waiting) cut.of_rows h.fin h.is (λ w. let e = h.even w in let b = both w in omega (arith, e, b)));
       sent =
           subst (λ (v : List Parcel). IsRunSent es graph c.block 1 us rows (sent_in_turn es 0 us v)) (append-nil (of_finished s.spent))
-          (may_be_sent es graph us c positive units batches s.spent [] (s.held ++ s.waiting) h.fin h.is (All-from_recursion (IsParcelOf c) [] tt) (λ w. let e = h.even w in let b = both w in omega (arith, e, b)) rows cut);
+          (may_be_sent es graph us c positive units batches s.spent [] (s.held ++ s.waiting) h.fin h.is (λ w. let e = h.even w in let b = both w in let nil : sum_by w [] ≡ 0 = refl in omega (arith, e, b, nil)) (All-from_recursion (IsParcelOf c) [] tt) rows cut);
     }

@@ -37,7 +37,7 @@ use Rattle.fx_pool.specs.Runs.{IsHonestOver}
 use Rattle.fx_pool.specs.declared.flows.FlowError.{FlowError}
 use Rattle.fx_pool.specs.declared.flows.FlowError.TheVariants as flow
 use Rattle.fx_pool.specs.declared.lines.Hand.{Hand}
-use Rattle.fx_pool.specs.declared.parcels.Course.{Course}
+use Rattle.fx_pool.specs.declared.parcels.RunShape.{RunShape}
 use Rattle.fx_pool.specs.declared.parcels.Parcel.{Parcel}
 use Rattle.fx_pool.proofs.BesideLemmas.{after_beside, back_all, front_all}
 use Rattle.fx_pool.proofs.FollowLemmas.{made_both, sent_by_both, weight_created, weight_finished}
@@ -126,7 +126,7 @@ its_among (v ∷ l) (suc n) u e = inr (its_among l n u e)
 
 -- ---- the first of several wires
 
-module _ (tells alone : Bool) (w t : Seen) (others : List Seen) (es : List EndpointParts) (us : List unit.Unit) (c : Course) where
+module _ (tells alone : Bool) (w t : Seen) (others : List Seen) (es : List EndpointParts) (us : List unit.Unit) (c : RunShape) where
   first_tells : (address : List ℕ) (g : List Triple) → Tell (w ∷ others) address g → w.graph address ≡ Some g
   first_tells address g told = (recursion_from_All (λ (s : Seen). s.graph address ≡ Some g) (w ∷ others) told).0
 
@@ -171,6 +171,7 @@ module _ (tells alone : Bool) (w t : Seen) (others : List Seen) (es : List Endpo
     rows_are = h.rows_are;
     left = h.left;
     sent = h.sent;
+    whole = h.whole;
     faultless = h.faultless;
     steps = λ graphs told sound. h.steps graphs (first_told es graphs told) sound;
   }
@@ -225,7 +226,7 @@ module _ (tells alone : Bool) (w t : Seen) (others : List Seen) (es : List Endpo
       cause (Err why) k = first_cause h.tried h.did.exchanges h.did.of_run why k
 
 -- the first of the wires was worked with
-pub first_flowed : {W : Type 0} (see : W → Seen) (tells alone : Bool) (wires : List W) (x new : W) (es : List EndpointParts) (us : List unit.Unit) (c : Course) (from to : Hand) (r : Result (Vec Row Global) FlowError)
+pub first_flowed : {W : Type 0} (see : W → Seen) (tells alone : Bool) (wires : List W) (x new : W) (es : List EndpointParts) (us : List unit.Unit) (c : RunShape) (from to : Hand) (r : Result (Vec Row Global) FlowError)
     → ((w : W) → (see w).tells_log ≡ tells) → 0 < length wires → HasFlowed alone (see (get_or wires 0 x)) (see new) es us c from to r
     → HaveFlowed tells alone (map see wires) (map see (slice_set wires 0 new)) es us c from to r
 first_flowed see tells alone [] x new es us c from to r same some h = absurd (omega (arith, some))
@@ -236,7 +237,7 @@ first_flowed see tells alone (w ∷ others) x new es us c from to r same some h 
 abbrev RowList : Type 0
 RowList = Vec Row Global
 
-module _ (tells alone : Bool) (es : List EndpointParts) (us : List unit.Unit) (c : Course) where
+module _ (tells alone : Bool) (es : List EndpointParts) (us : List unit.Unit) (c : RunShape) where
   -- the view of a pass that was split, between its two halves
   beside_even : (v l m r s j : Hand) (x y : List Finished) (tx ty hx hy : List Parcel)
       → ((h : Parcel → ℕ) → sum_by h l.put ≡ sum_by h v.put) → ((h : Parcel → ℕ) → sum_by h l.took ≡ sum_by h v.took)
@@ -271,6 +272,7 @@ module _ (tells alone : Bool) (es : List EndpointParts) (us : List unit.Unit) (c
     rows_are = ap (λ (w : List Row). w ++ more) h.rows_are ∙ ap (λ (w : List Row). made c h.spent ++ w) k.rows_are ∙ sym (made_both c h.spent k.spent);
     left = h.left ++ k.left;
     sent = sent_by_both es us h.spent k.spent tx ty h.left k.left h.exchanges k.exchanges h.sent k.sent;
+    whole = λ e. ap (λ (v : List Sent). v ++ k.left) (h.whole (none_of_both tx ty e).0) ∙ k.whole (none_of_both tx ty e).1;
     faultless = λ e. All-append (IsBatchRead (Contains us)) h.exchanges k.exchanges (h.faultless (none_of_both tx ty e).0) (k.faultless (none_of_both tx ty e).1);
     steps = λ graphs told sound.
         All-append (IsStepOf (union graphs) us) h.spent k.spent (h.steps graphs (told_front s u es graphs told) sound) (k.steps graphs (told_back s u es graphs told) sound);
@@ -322,10 +324,10 @@ module _ (tells alone : Bool) (es : List EndpointParts) (us : List unit.Unit) (c
         (λ x m. subst (λ (l : List Sent). Contains l x) (sym (flat_map-append (parcel_sent es us) tx ty)) (behind (parcels_sent es us tx) (parcels_sent es us ty) x m))
         (λ x m. behind xs ys x m) why k
 
-pub both_flowed : {W : Type 0} (see : W → Seen) (tells alone : Bool) (es : List EndpointParts) (us : List unit.Unit) (c : Course) (v l m r s j : Hand) (whole ws vs xs ys : List W) (a b o : Result RowList FlowError)
+pub both_flowed : {W : Type 0} (see : W → Seen) (tells alone : Bool) (es : List EndpointParts) (us : List unit.Unit) (c : RunShape) (v l m r s j : Hand) (whole ws vs xs ys : List W) (a b o : Result RowList FlowError)
     → whole ≡ ws ++ xs
-    → l ≡ hand (v.parts - v.parts / 2) v.course v.put v.took → r ≡ hand (v.parts / 2) v.course [] []
-    → j ≡ hand (m.parts + s.parts) m.course (m.put ++ s.put) (m.took ++ s.took)
+    → l ≡ hand (v.parts - v.parts / 2) v.shape v.put v.took → r ≡ hand (v.parts / 2) v.shape [] []
+    → j ≡ hand (m.parts + s.parts) m.shape (m.put ++ s.put) (m.took ++ s.took)
     → HaveFlowed tells alone (map see ws) (map see vs) es us c l m a → HaveFlowed tells alone (map see xs) (map see ys) es us c r s b → AreOfBoth a b o
     → HaveFlowed tells alone (map see whole) (map see (vs ++ ys)) es us c v j o
 unfolding beside
@@ -353,7 +355,7 @@ both_flowed see tells alone es us c v l m r s j whole ws vs xs ys a b o parts le
 
 -- ---- one call after the other
 
-pub then_flowed : (tells alone : Bool) (es : List EndpointParts) (us : List unit.Unit) (c : Course) (from mid to : Hand) (s t v : List Seen) (made : RowList) (b o : Result RowList FlowError)
+pub then_flowed : (tells alone : Bool) (es : List EndpointParts) (us : List unit.Unit) (c : RunShape) (from mid to : Hand) (s t v : List Seen) (made : RowList) (b o : Result RowList FlowError)
     → AllTell tells s → AllTell tells t
     → HaveFlowed tells alone s t es us c from mid (Ok made) → HaveFlowed tells alone t v es us c mid to b → AreOfBoth (Ok made) b o
     → HaveFlowed tells alone s v es us c from to o
@@ -389,6 +391,7 @@ then_flowed tells alone es us c from mid to s t v made_rows b o s_tells t_tells 
       left = h.did.left ++ k.did.left;
       sent = sent_laws.any_order _ (h.did.left ++ k.did.left) (h.did.exchanges ++ k.did.exchanges) gained.all gained.same
           (sent_by_both es us h.did.spent k.did.spent h.tried k.tried h.did.left k.did.left h.did.exchanges k.did.exchanges h.did.sent k.did.sent);
+      whole = λ e. ap (λ (l : List Sent). l ++ k.did.left) (h.did.whole none) ∙ k.did.whole (sym (ap (λ (l : List Parcel). l ++ k.tried) none) ∙ e);
       faultless = λ e.
           All-permutation (IsBatchRead (Contains us)) (h.did.exchanges ++ k.did.exchanges) gained.all gained.same
           (All-append (IsBatchRead (Contains us)) h.did.exchanges k.did.exchanges (h.did.faultless none) (k.did.faultless (sym (ap (λ (l : List Parcel). l ++ k.tried) none) ∙ e)));
@@ -416,7 +419,7 @@ then_flowed tells alone es us c from mid to s t v made_rows b o s_tells t_tells 
 
 -- ---- the whole run
 
-module _ (tells alone : Bool) (es : List EndpointParts) (us : List unit.Unit) (c : Course) (positive : 0 < c.block) (units : c.units ≡ length us) (some : 0 < length us) (rows : List Row) (first : List (List Row)) (cut : AreCut rows c.block first)
+module _ (tells alone : Bool) (es : List EndpointParts) (us : List unit.Unit) (c : RunShape) (positive : 0 < c.block) (units : c.units ≡ length us) (some : 0 < length us) (rows : List Row) (first : List (List Row)) (cut : AreCut rows c.block first)
     (s t : List Seen) (from to : Hand)
     (put : (h : Parcel → ℕ) → sum_by h from.put ≡ sum_by h (parcels c 0 first)) (took : (h : Parcel → ℕ) → sum_by h from.took ≡ 0)
     (rest : List Parcel) (waits : SameParcels to.put (to.took ++ rest)) where
@@ -434,8 +437,9 @@ module _ (tells alone : Bool) (es : List EndpointParts) (us : List unit.Unit) (c
     left = h.did.left;
     sent = IsPermutation-trans _ (all_sent es us h.did.spent h.tried) wanted h.did.sent turned_sent;
     of_batches = texts_in_turn es c (Contains us) asked of_run 0 us (recursion_from_All (Contains us) us (All-contains_itself us));
+    whole = by_ok r (λ tried. h.did.whole tried) h.ended;
     faultless = by_ok r (λ tried. h.did.faultless tried) h.ended;
-    of_run = λ graphs told sound. may_be_sent es (union graphs) us c positive units first h.did.spent h.tried (h.held ++ rest) h.did.finished (h.did.steps graphs told sound) h.did.of_run balance rows cut;
+    of_run = λ graphs told sound. may_be_sent es (union graphs) us c positive units first h.did.spent h.tried (h.held ++ rest) h.did.finished (h.did.steps graphs told sound) balance h.did.of_run rows cut;
     done = done r h.ended empty;
     cause = cause r h.cause;
   }
@@ -498,6 +502,7 @@ not_flowed tells alone wires es us block rows = record {
   left = [];
   sent = IsPermutation-refl [];
   of_batches = All-nil (IsBatchText es block (Contains us));
+  whole = tt;
   faultless = tt;
   of_run = λ graphs told sound. batch_laws.nothing es (union graphs) block 1 us rows;
   done = tt;
@@ -518,6 +523,7 @@ no_rows tells alone wires es us block rows none = record {
   left = [];
   sent = IsPermutation-refl [];
   of_batches = All-nil (IsBatchText es block (Contains us));
+  whole = refl;
   faultless = All-nil (IsBatchRead (Contains us));
   of_run = λ graphs told sound. batch_laws.nothing es (union graphs) block 1 us rows;
   done = λ graphs told sound. subst (λ (l : List Row). IsPermutation [] (stepped (union graphs) us l)) (sym none) (subst (IsPermutation []) (sym (stepped_none (union graphs) us)) (IsPermutation-refl []));
@@ -531,7 +537,7 @@ on_ok from to (Ok found) h whole = h whole
 on_ok from to (Err e) h whole = tt
 
 -- the first parcels were put by the one pass that there is
-pub at_the_begin : (from to : Hand) (c : Course) (first : List (List Row)) (r : Result (Unit {0}) Memory) → from ≡ hand 16 None [] [] → r ≡ Ok tt → ArePut from to (parcels c 0 first) r
+pub at_the_begin : (from to : Hand) (c : RunShape) (first : List (List Row)) (r : Result (Unit {0}) Memory) → from ≡ hand 16 None [] [] → r ≡ Ok tt → ArePut from to (parcels c 0 first) r
     → ((h : Parcel → ℕ) → sum_by h to.put ≡ sum_by h (parcels c 0 first)) × ((h : Parcel → ℕ) → sum_by h to.took ≡ 0) × (to.parts ≡ 16)
 at_the_begin from to c first r new ok h = (
   (λ w.

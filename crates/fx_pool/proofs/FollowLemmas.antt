@@ -27,7 +27,7 @@ use Rattle.fx_pool.specs.Parcels.{Finished, IsFinished, IsParcelOf, IsStepOf, cr
 use Rattle.fx_pool.specs.declared.flows.FlowError.{FlowError}
 use Rattle.fx_pool.specs.declared.flows.FlowError.TheVariants as flow
 use Rattle.fx_pool.specs.declared.lines.Hand.{Hand}
-use Rattle.fx_pool.specs.declared.parcels.Course.{Course}
+use Rattle.fx_pool.specs.declared.parcels.RunShape.{RunShape}
 use Rattle.fx_pool.specs.declared.parcels.Parcel.{Parcel}
 use Rattle.fx_pool.proofs.MembersLemmas.{passed_behind, passed_none, same_told}
 use Rattle.fx_pool.proofs.CauseLemmas.{has_cause_behind}
@@ -37,7 +37,7 @@ use Rattle.fx_pool.proofs.CauseLemmas.{has_cause_behind}
 pub created_both : (xs ys : List Finished) → created (xs ++ ys) ≡ created xs ++ created ys
 created_both xs ys = flat_map-append next_of xs ys
 
-pub made_both : (c : Course) (xs ys : List Finished) → made c (xs ++ ys) ≡ made c xs ++ made c ys
+pub made_both : (c : RunShape) (xs ys : List Finished) → made c (xs ++ ys) ≡ made c xs ++ made c ys
 made_both c xs ys = flat_map-append (made_by c) xs ys
 
 pub finished_both : (xs ys : List Finished) → of_finished (xs ++ ys) ≡ of_finished xs ++ of_finished ys
@@ -67,7 +67,7 @@ sent_by_both es us xs ys ps qs left more es_x es_y h k =
 
 -- ---- one thing after another
 
-module _ (alone : Bool) (es : List EndpointParts) (us : List unit.Unit) (c : Course) where
+module _ (alone : Bool) (es : List EndpointParts) (us : List unit.Unit) (c : RunShape) where
   pub in_turn : (s t v : Seen) (from mid to : Hand) (given held last tried : List Parcel) (rows more : List Row)
       → WireFlowed alone s t es us c from mid given [] held rows → WireFlowed alone t v es us c mid to held tried last more → WireFlowed alone s v es us c from to given tried last (rows ++ more)
   in_turn s t v from mid to given held last tried rows more h k =
@@ -88,6 +88,7 @@ module _ (alone : Bool) (es : List EndpointParts) (us : List unit.Unit) (c : Cou
         rows_are = ap (λ (l : List Row). l ++ more) h.rows_are ∙ ap (λ (l : List Row). made c h.spent ++ l) k.rows_are ∙ sym (made_both c h.spent k.spent);
         left = h.left ++ k.left;
         sent = sent_by_both es us h.spent k.spent [] tried h.left k.left h.exchanges k.exchanges h.sent k.sent;
+        whole = λ e. ap (λ (v : List Sent). v ++ k.left) (h.whole refl) ∙ k.whole e;
         faultless = λ e. All-append (IsBatchRead (Contains us)) h.exchanges k.exchanges (h.faultless refl) (k.faultless e);
         steps = λ graphs told sound.
             All-append (IsStepOf (union graphs) us) h.spent k.spent (h.steps graphs told sound)
@@ -108,6 +109,7 @@ module _ (alone : Bool) (es : List EndpointParts) (us : List unit.Unit) (c : Cou
     rows_are = refl;
     left = [];
     sent = IsPermutation-refl [];
+    whole = λ e. refl;
     faultless = λ e. All-nil (IsBatchRead (Contains us));
     steps = λ graphs told sound. All-nil (IsStepOf (union graphs) us);
   }
@@ -121,7 +123,7 @@ module _ (alone : Bool) (es : List EndpointParts) (us : List unit.Unit) (c : Cou
       omega (arith, put, took, nil)
 
   -- one was taken
-  pub took_one : (from to : Hand) (p : Parcel) → to ≡ hand from.parts from.course from.put (from.took ++ p ∷ []) → IsEven from to [] [] [] (p ∷ [])
+  pub took_one : (from to : Hand) (p : Parcel) → to ≡ hand from.parts from.shape from.put (from.took ++ p ∷ []) → IsEven from to [] [] [] (p ∷ [])
   took_one from to p is w =
       let put : sum_by w to.put ≡ sum_by w from.put = ap (λ (v : Hand). sum_by w v.put) is in
       let took : sum_by w to.took ≡ sum_by w from.took + w p = ap (λ (v : Hand). sum_by w v.took) is ∙ sum_by_push w from.took p in
@@ -157,12 +159,13 @@ module _ (alone : Bool) (es : List EndpointParts) (us : List unit.Unit) (c : Cou
               let balance = put w in
               let took_is : sum_by w to.took ≡ sum_by w from.took = ap (sum_by w) took in
               let next : sum_by w (created (f ∷ [])) ≡ sum_by w (parcels c (p.step + 1) cut) =
-              ap (sum_by w) (append-nil (next_of f)) ∙ ap (λ (d : Course). sum_by w (parcels d (p.step + 1) cut)) of_run.same in
+              ap (sum_by w) (append-nil (next_of f)) ∙ ap (λ (d : RunShape). sum_by w (parcels d (p.step + 1) cut)) of_run.same in
               let nil : sum_by w [] ≡ 0 = refl in
               omega (arith, balance, took_is, next, nil, sum_by-cons w p []);
           rows_are = sym (append-nil (made_by c f));
           left = k.left;
           sent = subst (λ (v : List Sent). Sends v k.left k.exchanges) (sym (append-nil (parcel_sent es us p ++ []))) (sent_is k.left k.exchanges k.sent);
+          whole = λ e. k.whole;
           faultless = λ e. all_read k.exchanges k.faultless;
           steps = λ graphs told sound. All-from_recursion (IsStepOf (union graphs) us) (f ∷ []) ((λ v at'. its_step graphs told sound v (same_unit v at')), tt);
         }
@@ -191,6 +194,7 @@ module _ (alone : Bool) (es : List EndpointParts) (us : List unit.Unit) (c : Cou
       rows_are = refl;
       left = k.left;
       sent = sent_is k.left k.exchanges k.sent;
+      whole = λ e. cc;
       faultless = λ e. cc;
       steps = λ graphs told sound. All-nil (IsStepOf (union graphs) us);
     }
@@ -224,7 +228,7 @@ cause_in_turn alone s t v es us tried xs ys why passed k = by why k
     by (flow.RequestTooLong at size) k = tried_behind (flow.RequestTooLong at size) k
     by flow.Memory k = tt
 
-module _ (alone : Bool) (es : List EndpointParts) (us : List unit.Unit) (c : Course) where
+module _ (alone : Bool) (es : List EndpointParts) (us : List unit.Unit) (c : RunShape) where
   module _ (s t : Seen) (p : Parcel) (of_run : IsParcelOf c p) (u : unit.Unit) (at : slice_get us p.step ≡ Some u) (its : Contains us u) (from to : Hand) (was now : List Row) where
     pub followed_refused : (why : FlowError) → AskedBatch alone s t es (record { unit = u; rows = p.rows }) (Err why) → to ≡ from → Followed alone s t es us c from to p was now (Err why)
     unfolding tried_one
@@ -324,13 +328,13 @@ module _ (alone : Bool) (es : List EndpointParts) (us : List unit.Unit) (c : Cou
   }
 
 -- the next parcel is of the run
-pub its_parcel : (c : Course) (before : Option Parcel) (waits : Bool) (from to : Hand) (p : Parcel) → from.course ≡ Some c → All (IsParcelOf c) (in_hand before) → IsNext before waits from to (Some p) → IsParcelOf c p
+pub its_parcel : (c : RunShape) (before : Option Parcel) (waits : Bool) (from to : Hand) (p : Parcel) → from.shape ≡ Some c → All (IsParcelOf c) (in_hand before) → IsNext before waits from to (Some p) → IsParcelOf c p
 its_parcel c (Some q) waits from to p known held h =
     let same : q ≡ p = (let e : Some p ≡ Some q = h.0 in cc) in
     subst (IsParcelOf c) same (recursion_from_All (IsParcelOf c) (q ∷ []) held).0
-its_parcel c None waits from to p known held h = subst (λ (o : Option Course). IsOf o p) known h.1
+its_parcel c None waits from to p known held h = subst (λ (o : Option RunShape). IsOf o p) known h.1
 
 -- and the pass is the same
 pub same_pass : (before : Option Parcel) (waits : Bool) (from to : Hand) (p : Parcel) → IsNext before waits from to (Some p) → IsSamePass from to
-same_pass (Some q) waits from to p h = (ap (λ (v : Hand). v.parts) h.1, ap (λ (v : Hand). v.course) h.1)
-same_pass None waits from to p h = (ap (λ (v : Hand). v.parts) h.0, ap (λ (v : Hand). v.course) h.0)
+same_pass (Some q) waits from to p h = (ap (λ (v : Hand). v.parts) h.1, ap (λ (v : Hand). v.shape) h.1)
+same_pass None waits from to p h = (ap (λ (v : Hand). v.parts) h.0, ap (λ (v : Hand). v.shape) h.0)

@@ -78,6 +78,7 @@ module _ (alone : Bool) (es : List EndpointParts) (p : Parts) (at : ℕ) (e : En
         endpoint = e;
         found = found;
         numbered = All-from_recursion (λ (f : Found). Contains (numbers p) f.branch) [] tt;
+        whole = refl;
         faultless = All-from_recursion (IsReadFor p) [] tt;
         read = λ g told. nothing_read p g known empty;
         named = tt;
@@ -105,6 +106,7 @@ module _ (alone : Bool) (es : List EndpointParts) (p : Parts) (at : ℕ) (e : En
       endpoint = e;
       found = found;
       numbered = tt;
+      whole = tt;
       faultless = tt;
       read = tt;
       named = tt;
@@ -146,12 +148,17 @@ module _ (alone : Bool) (es : List EndpointParts) (p : Parts) (at : ℕ) (e : En
         endpoint = e;
         found = found;
         numbered = numbered result h;
+        whole = whole result;
         faultless = faultless result h;
         read = read result h;
         named = named result h;
         cause = cause result h;
       }
         where
+          whole : (r : Result (List Found) FlowError) → IfOk r (λ _. ◌≡◌ {A = List Sent} [] [])
+          whole (Ok founds) = refl
+          whole (Err why) = tt
+
           unfailed : (r : Result (List Found) FlowError) → IfOk r (λ _. ◌≡◌ {A = ℕ} 0 0)
           unfailed (Ok founds) = refl
           unfailed (Err why) = tt
@@ -203,6 +210,7 @@ module _ (alone : Bool) (es : List EndpointParts) (p : Parts) (at : ℕ) (e : En
       endpoint = e;
       found = found;
       numbered = tt;
+      whole = tt;
       faultless = tt;
       read = tt;
       named = refl;
@@ -219,6 +227,7 @@ module _ (alone : Bool) (es : List EndpointParts) (p : Parts) (at : ℕ) (e : En
       endpoint = e;
       found = found;
       numbered = tt;
+      whole = tt;
       faultless = tt;
       read = tt;
       named = refl;

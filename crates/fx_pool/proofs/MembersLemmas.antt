@@ -103,6 +103,7 @@ asked_none alone s es p = record {
   left = [];
   sent = IsPermutation-refl [];
   numbered = All-from_recursion (λ list. All (λ (f : Found). Contains (numbers p) f.branch) list) [] tt;
+  whole = refl;
   faultless = All-from_recursion (IsReadFor p) [] tt;
   read = λ graphs told. tt;
   cause = tt;
@@ -125,6 +126,7 @@ module _ (alone : Bool) (s t u : Seen) (es : List EndpointParts) (p : Parts) (me
     left = h.left ++ k.left;
     sent = both_sent k.left k.exchanges k.sent;
     numbered = All-append (λ list. All (λ (f : Found). Contains (numbers p) f.branch) list) lists (founds ∷ []) h.numbered (All-from_recursion (λ list. All (λ (f : Found). Contains (numbers p) f.branch) list) (founds ∷ []) (k.numbered, tt));
+    whole = ap (λ (v : List Sent). v ++ k.left) h.whole ∙ k.whole;
     faultless = All-append (IsReadFor p) h.exchanges k.exchanges h.faultless k.faultless;
     read = λ graphs told. read_more graphs p members lists at founds (h.read graphs told) (k.read (graph_of graphs at) (told_at t.graph es graphs at k.endpoint (same_told s.graph t.graph h.passed.same es graphs told) k.found));
     cause = tt;
@@ -158,6 +160,7 @@ module _ (alone : Bool) (s t u : Seen) (es : List EndpointParts) (p : Parts) (me
       left = (h.left ++ k.left) ++ flat_map (member_sent es p.unit p.rows) rest;
       sent = left_over (h.left ++ k.left) (h.exchanges ++ k.exchanges) (both_sent k.left k.exchanges k.sent);
       numbered = tt;
+      whole = tt;
       faultless = tt;
       read = tt;
       cause =
@@ -175,6 +178,7 @@ module _ (alone : Bool) (s t u : Seen) (es : List EndpointParts) (p : Parts) (me
       left = (h.left ++ k.left) ++ flat_map (member_sent es p.unit p.rows) rest;
       sent = left_over (h.left ++ k.left) (h.exchanges ++ k.exchanges) (both_sent k.left k.exchanges k.sent);
       numbered = tt;
+      whole = tt;
       faultless = tt;
       read = tt;
       cause = tt;

@@ -16,12 +16,12 @@ use Rattle.fx_algebra.proofs.WeightLemmas.{sum_by-flat_map, weights_from}
 use Rattle.fx_steps.specs.Steps.{stepped}
 use Rattle.fx_traffic.specs.Batches.{AreBatchesOf, AreCut, IsBatchText, IsRunSent, IsSized, batches_sent, joined, unit_sent}
 use Rattle.fx_traffic.specs.Sent.{Sent}
-use Rattle.fx_traffic.proofs.CutLemmas.{batch_laws, rows_from}
+use Rattle.fx_traffic.proofs.CutLemmas.{batch_laws, rows_from, rows_of_cuts}
 use Rattle.fx_traffic.proofs.SentLemmas.{middle_changes}
 use Rattle.fx_traffic.proofs.TextLemmas.{texts_of_batches}
-use Rattle.fx_pool.specs.FlowLaw.{owed, owed_by}
+use Rattle.fx_pool.specs.FlowLaw.{AreAmong, AreEntered, IsNextStep, owed, owed_by}
 use Rattle.fx_pool.specs.Parcels.{Finished, IsFinished, IsParcelOf, IsStepOf, at_step, created, entering_at, made, made_by, next_of, of_finished, parcel, parcel_sent, parcels, parcels_sent, sent_for, sent_in_turn}
-use Rattle.fx_pool.specs.declared.parcels.Course.{Course}
+use Rattle.fx_pool.specs.declared.parcels.RunShape.{RunShape}
 use Rattle.fx_pool.specs.declared.parcels.Parcel.{Parcel}
 
 -- ---- numbers
@@ -97,12 +97,12 @@ drop_all (v ∷ us) (suc k) high = drop_all us k (omega (arith, high))
 
 -- ---- what is owed stays
 
-module _ (graph : List Triple) (us : List unit.Unit) (c : Course) (units : c.units ≡ length us) where
+module _ (graph : List Triple) (us : List unit.Unit) (c : RunShape) (units : c.units ≡ length us) where
   -- what a parcel's rows come to behind the last unit
   pub owes : (Row → ℕ) → Parcel → ℕ
   owes h p = sum_by h (owed_by graph us p)
 
-  owes_of_parcels : (h : Row → ℕ) (k : ℕ) (batches : List (List Row)) (d : Course) → sum_by (owes h) (parcels d k batches) ≡ sum_by h (stepped graph (drop k us) (joined batches))
+  owes_of_parcels : (h : Row → ℕ) (k : ℕ) (batches : List (List Row)) (d : RunShape) → sum_by (owes h) (parcels d k batches) ≡ sum_by h (stepped graph (drop k us) (joined batches))
   unfolding owes
   owes_of_parcels h k batches d = by batches ∙ weight_of_batches graph h (drop k us) batches
     where
@@ -132,7 +132,7 @@ module _ (graph : List Triple) (us : List unit.Unit) (c : Course) (units : c.uni
       by true e found =
           let last : f.of.step + 1 ≡ c.units = is_number (f.of.step + 1) c.units e in
           let made_is : made_by c f ≡ f.found = ap (λ (b : Bool). cond b f.found []) e in
-          let none : sum_by (owes h) (next_of f) ≡ 0 = ap (λ (v : List (List Row)). sum_by (owes h) (parcels f.of.course (f.of.step + 1) v)) (fin.last last) in
+          let none : sum_by (owes h) (next_of f) ≡ 0 = ap (λ (v : List (List Row)). sum_by (owes h) (parcels f.of.shape (f.of.step + 1) v)) (fin.last last) in
           let end : drop (f.of.step + 1) us ≡ [] = drop_all us (f.of.step + 1) (omega (arith, last, units)) in
           let there : sum_by h f.found ≡ sum_by h (stepped graph (drop f.of.step us) f.of.rows) = sym (ap (λ (v : List unit.Unit). sum_by h (stepped graph v f.found)) end) ∙ found in
           let mine : sum_by h (made_by c f) ≡ sum_by h f.found = ap (sum_by h) made_is in
@@ -142,7 +142,7 @@ module _ (graph : List Triple) (us : List unit.Unit) (c : Course) (units : c.uni
           let below : f.of.step < c.units = fin.of_run.below in
           let more : f.of.step + 1 < c.units = below_next f.of.step c.units below apart in
           let none : sum_by h (made_by c f) ≡ 0 = ap (λ (b : Bool). sum_by h (cond b f.found [])) e in
-          let next : sum_by (owes h) (next_of f) ≡ sum_by h (stepped graph (drop (f.of.step + 1) us) (joined f.cut)) = owes_of_parcels h (f.of.step + 1) f.cut f.of.course in
+          let next : sum_by (owes h) (next_of f) ≡ sum_by h (stepped graph (drop (f.of.step + 1) us) (joined f.cut)) = owes_of_parcels h (f.of.step + 1) f.cut f.of.shape in
           let cut : sum_by h (stepped graph (drop (f.of.step + 1) us) (joined f.cut)) ≡ sum_by h (stepped graph (drop (f.of.step + 1) us) f.found) = ap (λ (v : List Row). sum_by h (stepped graph (drop (f.of.step + 1) us) v)) (fin.more more).of_rows in
           omega (arith, none, next, cut, found)
 
@@ -184,7 +184,7 @@ entering_weight h k (p ∷ ps) =
     ∙ ap (λ (n : ℕ). sum_by h (joined (at_step k p)) + n) (entering_weight h k ps)
     ∙ sym (sum_by-cons (λ (q : Parcel). sum_by h (joined (at_step k q))) p ps)
 
-entering_sized : (c : Course) (k : ℕ) (ps : List Parcel) → AllByRecursion (IsParcelOf c) ps → All (IsSized c.block) (entering_at k ps)
+entering_sized : (c : RunShape) (k : ℕ) (ps : List Parcel) → AllByRecursion (IsParcelOf c) ps → All (IsSized c.block) (entering_at k ps)
 entering_sized c k [] h = All-from_recursion (IsSized c.block) [] tt
 entering_sized c k (p ∷ ps) h = All-append (IsSized c.block) (at_step k p) (entering_at k ps) (one (eqb p.step k)) (entering_sized c k ps h.1)
   where
@@ -201,11 +201,11 @@ at_its_own p k e = ap (λ (b : Bool). cond b (p.rows ∷ []) []) (same_number p.
 at_none : (p : Parcel) (k : ℕ) → eqb p.step k ≡ false → at_step k p ≡ []
 at_none p k e = ap (λ (b : Bool). cond b (p.rows ∷ []) []) e
 
-parcels_at : (d : Course) (k : ℕ) (batches : List (List Row)) → entering_at k (parcels d k batches) ≡ batches
+parcels_at : (d : RunShape) (k : ℕ) (batches : List (List Row)) → entering_at k (parcels d k batches) ≡ batches
 parcels_at d k [] = refl
 parcels_at d k (b ∷ batches) = ap (λ (v : List (List Row)). v ++ entering_at k (parcels d k batches)) (at_its_own (parcel d k b) k refl) ∙ ap (λ (v : List (List Row)). b ∷ v) (parcels_at d k batches)
 
-parcels_elsewhere : (d : Course) (j k : ℕ) → eqb j k ≡ false → (batches : List (List Row)) → entering_at k (parcels d j batches) ≡ []
+parcels_elsewhere : (d : RunShape) (j k : ℕ) → eqb j k ≡ false → (batches : List (List Row)) → entering_at k (parcels d j batches) ≡ []
 parcels_elsewhere d j k apart [] = refl
 parcels_elsewhere d j k apart (b ∷ batches) = ap (λ (v : List (List Row)). v ++ entering_at k (parcels d j batches)) (at_none (parcel d j b) k apart) ∙ parcels_elsewhere d j k apart batches
 
@@ -260,7 +260,7 @@ module _ (es : List EndpointParts) where
       (IsPermutation-append_right (sent_in_turn es 0 us (p ∷ [])) (parcels_sent es us ps) (sent_in_turn es 0 us ps) (turned us ps)))
       (IsPermutation-sym (sent_in_turn es 0 us (p ∷ ps)) (sent_in_turn es 0 us (p ∷ []) ++ sent_in_turn es 0 us ps) (split_turn p ps 0 us))
 
-  pub texts_in_turn : (c : Course) (Of : unit.Unit → Type 0) (ps : List Parcel) → All (IsParcelOf c) ps → (k : ℕ) (us : List unit.Unit) → AllByRecursion Of us → All (IsBatchText es c.block Of) (sent_in_turn es k us ps)
+  pub texts_in_turn : (c : RunShape) (Of : unit.Unit → Type 0) (ps : List Parcel) → All (IsParcelOf c) ps → (k : ℕ) (us : List unit.Unit) → AllByRecursion Of us → All (IsBatchText es c.block Of) (sent_in_turn es k us ps)
   texts_in_turn c Of ps sized k [] its = All-from_recursion (IsBatchText es c.block Of) [] tt
   texts_in_turn c Of ps sized k (u ∷ us) its =
       All-append (IsBatchText es c.block Of) (batches_sent es u (entering_at k ps)) (sent_in_turn es (k + 1) us ps)
@@ -279,7 +279,7 @@ cuts_at : ℕ → List Finished → List Cut
 unfolding cut_at
 cuts_at k spent = flat_map (cut_at k) spent
 
-module _ (graph : List Triple) (us : List unit.Unit) (c : Course) where
+module _ (graph : List Triple) (us : List unit.Unit) (c : RunShape) where
   created_at : (k : ℕ) (spent : List Finished) → entering_at (k + 1) (created spent) ≡ flat_map (λ (d : Cut). d.1) (cuts_at k spent)
   unfolding cut_at cuts_at
   created_at k [] = refl
@@ -293,8 +293,8 @@ module _ (graph : List Triple) (us : List unit.Unit) (c : Course) where
       next_apart a b e = grind (arith, nat_tests)
 
       one : (b : Bool) → eqb f.of.step k ≡ b → entering_at (k + 1) (next_of f) ≡ flat_map (λ (d : Cut). d.1) (cond b ((f.found, f.cut) ∷ []) [])
-      one true e = ap (λ (n : ℕ). entering_at (n + 1) (next_of f)) (sym (is_number f.of.step k e)) ∙ parcels_at f.of.course (f.of.step + 1) f.cut ∙ sym (append-nil f.cut)
-      one false e = parcels_elsewhere f.of.course (f.of.step + 1) (k + 1) (next_apart f.of.step k e) f.cut
+      one true e = ap (λ (n : ℕ). entering_at (n + 1) (next_of f)) (sym (is_number f.of.step k e)) ∙ parcels_at f.of.shape (f.of.step + 1) f.cut ∙ sym (append-nil f.cut)
+      one false e = parcels_elsewhere f.of.shape (f.of.step + 1) (k + 1) (next_apart f.of.step k e) f.cut
 
   cuts_length : (k : ℕ) (spent : List Finished) → length (cuts_at k spent) ≡ length (entering_at k (of_finished spent))
   unfolding cut_at cuts_at
@@ -345,7 +345,7 @@ module _ (graph : List Triple) (us : List unit.Unit) (c : Course) where
 
 -- ---- what may be sent
 
-pub finished_of_run : (c : Course) (spent : List Finished) → All (IsFinished c) spent → All (IsParcelOf c) (of_finished spent)
+pub finished_of_run : (c : RunShape) (spent : List Finished) → All (IsFinished c) spent → All (IsParcelOf c) (of_finished spent)
 finished_of_run c spent fin = All-from_recursion (IsParcelOf c) (of_finished spent) (by spent (recursion_from_All (IsFinished c) spent fin))
   where
     by : (fs : List Finished) → AllByRecursion (IsFinished c) fs → AllByRecursion (IsParcelOf c) (of_finished fs)
@@ -355,9 +355,9 @@ finished_of_run c spent fin = All-from_recursion (IsParcelOf c) (of_finished spe
 blocks_rise : (m n block : ℕ) → 0 < block → m ≤ n → m / block ≤ n / block
 blocks_rise m n block positive le = le-div (m / block) n block positive (let whole : m / block * block ≤ m = div-mul-le_self m block in omega (arith, whole, le))
 
-module _ (es : List EndpointParts) (graph : List Triple) (us : List unit.Unit) (c : Course) (positive : 0 < c.block) (units : c.units ≡ length us)
+module _ (es : List EndpointParts) (graph : List Triple) (us : List unit.Unit) (c : RunShape) (positive : 0 < c.block) (units : c.units ≡ length us)
     (first : List (List Row)) (spent : List Finished) (tried left : List Parcel)
-    (fin : All (IsFinished c) spent) (is : All (IsStepOf graph us) spent) (of_run : All (IsParcelOf c) tried)
+    (fin : All (IsFinished c) spent) (is : All (IsStepOf graph us) spent)
     (even : (h : Parcel → ℕ) → sum_by h (parcels c 0 first) + sum_by h (created spent) ≡ (sum_by h (of_finished spent) + sum_by h tried) + sum_by h left) where
   -- all parcels that there were
   abbrev all : List Parcel
@@ -366,9 +366,6 @@ module _ (es : List EndpointParts) (graph : List Triple) (us : List unit.Unit) (
   abbrev asked : List Parcel
   asked = of_finished spent ++ tried
 
-  asked_of_run : All (IsParcelOf c) asked
-  asked_of_run = All-append (IsParcelOf c) (of_finished spent) tried (finished_of_run c spent fin) of_run
-
   all_even : (h : Parcel → ℕ) → sum_by h all ≡ (sum_by h (of_finished spent) + sum_by h tried) + sum_by h left
   all_even h = let e = even h in omega (arith, e, sum_by-append h (parcels c 0 first) (created spent))
 
@@ -376,29 +373,30 @@ module _ (es : List EndpointParts) (graph : List Triple) (us : List unit.Unit) (
   asked_even h = let e = all_even h in omega (arith, e, sum_by-append h (of_finished spent) tried)
 
   -- the batches of those that were asked for are some of all at the unit
-  asked_at : (k : ℕ) (rows : List Row) (most : ℕ) → AreBatchesOf rows c.block most (entering_at k all) → AreBatchesOf rows c.block most (entering_at k asked)
-  asked_at k rows most b = record {
+  among_at : (k : ℕ) (rows : List Row) (most : ℕ) → AreBatchesOf rows c.block most (entering_at k all) → AreAmong rows most (entering_at k asked)
+  among_at k rows most b = record {
     unused = joined (entering_at k left) ++ b.unused;
     of_rows = rows_from (joined (entering_at k asked) ++ (joined (entering_at k left) ++ b.unused)) rows (λ h.
         let e = asked_even (λ p. sum_by h (joined (at_step k p))) in
         let whole : sum_by h (joined (entering_at k all) ++ b.unused) ≡ sum_by h rows = weights_from (joined (entering_at k all) ++ b.unused) rows b.of_rows h in
         omega (
-          arith,
-          e,
-          whole,
+          arith, e, whole,
           sum_by-append h (joined (entering_at k all)) b.unused,
           sum_by-append h (joined (entering_at k asked)) (joined (entering_at k left) ++ b.unused),
           sum_by-append h (joined (entering_at k left)) b.unused,
-          entering_weight h k all,
-          entering_weight h k asked,
-          entering_weight h k left,
+          entering_weight h k all, entering_weight h k asked, entering_weight h k left,
         ));
-    sized = entering_sized c k asked (recursion_from_All (IsParcelOf c) asked asked_of_run);
     few =
         let e = asked_even (λ p. length (at_step k p)) in
         let few : length (entering_at k all) ≤ most = b.few in
         omega (arith, e, few, entering_length k all, entering_length k asked);
   }
+
+  batches_at : (k : ℕ) → entering_at (k + 1) all ≡ flat_map (λ (d : Cut). d.1) (cuts_at k spent)
+  batches_at k =
+      entering_both (k + 1) (parcels c 0 first) (created spent)
+      ∙ ap (λ (v : List (List Row)). v ++ entering_at (k + 1) (created spent)) (parcels_elsewhere c 0 (k + 1) (other_number 0 (k + 1) (omega arith)).0 first)
+      ∙ created_at graph us c k spent
 
   -- those of the next unit are batches of what the unit makes of the rows that enter it
   next_at : (k : ℕ) (u : unit.Unit) → slice_get us k ≡ Some u → k + 1 < c.units → (rows : List Row) (most : ℕ) → AreBatchesOf rows c.block most (entering_at k all)
@@ -428,10 +426,7 @@ module _ (es : List EndpointParts) (graph : List Triple) (us : List unit.Unit) (
       subst (λ (v : List Row). IsPermutation v (step graph u rows)) (step_both graph us c u here others) (batch_laws.any_order graph u (here ++ others) rows whole) in
       let made_here : (h : Row → ℕ) → sum_by h found ≡ sum_by h (step graph u here) = λ h. found_at graph us c h k u at spent (recursion_from_All (IsStepOf graph us) spent is) in
       let same_found : IsPermutation found (step graph u here) = rows_from found (step graph u here) made_here in
-      let batches_are : entering_at (k + 1) all ≡ flat_map (λ (d : Cut). d.1) (cuts_at k spent) =
-      entering_both (k + 1) (parcels c 0 first) (created spent)
-      ∙ ap (λ (v : List (List Row)). v ++ entering_at (k + 1) (created spent)) (parcels_elsewhere c 0 (k + 1) (other_number 0 (k + 1) (omega arith)).0 first)
-      ∙ created_at graph us c k spent in
+      let batches_are = batches_at k in
       subst (AreBatchesOf (step graph u rows) c.block (most + length (step graph u rows) / c.block)) (sym batches_are)
       (record {
         unused = several.unused ++ step graph u others;
@@ -459,43 +454,114 @@ module _ (es : List EndpointParts) (graph : List Triple) (us : List unit.Unit) (
             omega (arith, e, few, cuts, blocks, cuts_length graph us c k spent, entering_length k all, entering_length k (of_finished spent));
       })
 
-  run_from : (k : ℕ) (behind : List unit.Unit) (rows : List Row) (most : ℕ) → ((j : ℕ) → slice_get behind j ≡ slice_get us (k + j)) → k + length behind ≡ length us
+  elsewhere : (fs : List Finished) → entering_at 0 (created fs) ≡ []
+  elsewhere [] = refl
+  elsewhere (f ∷ fs) =
+      entering_both 0 (next_of f) (created fs)
+      ∙ ap (λ (v : List (List Row)). v ++ entering_at 0 (created fs)) (parcels_elsewhere f.of.shape (f.of.step + 1) 0 (other_number 0 (f.of.step + 1) (omega arith)).1 f.cut)
+      ∙ elsewhere fs
+
+  -- those of the first unit are the first ones
+  first_at : entering_at 0 all ≡ first
+  first_at =
+      entering_both 0 (parcels c 0 first) (created spent) ∙ ap (λ (v : List (List Row)). v ++ entering_at 0 (created spent)) (parcels_at c 0 first) ∙ ap (λ (v : List (List Row)). first ++ v) (elsewhere spent) ∙ append-nil first
+
+  begin : (rows : List Row) → AreCut rows c.block first → AreBatchesOf rows c.block (1 + length rows / c.block) (entering_at 0 all)
+  begin rows cut = subst (AreBatchesOf rows c.block (1 + length rows / c.block)) (sym first_at) (batch_laws.cut rows c.block first positive cut)
+
+  -- what enters each unit is of the rows that enter it by definition
+  entered_from : (k : ℕ) (behind : List unit.Unit) (rows : List Row) (most : ℕ) → ((j : ℕ) → slice_get behind j ≡ slice_get us (k + j)) → k + length behind ≡ length us
       → (0 < length behind → AreBatchesOf rows c.block (most + length rows / c.block) (entering_at k all))
-      → IsRunSent es graph c.block most behind rows (sent_in_turn es k behind asked)
-  run_from k [] rows most its long b = refl
-  run_from k (u ∷ behind) rows most its long b =
+      → AreEntered graph c.block k most behind rows asked
+  entered_from k [] rows most its long b = tt
+  entered_from k (u ∷ behind) rows most its long b =
       let here = b (omega arith) in
       let none : k ≡ k + 0 = omega arith in
-      let at : slice_get us k ≡ Some u = ap (slice_get us) none ∙ sym (its 0) in (
-        batches_sent es u (entering_at k asked),
-        sent_in_turn es (k + 1) behind asked,
-        refl,
-        record { batches = entering_at k asked; cut = asked_at k rows (most + length rows / c.block) here; texts = refl },
-        run_from (k + 1) behind (step graph u rows) (most + length rows / c.block)
-            (λ j. its (suc j) ∙ ap (slice_get us) (one_on k j))
-            (omega (arith, long))
-            (λ some. next_at k u at (omega (arith, units, long, some)) rows (most + length rows / c.block) here),
+      let at : slice_get us k ≡ Some u = ap (slice_get us) none ∙ sym (its 0) in
+      (
+        among_at k rows (most + length rows / c.block) here,
+        entered_from (k + 1) behind (step graph u rows) (most + length rows / c.block)
+        (λ j. its (suc j) ∙ ap (slice_get us) (one_on k j))
+        (omega (arith, long))
+        (λ some. next_at k u at (omega (arith, units, long, some)) rows (most + length rows / c.block) here),
       )
     where
       one_on : (m j : ℕ) → m + suc j ≡ (m + 1) + j
       one_on m j = omega arith
 
-  -- what was sent is what the run may send
-  pub may_be_sent : (rows : List Row) → AreCut rows c.block first → IsRunSent es graph c.block 1 us rows (sent_in_turn es 0 us asked)
-  may_be_sent rows cut = run_from 0 us rows 1 (λ j. ap (slice_get us) (none j)) (omega arith) (λ some. begin)
+  pub all_entered : (rows : List Row) → AreCut rows c.block first → AreEntered graph c.block 0 1 us rows asked
+  all_entered rows cut = entered_from 0 us rows 1 (λ j. ap (slice_get us) (from_start j)) (omega arith) (λ some. begin rows cut)
     where
-      none : (j : ℕ) → j ≡ 0 + j
-      none j = omega arith
+      from_start : (j : ℕ) → j ≡ 0 + j
+      from_start j = omega arith
 
-      elsewhere : (fs : List Finished) → entering_at 0 (created fs) ≡ []
-      elsewhere [] = refl
-      elsewhere (f ∷ fs) =
-          entering_both 0 (next_of f) (created fs)
-          ∙ ap (λ (v : List (List Row)). v ++ entering_at 0 (created fs)) (parcels_elsewhere f.of.course (f.of.step + 1) 0 (other_number 0 (f.of.step + 1) (omega arith)).1 f.cut)
-          ∙ elsewhere fs
+  -- those of a unit come of the finished ones of the unit before
+  pub next_of_step : (k : ℕ) (u : unit.Unit) → slice_get us k ≡ Some u → k + 1 < c.units → (ps : List Parcel) → ((h : Parcel → ℕ) → sum_by h all ≡ sum_by h ps) → IsNextStep graph c.block k u spent ps
+  next_of_step k u at more ps same =
+      let cuts = all_cut graph us c k spent more (recursion_from_All (IsFinished c) spent fin) in
+      let several = batch_laws.several c.block (cuts_at k spent) positive cuts in
+      let found : List Row = flat_map (λ (d : Cut). d.0) (cuts_at k spent) in
+      let here : List Row = step graph u (joined (entering_at k (of_finished spent))) in
+      let batches : List (List Row) = flat_map (λ (d : Cut). d.1) (cuts_at k spent) in
+      let made_here : (h : Row → ℕ) → sum_by h found ≡ sum_by h here = λ h. found_at graph us c h k u at spent (recursion_from_All (IsStepOf graph us) spent is) in
+      let batches_are : entering_at (k + 1) all ≡ batches = batches_at k in
+      let whole : joined batches ≡ found = rows_of_cuts c.block positive (cuts_at k spent) (recursion_from_All (λ (d : Cut). AreCut d.0 c.block d.1) (cuts_at k spent) cuts) in
+      record {
+        rows_are = rows_from (joined (entering_at (k + 1) ps)) here (λ h.
+            let e = same (λ p. sum_by h (joined (at_step (k + 1) p))) in
+            let there : sum_by h (joined (entering_at (k + 1) all)) ≡ sum_by h found = ap (λ (v : List (List Row)). sum_by h (joined v)) batches_are ∙ ap (sum_by h) whole in
+            omega (arith, e, there, made_here h, entering_weight h (k + 1) all, entering_weight h (k + 1) ps));
+        few =
+            let e = same (λ p. length (at_step (k + 1) p)) in
+            let long : length here ≡ length found = length_permutation found here (rows_from found here made_here) in
+            let blocks : length found / c.block ≡ length here / c.block = ap (λ (n : ℕ). n / c.block) (sym long) in
+            let count : length batches ≤ length (cuts_at k spent) + length found / c.block = several.few in
+            let there : length (entering_at (k + 1) all) ≡ length batches = ap length batches_are in
+            omega (arith, e, blocks, count, there, cuts_length graph us c k spent, entering_length (k + 1) all, entering_length (k + 1) ps);
+      }
 
-      begin : AreBatchesOf rows c.block (1 + length rows / c.block) (entering_at 0 all)
-      begin =
-          subst (AreBatchesOf rows c.block (1 + length rows / c.block))
-          (sym (entering_both 0 (parcels c 0 first) (created spent) ∙ ap (λ (v : List (List Row)). v ++ entering_at 0 (created spent)) (parcels_at c 0 first) ∙ ap (λ (v : List (List Row)). first ++ v) (elsewhere spent) ∙ append-nil first))
-          (batch_laws.cut rows c.block first positive cut)
+  pub first_of_all : (ps : List Parcel) → ((h : Parcel → ℕ) → sum_by h all ≡ sum_by h ps) → (h : List Row → ℕ) → sum_by h (entering_at 0 ps) ≡ sum_by h first
+  first_of_all ps same h =
+      sum_by-flat_map h (at_step 0) ps ∙ sym (same (λ p. sum_by h (at_step 0 p))) ∙ sym (sum_by-flat_map h (at_step 0) all) ∙ ap (sum_by h) first_at
+
+  module _ (of_run : All (IsParcelOf c) tried) where
+    asked_of_run : All (IsParcelOf c) asked
+    asked_of_run = All-append (IsParcelOf c) (of_finished spent) tried (finished_of_run c spent fin) of_run
+
+    asked_at : (k : ℕ) (rows : List Row) (most : ℕ) → AreBatchesOf rows c.block most (entering_at k all) → AreBatchesOf rows c.block most (entering_at k asked)
+    asked_at k rows most b =
+        let some_of = among_at k rows most b in
+        record {
+          unused = some_of.unused;
+          of_rows = some_of.of_rows;
+          sized = entering_sized c k asked (recursion_from_All (IsParcelOf c) asked asked_of_run);
+          few = some_of.few;
+        }
+
+    run_from : (k : ℕ) (behind : List unit.Unit) (rows : List Row) (most : ℕ) → ((j : ℕ) → slice_get behind j ≡ slice_get us (k + j)) → k + length behind ≡ length us
+        → (0 < length behind → AreBatchesOf rows c.block (most + length rows / c.block) (entering_at k all))
+        → IsRunSent es graph c.block most behind rows (sent_in_turn es k behind asked)
+    run_from k [] rows most its long b = refl
+    run_from k (u ∷ behind) rows most its long b =
+        let here = b (omega arith) in
+        let none : k ≡ k + 0 = omega arith in
+        let at : slice_get us k ≡ Some u = ap (slice_get us) none ∙ sym (its 0) in (
+          batches_sent es u (entering_at k asked),
+          sent_in_turn es (k + 1) behind asked,
+          refl,
+          record { batches = entering_at k asked; cut = asked_at k rows (most + length rows / c.block) here; texts = refl },
+          run_from (k + 1) behind (step graph u rows) (most + length rows / c.block)
+              (λ j. its (suc j) ∙ ap (slice_get us) (one_on k j))
+              (omega (arith, long))
+              (λ some. next_at k u at (omega (arith, units, long, some)) rows (most + length rows / c.block) here),
+        )
+      where
+        one_on : (m j : ℕ) → m + suc j ≡ (m + 1) + j
+        one_on m j = omega arith
+
+    -- what was sent is what the run may send
+    pub may_be_sent : (rows : List Row) → AreCut rows c.block first → IsRunSent es graph c.block 1 us rows (sent_in_turn es 0 us asked)
+    may_be_sent rows cut = run_from 0 us rows 1 (λ j. ap (slice_get us) (none j)) (omega arith) (λ some. begin rows cut)
+      where
+        none : (j : ℕ) → j ≡ 0 + j
+        none j = omega arith

@@ -9,15 +9,15 @@ use Rattle.fx_traffic.specs.Batches.{AreCut}
 use Rattle.fx_pool.specs.Followed.{ArePut, HasPassedOn, IsPassedOn, IsPutButOne, in_hand}
 use Rattle.fx_pool.specs.Parcels.{IsParcelOf, made_at, parcel, parcels}
 use Rattle.fx_pool.specs.declared.lines.Hand.{Hand}
-use Rattle.fx_pool.specs.declared.parcels.Course.{Course}
+use Rattle.fx_pool.specs.declared.parcels.RunShape.{RunShape}
 use Rattle.fx_pool.specs.declared.parcels.Parcel.{Parcel}
 use Rattle.fx_pool.proofs.ParcelLemmas.{other_number, same_number}
 
-weight_both : (h : Parcel → ℕ) (c : Course) (k : ℕ) (xs ys : List (List Row)) → sum_by h (parcels c k (xs ++ ys)) ≡ sum_by h (parcels c k xs) + sum_by h (parcels c k ys)
+weight_both : (h : Parcel → ℕ) (c : RunShape) (k : ℕ) (xs ys : List (List Row)) → sum_by h (parcels c k (xs ++ ys)) ≡ sum_by h (parcels c k xs) + sum_by h (parcels c k ys)
 weight_both h c k xs ys = ap (sum_by h) (map-append (parcel c k) xs ys) ∙ sum_by-append h (parcels c k xs) (parcels c k ys)
 
 -- memory ran out for one, and the rest isn't put either
-pub put_in_part : (from mid to : Hand) (c : Course) (k : ℕ) (batches before : List (List Row)) (rows : List Row) (rest : List (List Row))
+pub put_in_part : (from mid to : Hand) (c : RunShape) (k : ℕ) (batches before : List (List Row)) (rows : List Row) (rest : List (List Row))
     → before ++ rows ∷ rest ≡ batches
     → ((h : Parcel → ℕ) → sum_by h mid.put ≡ sum_by h from.put + sum_by h (parcels c k before))
     → mid.took ≡ from.took → mid.parts ≡ from.parts → to ≡ mid
@@ -35,7 +35,7 @@ put_in_part from mid to c k batches before rows rest whole put took parts same =
 }
 
 -- the others were put, or some of them, and the last is in hand
-pub put_but_one : (from to : Hand) (c : Course) (k : ℕ) (batches before : List (List Row)) (rows : List Row) (r : Result (Option Parcel) Memory)
+pub put_but_one : (from to : Hand) (c : RunShape) (k : ℕ) (batches before : List (List Row)) (rows : List Row) (r : Result (Option Parcel) Memory)
     → batches ≡ before ++ rows ∷ [] → (lost : List Parcel)
     → ((h : Parcel → ℕ) → sum_by h to.put + sum_by h lost ≡ sum_by h from.put + sum_by h (parcels c k before)) → to.took ≡ from.took
     → IfOk r (λ next. (lost ≡ []) × (next ≡ Some (parcel c k rows)) × IsParcelOf c (parcel c k rows))
@@ -59,7 +59,7 @@ put_but_one from to c k batches before rows r whole lost put took ended = record
     by (Err e) k = tt
 
 -- rows behind the last unit are done
-pub behind_the_last : (c : Course) (k : ℕ) (view : Hand) (found was now : List Row) → k < c.units → c.units ≤ k + 1 → now ≡ was ++ found → IsPassedOn c k view view found was now (Ok None)
+pub behind_the_last : (c : RunShape) (k : ℕ) (view : Hand) (found was now : List Row) → k < c.units → c.units ≤ k + 1 → now ≡ was ++ found → IsPassedOn c k view view found was now (Ok None)
 behind_the_last c k view found was now below high e =
     let last : k + 1 ≡ c.units = omega (arith, below, high) in
     record {
@@ -72,7 +72,7 @@ behind_the_last c k view found was now below high e =
     }
 
 -- rows before it are cut, and the batches put but for one
-pub put_on : (c : Course) (k : ℕ) (from to : Hand) (found was : List Row) (batches : List (List Row)) (r : Result (Option Parcel) Memory) → k + 1 < c.units → AreCut found c.block batches
+pub put_on : (c : RunShape) (k : ℕ) (from to : Hand) (found was : List Row) (batches : List (List Row)) (r : Result (Option Parcel) Memory) → k + 1 < c.units → AreCut found c.block batches
     → IsPutButOne c (k + 1) from to batches r → HasPassedOn c k from to found was was r
 put_on c k from to found was batches r more cut h = by r h
   where

@@ -122,7 +122,7 @@ pub record IsBatchRead (Of : unit.Unit → Type 0) (x : Exchange) : Type 0 where
 
 -- ---- one member
 
--- A member was asked for a batch: its text was sent once at most, where it has one; what is found is what is read of an answer over its
+-- A member was asked for a batch: its text was sent once at most, and once with what is found, where it has one; this is what is read of an answer over its
 -- graph, where that is told.
 pub record AskedMember (alone : Bool) (before after : Seen) (endpoints : List EndpointParts) (p : Parts) (at : ℕ) (result : Result (List Found) FlowError) : Type 0 where
   pub exchanges : List Exchange
@@ -135,6 +135,7 @@ pub record AskedMember (alone : Bool) (before after : Seen) (endpoints : List En
   pub endpoint : EndpointParts
   pub found : slice_get endpoints at ≡ Some endpoint
   pub numbered : IfOk result (λ founds. All (λ f. Contains (numbers p) f.branch) founds)
+  pub whole : IfOk result (λ _. left ≡ [])
   pub faultless : IfOk result (λ _. All (IsReadFor p) exchanges)
   pub read : IfOk result (λ founds. (g : List Triple) → before.graph endpoint.iri ≡ Some g → IsRead g p founds)
   pub named : IfErr result (Names at)
@@ -166,6 +167,7 @@ pub record AskedMembers (alone : Bool) (before after : Seen) (endpoints : List E
   pub left : List Sent
   pub sent : Sends (flat_map (member_sent endpoints p.unit p.rows) members) left exchanges
   pub numbered : IfOk result (λ lists. All (λ list. All (λ f. Contains (numbers p) f.branch) list) lists)
+  pub whole : IfOk result (λ _. left ≡ [])
   pub faultless : IfOk result (λ _. All (IsReadFor p) exchanges)
   pub read : IfOk result (λ lists. (graphs : List (List Triple)) → AreTold before.graph endpoints graphs → AreReadOf graphs p members lists)
   pub cause : IfErr result (HasMemberCause before after endpoints p members exchanges)
@@ -186,6 +188,7 @@ pub record AskedBatch (alone : Bool) (before after : Seen) (endpoints : List End
   pub passed : Passed alone failed before after exchanges
   pub left : List Sent
   pub sent : Sends (unit_sent endpoints p.unit p.rows) left exchanges
+  pub whole : IfOk result (λ _. left ≡ [])
   pub faultless : IfOk result (λ _. All (IsReadFor p) exchanges)
   pub done : IfOk result (λ rows. (graphs : List (List Triple)) → AreTold before.graph endpoints graphs → IsSound graphs p.unit → IsPermutation rows (step (union graphs) p.unit p.rows))
   pub cause : IfErr result (HasMemberCause before after endpoints p p.unit.members exchanges)

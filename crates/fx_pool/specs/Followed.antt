@@ -21,7 +21,7 @@ use Rattle.fx_pool.specs.Runs.{IsHonestOver}
 use Rattle.fx_pool.specs.declared.flows.FlowError.{FlowError}
 use Rattle.fx_pool.specs.declared.flows.FlowError.TheVariants as flow
 use Rattle.fx_pool.specs.declared.lines.Hand.{Hand}
-use Rattle.fx_pool.specs.declared.parcels.Course.{Course}
+use Rattle.fx_pool.specs.declared.parcels.RunShape.{RunShape}
 use Rattle.fx_pool.specs.declared.parcels.Parcel.{Parcel}
 
 -- ---- the balance of a worker
@@ -37,8 +37,8 @@ all_sent es us spent tried = parcels_sent es us (of_finished spent) ++ parcels_s
 
 -- ---- one wire
 
--- With one wire these were finished and those were tried, one at most, which a fault or want of memory ended; each text was sent once at most.
-pub record WireFlowed (alone : Bool) (before after : Seen) (es : List EndpointParts) (us : List unit.Unit) (c : Course) (from to : Hand) (given tried held : List Parcel) (rows : List Row) : Type 0 where
+-- With one wire these were finished and those were tried, which a fault or want of memory ended; each text was sent once at most, and once where none was tried.
+pub record WireFlowed (alone : Bool) (before after : Seen) (es : List EndpointParts) (us : List unit.Unit) (c : RunShape) (from to : Hand) (given tried held : List Parcel) (rows : List Row) : Type 0 where
   pub exchanges : List Exchange
   pub failed : ℕ
   pub few : failed ≤ length tried
@@ -50,6 +50,7 @@ pub record WireFlowed (alone : Bool) (before after : Seen) (es : List EndpointPa
   pub rows_are : rows ≡ made c spent
   pub left : List Sent
   pub sent : Sends (all_sent es us spent tried) left exchanges
+  pub whole : tried ≡ [] → left ≡ []
   pub faultless : tried ≡ [] → All (IsBatchRead (Contains us)) exchanges
   pub steps : (graphs : List (List Triple)) → AreTold before.graph es graphs → All (IsSound graphs) us → All (IsStepOf (union graphs) us) spent
 
@@ -71,7 +72,7 @@ HasTriedCause before after es us tried xs e = IsTriedCause before after es us tr
 abbrev pub IsNext : Option Parcel → Bool → Hand → Hand → Option Parcel → Type 0
 IsNext (Some q) waits from to result = (result ≡ Some q) × (to ≡ from)
 IsNext None waits from to None = (to ≡ from) × (waits ≡ false → from.parts ≡ 16 → SameParcels from.put from.took)
-IsNext None waits from to (Some p) = (to ≡ hand from.parts from.course from.put (from.took ++ p ∷ [])) × IsOf from.course p
+IsNext None waits from to (Some p) = (to ≡ hand from.parts from.shape from.put (from.took ++ p ∷ [])) × IsOf from.shape p
 
 -- ---- one parcel
 
@@ -81,7 +82,7 @@ in_hand None = []
 in_hand (Some p) = p ∷ []
 
 -- a parcel was followed, and the rows that came behind the last unit joined those before
-pub record Followed (alone : Bool) (before after : Seen) (es : List EndpointParts) (us : List unit.Unit) (c : Course) (from to : Hand) (p : Parcel) (was now : List Row) (result : Result (Option Parcel) FlowError) : Type 0 where
+pub record Followed (alone : Bool) (before after : Seen) (es : List EndpointParts) (us : List unit.Unit) (c : RunShape) (from to : Hand) (p : Parcel) (was now : List Row) (result : Result (Option Parcel) FlowError) : Type 0 where
   pub tried : List Parcel
   pub one : length tried ≤ 1
   pub held : List Parcel
@@ -92,7 +93,7 @@ pub record Followed (alone : Bool) (before after : Seen) (es : List EndpointPart
 
 -- The rows that were found for a parcel joined those behind the last unit, or were cut, put, and one batch of them kept in hand. Where memory ran out that was
 -- done in part, or not begun.
-pub record IsPassedOn (c : Course) (k : ℕ) (from to : Hand) (found was now : List Row) (result : Result (Option Parcel) Memory) : Type 0 where
+pub record IsPassedOn (c : RunShape) (k : ℕ) (from to : Hand) (found was now : List Row) (result : Result (Option Parcel) Memory) : Type 0 where
   pub cut : List (List Row)
   pub finished : (k + 1 ≡ c.units → cut ≡ []) × (k + 1 < c.units → AreCut found c.block cut)
   pub held : List Parcel
@@ -100,7 +101,7 @@ pub record IsPassedOn (c : Course) (k : ℕ) (from to : Hand) (found was now : L
   pub took : to.took ≡ from.took
   pub ended : IfOk result (λ next. (held ≡ in_hand next) × (now ≡ was ++ made_at c k found) × All (IsParcelOf c) (in_hand next))
 
-abbrev pub HasPassedOn : Course → ℕ → Hand → Hand → List Row → List Row → List Row → Result (Option Parcel) Memory → Type 0
+abbrev pub HasPassedOn : RunShape → ℕ → Hand → Hand → List Row → List Row → List Row → Result (Option Parcel) Memory → Type 0
 HasPassedOn c k from to found was now (Ok next) = IsPassedOn c k from to found was now (Ok next)
 HasPassedOn c k from to found was now (Err e) = (to ≡ from) ⊎ IsPassedOn c k from to found was now (Err e)
 
@@ -112,8 +113,8 @@ pub record ArePut (from to : Hand) (ps : List Parcel) (result : Result (Unit {0}
   pub parts : to.parts ≡ from.parts
   pub all : IfOk result (λ _. lost ≡ [])
 
--- all but the last were put, and that is in hand
-pub record IsPutButOne (c : Course) (k : ℕ) (from to : Hand) (batches : List (List Row)) (result : Result (Option Parcel) Memory) : Type 0 where
+-- what wasn't put is in hand
+pub record IsPutButOne (c : RunShape) (k : ℕ) (from to : Hand) (batches : List (List Row)) (result : Result (Option Parcel) Memory) : Type 0 where
   pub held : List Parcel
   pub put : (h : Parcel → ℕ) → sum_by h to.put + sum_by h held ≡ sum_by h from.put + sum_by h (parcels c k batches)
   pub took : to.took ≡ from.took
@@ -122,7 +123,7 @@ pub record IsPutButOne (c : Course) (k : ℕ) (from to : Hand) (batches : List (
 -- ---- a worker
 
 -- a worker followed parcels, with these rows behind the last unit, and nothing in hand
-pub record HasFlowed (alone : Bool) (before after : Seen) (es : List EndpointParts) (us : List unit.Unit) (c : Course) (from to : Hand) (result : Result (Vec Row Global) FlowError) : Type 0 where
+pub record HasFlowed (alone : Bool) (before after : Seen) (es : List EndpointParts) (us : List unit.Unit) (c : RunShape) (from to : Hand) (result : Result (Vec Row Global) FlowError) : Type 0 where
   pub tried : List Parcel
   pub one : length tried ≤ 1
   pub held : List Parcel
@@ -133,12 +134,12 @@ pub record HasFlowed (alone : Bool) (before after : Seen) (es : List EndpointPar
 
 -- ---- several wires
 
--- the parts and the course of a pass stay
+-- the parts and the shape of a pass stay
 abbrev pub IsSamePass : Hand → Hand → Type 0
-IsSamePass from to = (to.parts ≡ from.parts) × (to.course ≡ from.course)
+IsSamePass from to = (to.parts ≡ from.parts) × (to.shape ≡ from.shape)
 
--- so it is of workers with several wires: at each one at most was tried
-pub record WiresFlowed (tells alone : Bool) (before after : List Seen) (es : List EndpointParts) (us : List unit.Unit) (c : Course) (from to : Hand) (tried held : List Parcel) (rows : List Row) : Type 0 where
+-- so it is of workers with several wires
+pub record WiresFlowed (tells alone : Bool) (before after : List Seen) (es : List EndpointParts) (us : List unit.Unit) (c : RunShape) (from to : Hand) (tried held : List Parcel) (rows : List Row) : Type 0 where
   pub exchanges : List Exchange
   pub gained : IsTrue tells → HaveGained before after exchanges
   pub honest : All (IsHonestOver before) exchanges
@@ -153,10 +154,11 @@ pub record WiresFlowed (tells alone : Bool) (before after : List Seen) (es : Lis
   pub rows_are : rows ≡ made c spent
   pub left : List Sent
   pub sent : Sends (all_sent es us spent tried) left exchanges
+  pub whole : tried ≡ [] → left ≡ []
   pub faultless : tried ≡ [] → All (IsBatchRead (Contains us)) exchanges
   pub steps : (graphs : List (List Triple)) → TellAll before es graphs → All (IsSound graphs) us → All (IsStepOf (union graphs) us) spent
 
-pub record HaveFlowed (tells alone : Bool) (before after : List Seen) (es : List EndpointParts) (us : List unit.Unit) (c : Course) (from to : Hand) (result : Result (Vec Row Global) FlowError) : Type 0 where
+pub record HaveFlowed (tells alone : Bool) (before after : List Seen) (es : List EndpointParts) (us : List unit.Unit) (c : RunShape) (from to : Hand) (result : Result (Vec Row Global) FlowError) : Type 0 where
   pub tried : List Parcel
   pub one : length tried ≤ length before
   pub held : List Parcel

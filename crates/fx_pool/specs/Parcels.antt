@@ -8,20 +8,20 @@ use Rattle.fx_algebra.specs.declared.units.Row.{Row}
 use Rattle.fx_algebra.specs.declared.units.Unit as unit
 use Rattle.fx_traffic.specs.Batches.{AreCut, IsSized, batches_sent, unit_sent}
 use Rattle.fx_traffic.specs.Sent.{Sent}
-use Rattle.fx_pool.specs.declared.parcels.Course.{Course}
+use Rattle.fx_pool.specs.declared.parcels.RunShape.{RunShape}
 use Rattle.fx_pool.specs.declared.parcels.Parcel.{Parcel}
 
--- a parcel of a run with this course: it enters one of its units, and has a row, and no more than a batch may have
-pub record IsParcelOf (c : Course) (p : Parcel) : Type 0 where
-  pub same : p.course ≡ c
+-- a parcel of a run with this shape: it enters one of its units, and has a row, and no more than a batch may have
+pub record IsParcelOf (c : RunShape) (p : Parcel) : Type 0 where
+  pub same : p.shape ≡ c
   pub below : p.step < c.units
   pub sized : IsSized c.block p.rows
 
-abbrev pub parcel : Course → ℕ → List Row → Parcel
-parcel c k rows = record { course = c; step = k; rows = rows }
+abbrev pub parcel : RunShape → ℕ → List Row → Parcel
+parcel c k rows = record { shape = c; step = k; rows = rows }
 
 -- batches that enter the unit of a number
-abbrev pub parcels : Course → ℕ → List (List Row) → List Parcel
+abbrev pub parcels : RunShape → ℕ → List (List Row) → List Parcel
 parcels c k batches = map (parcel c k) batches
 
 -- the same parcels, each as often: every weight says so
@@ -37,14 +37,14 @@ pub record Finished : Type 0 where
   pub cut : List (List Row)
 
 -- in as few batches as their number allows; behind the last unit they aren't cut
-pub record IsFinished (c : Course) (f : Finished) : Type 0 where
+pub record IsFinished (c : RunShape) (f : Finished) : Type 0 where
   pub of_run : IsParcelOf c f.of
   pub last : f.of.step + 1 ≡ c.units → f.cut ≡ []
   pub more : f.of.step + 1 < c.units → AreCut f.found c.block f.cut
 
 -- the parcels that it made
 abbrev pub next_of : Finished → List Parcel
-next_of f = parcels f.of.course (f.of.step + 1) f.cut
+next_of f = parcels f.of.shape (f.of.step + 1) f.cut
 
 abbrev pub created : List Finished → List Parcel
 created spent = flat_map next_of spent
@@ -53,13 +53,13 @@ abbrev pub of_finished : List Finished → List Parcel
 of_finished spent = map (λ f. f.of) spent
 
 -- the rows behind the last unit
-abbrev pub made_at : Course → ℕ → List Row → List Row
+abbrev pub made_at : RunShape → ℕ → List Row → List Row
 made_at c k found = cond (eqb (k + 1) c.units) found []
 
-abbrev pub made_by : Course → Finished → List Row
+abbrev pub made_by : RunShape → Finished → List Row
 made_by c f = made_at c f.of.step f.found
 
-abbrev pub made : Course → List Finished → List Row
+abbrev pub made : RunShape → List Finished → List Row
 made c spent = flat_map (made_by c) spent
 
 -- what was found is what the unit makes of the parcel's rows

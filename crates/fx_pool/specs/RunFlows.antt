@@ -1,5 +1,5 @@
 -- What the units of a run, asked for over wires, give, and what that leaves of these.
-use Rattle.std.specs.Prelude.{◌≡◌, ◌<◌, ◌≤◌, ◌+◌, ℕ, Bool, List, length, IfOk, IfErr, IsTrue, All, Contains, IsPermutation, Some, Result, slice_get}
+use Rattle.std.specs.Prelude.{◌≡◌, ◌<◌, ◌≤◌, ◌+◌, ℕ, Bool, List, [], length, IfOk, IfErr, IsTrue, All, Contains, IsPermutation, Some, Result, slice_get}
 use Rattle.fx_terms.specs.declared.triples.Triple.{Triple}
 use Rattle.fx_outside.specs.Endpoints.{EndpointParts}
 use Rattle.fx_algebra.specs.Graphs.{union}
@@ -37,8 +37,8 @@ HasFlowCause before after endpoints us block wanted xs flow.Memory = Unit {0}
 HasFlowCause before after endpoints us block wanted xs e = IsFlowCause before after endpoints us block wanted xs e
 
 -- The units of a run were asked for over wires, from these rows on: what these exchanged, one wire's part behind the other's, what was
--- wanted of it, texts of batches of these units, and the rows behind the last unit: with rows each reply was read, without a fault. If wires count each
--- address alone, at most one fault for each wire was counted, and none with rows.
+-- wanted of it, texts of batches of these units, and the rows behind the last unit: with rows each text was sent, and each reply read, without a fault. If wires count each
+-- address alone, at each address no more faults were counted, together, than there are wires, and none with rows.
 pub record RunFlowed (tells alone : Bool) (before after : List Seen) (endpoints : List EndpointParts) (us : List unit.Unit) (block : ℕ) (rows : List Row) (result : Result (List Row) FlowError) : Type 0 where
   pub exchanges : List Exchange
   pub gained : IsTrue tells → HaveGained before after exchanges
@@ -52,6 +52,7 @@ pub record RunFlowed (tells alone : Bool) (before after : List Seen) (endpoints 
   pub left : List Sent
   pub sent : Sends wanted left exchanges
   pub of_batches : All (IsBatchText endpoints block (Contains us)) wanted
+  pub whole : IfOk result (λ _. left ≡ [])
   pub faultless : IfOk result (λ _. All (IsBatchRead (Contains us)) exchanges)
   pub of_run : (graphs : List (List Triple)) → TellAll before endpoints graphs → All (IsSound graphs) us → IsRunSent endpoints (union graphs) block 1 us rows wanted
   pub done : IfOk result (λ next. (graphs : List (List Triple)) → TellAll before endpoints graphs → All (IsSound graphs) us → IsPermutation next (stepped (union graphs) us rows))

@@ -11,7 +11,7 @@ use crate::flows::FlowError;
 use crate::following::work;
 use crate::gates::Gate;
 use crate::lines::{Line, Ticket, shared_out, taken_in};
-use crate::parcels::Course;
+use crate::parcels::RunShape;
 use crate::steps::Step;
 use fx_algebra::Row;
 use fx_outside::Endpoint;
@@ -27,19 +27,19 @@ pub(crate) fn flow<R: Threads + Wait + Sync, W: Wire + Send, U: Step + Sync>(
     line: &Line,
     me: &mut Ticket,
     gate: &Gate,
-    course: &Course,
+    shape: &RunShape,
     endpoints: &[Endpoint],
     units: &[U],
     wires: &mut [W],
 ) -> Result<Vec<Row>, FlowError>
     requires pass { IsSegPassOf line.now me.old }
     requires wired { (0 < length wires.old) × (length wires.old ≤ me.old.me.view.client.parts) }
-    requires course { (me.old.me.view.client.course ≡ Some course.now) × (course.now.units ≡ length (map U.unit units.now)) × (0 < course.now.block) × (course.now.block ≤ 64) }
+    requires shape { (me.old.me.view.client.shape ≡ Some shape.now) × (shape.now.units ≡ length (map U.unit units.now)) × (0 < shape.now.block) × (shape.now.block ≤ 64) }
     requires sendable { All (λ e. is_sendable e ≡ true) endpoints.now }
     requires fit { All IsFit (map U.unit units.now) }
     requires within { All (λ u. All (λ at. at < length endpoints.now) u.members) (map U.unit units.now) }
     ensures pass { IsSegPassOf line.now me.new × IsSamePass me.old.me.view.client me.new.me.view.client }
-    ensures flowed { HaveFlowed W.tells_log W.counts_alone (map W.seen wires.old) (map W.seen wires.new) endpoints.now (map U.unit units.now) course.now me.old.me.view.client me.new.me.view.client result }
+    ensures flowed { HaveFlowed W.tells_log W.counts_alone (map W.seen wires.old) (map W.seen wires.new) endpoints.now (map U.unit units.now) shape.now me.old.me.view.client me.new.me.view.client result }
 {
     if wires.len() < 2 {
         return work(
@@ -49,7 +49,7 @@ pub(crate) fn flow<R: Threads + Wait + Sync, W: Wire + Send, U: Step + Sync>(
             me,
             gate,
             true,
-            *course,
+            *shape,
             endpoints,
             units,
             &mut wires[0],
@@ -64,24 +64,24 @@ pub(crate) fn flow<R: Threads + Wait + Sync, W: Wire + Send, U: Step + Sync>(
             requires sync { IsSync R.row × IsSync U.row }
             requires pass { IsSegPassOf line.now me.now }
             requires wired { (0 < length left.now) × (length left.now ≤ me.now.me.view.client.parts) }
-            requires course { (me.now.me.view.client.course ≡ Some course.now) × (course.now.units ≡ length (map U.unit units.now)) × (0 < course.now.block) × (course.now.block ≤ 64) }
+            requires shape { (me.now.me.view.client.shape ≡ Some shape.now) × (shape.now.units ≡ length (map U.unit units.now)) × (0 < shape.now.block) × (shape.now.block ≤ 64) }
             requires sendable { All (λ e. is_sendable e ≡ true) endpoints.now }
             requires fit { All IsFit (map U.unit units.now) }
             requires within { All (λ u. All (λ at. at < length endpoints.now) u.members) (map U.unit units.now) }
             ensures pass { IsSegPassOf line.entry.now me.exit.now × IsSamePass me.entry.now.me.view.client me.exit.now.me.view.client }
-            ensures flowed { HaveFlowed W.tells_log W.counts_alone (map W.seen left.entry.now) (map W.seen left.exit.now) endpoints.entry.now (map U.unit units.entry.now) course.entry.now me.entry.now.me.view.client me.exit.now.me.view.client result }
-        { flow(rt, alloc, line, me, gate, course, endpoints, units, left) },
+            ensures flowed { HaveFlowed W.tells_log W.counts_alone (map W.seen left.entry.now) (map W.seen left.exit.now) endpoints.entry.now (map U.unit units.entry.now) shape.entry.now me.entry.now.me.view.client me.exit.now.me.view.client result }
+        { flow(rt, alloc, line, me, gate, shape, endpoints, units, left) },
         &mut || -> Result<Vec<Row>, FlowError>
             requires sync { IsSync R.row × IsSync U.row }
             requires pass { IsSegPassOf line.now them.now }
             requires wired { (0 < length right.now) × (length right.now ≤ them.now.me.view.client.parts) }
-            requires course { (them.now.me.view.client.course ≡ Some course.now) × (course.now.units ≡ length (map U.unit units.now)) × (0 < course.now.block) × (course.now.block ≤ 64) }
+            requires shape { (them.now.me.view.client.shape ≡ Some shape.now) × (shape.now.units ≡ length (map U.unit units.now)) × (0 < shape.now.block) × (shape.now.block ≤ 64) }
             requires sendable { All (λ e. is_sendable e ≡ true) endpoints.now }
             requires fit { All IsFit (map U.unit units.now) }
             requires within { All (λ u. All (λ at. at < length endpoints.now) u.members) (map U.unit units.now) }
             ensures pass { IsSegPassOf line.entry.now them.exit.now × IsSamePass them.entry.now.me.view.client them.exit.now.me.view.client }
-            ensures flowed { HaveFlowed W.tells_log W.counts_alone (map W.seen right.entry.now) (map W.seen right.exit.now) endpoints.entry.now (map U.unit units.entry.now) course.entry.now them.entry.now.me.view.client them.exit.now.me.view.client result }
-        { flow(rt, alloc, line, them, gate, course, endpoints, units, right) },
+            ensures flowed { HaveFlowed W.tells_log W.counts_alone (map W.seen right.entry.now) (map W.seen right.exit.now) endpoints.entry.now (map U.unit units.entry.now) shape.entry.now them.entry.now.me.view.client them.exit.now.me.view.client result }
+        { flow(rt, alloc, line, them, gate, shape, endpoints, units, right) },
     );
     taken_in(line, me, other);
     both(ours, theirs)
@@ -94,22 +94,22 @@ pub(crate) fn flow_out<R: Threads + Wait + Sync, W: Wire + Send, U: Step + Sync>
     line: &Line,
     me: &mut Ticket,
     gate: &Gate,
-    course: Course,
+    shape: RunShape,
     endpoints: &[Endpoint],
     units: &[U],
     wires: &mut [W],
 ) -> Result<Vec<Row>, FlowError>
     requires pass { IsSegPassOf line.now me.old }
     requires wired { (0 < length wires.old) × (length wires.old ≤ me.old.me.view.client.parts) }
-    requires course { (me.old.me.view.client.course ≡ Some course) × (course.units ≡ length (map U.unit units.now)) × (0 < course.block) × (course.block ≤ 64) }
+    requires shape { (me.old.me.view.client.shape ≡ Some shape) × (shape.units ≡ length (map U.unit units.now)) × (0 < shape.block) × (shape.block ≤ 64) }
     requires sendable { All (λ e. is_sendable e ≡ true) endpoints.now }
     requires fit { All IsFit (map U.unit units.now) }
     requires within { All (λ u. All (λ at. at < length endpoints.now) u.members) (map U.unit units.now) }
     ensures pass { IsSegPassOf line.now me.new × IsSamePass me.old.me.view.client me.new.me.view.client }
-    ensures flowed { HaveFlowed W.tells_log W.counts_alone (map W.seen wires.old) (map W.seen wires.new) endpoints.now (map U.unit units.now) course me.old.me.view.client me.new.me.view.client result }
+    ensures flowed { HaveFlowed W.tells_log W.counts_alone (map W.seen wires.old) (map W.seen wires.new) endpoints.now (map U.unit units.now) shape me.old.me.view.client me.new.me.view.client result }
     ensures empty { OnOk result (me.old.me.view.client.parts ≡ 16 → SameParcels me.new.me.view.client.put me.new.me.view.client.took) }
 {
-    match flow(rt, &alloc, line, me, gate, &course, endpoints, units, wires) {
+    match flow(rt, &alloc, line, me, gate, &shape, endpoints, units, wires) {
         Err(error) => Err(error),
         Ok(made) => {
             let rest = work(
@@ -119,7 +119,7 @@ pub(crate) fn flow_out<R: Threads + Wait + Sync, W: Wire + Send, U: Step + Sync>
                 me,
                 gate,
                 false,
-                course,
+                shape,
                 endpoints,
                 units,
                 &mut wires[0],

@@ -22,7 +22,7 @@ use crate::following::put_all;
 use crate::gates::Gate;
 use crate::jobs::{BadReply, JobKind};
 use crate::lines::{Line, Ticket, lined, waiting};
-use crate::parcels::Course;
+use crate::parcels::RunShape;
 use crate::posting::{Posted, post};
 use crate::reading::read_found;
 use crate::steps::Step;
@@ -75,11 +75,11 @@ pub fn run_flow<R: Threads + Wait + Sync, W: Wire + Send>(
     requires within { All (λ u. All (λ at. at < length endpoints.now) u.members) units.now }
     ensures { RunFlowed W.tells_log W.counts_alone (map W.seen wires.old) (map W.seen wires.new) endpoints.now units.now block (numbered 0 rows.now) (rows_in result) }
 {
-    let course = Course {
+    let shape = RunShape {
         units: units.len() as u64,
         block: block as u64,
     };
-    let Ok(first) = first_batches(alloc, rows, course) else {
+    let Ok(first) = first_batches(alloc, rows, shape) else {
         return Err(FlowError::Memory);
     };
     if is_none(first.as_slice()) {
@@ -89,7 +89,7 @@ pub fn run_flow<R: Threads + Wait + Sync, W: Wire + Send>(
         return Err(FlowError::Memory);
     };
     let found = all_rows(
-        rt, alloc, &line, &mut me, course, first, endpoints, units, wires,
+        rt, alloc, &line, &mut me, shape, first, endpoints, units, wires,
     );
     line.destroy();
     found
@@ -99,13 +99,13 @@ pub fn run_flow<R: Threads + Wait + Sync, W: Wire + Send>(
 fn first_batches(
     alloc: Global,
     rows: &[Solution],
-    course: Course,
+    shape: RunShape,
 ) -> Result<Vec<Items<Row>>, Memory>
-    requires { 0 < course.block }
-    ensures { IfOk result (λ batches. AreCut (numbered 0 rows.now) course.block batches.items) }
+    requires { 0 < shape.block }
+    ensures { IfOk result (λ batches. AreCut (numbered 0 rows.now) shape.block batches.items) }
 {
     let first = number(alloc, rows)?;
-    cut(alloc, first, course.block)
+    cut(alloc, first, shape.block)
 }
 
 // Puts the first batches, and follows them over all wires.
@@ -114,27 +114,27 @@ fn all_rows<R: Threads + Wait + Sync, W: Wire + Send, U: Step + Sync>(
     alloc: Global,
     line: &Line,
     me: &mut Ticket,
-    course: Course,
+    shape: RunShape,
     first: Vec<Items<Row>>,
     endpoints: &[Endpoint],
     units: &[U],
     wires: &mut [W],
 ) -> Result<Vec<Row>, FlowError>
     requires pass { IsSegPassOf line.now me.old × (me.old.me.view.client ≡ hand 16 None [] []) }
-    requires first { (0 < length first.items) × All (IsSized course.block) first.items }
-    requires course { (course.units ≡ length (map U.unit units.now)) × (0 < course.units) × (0 < course.block) × (course.block ≤ 64) }
+    requires first { (0 < length first.items) × All (IsSized shape.block) first.items }
+    requires shape { (shape.units ≡ length (map U.unit units.now)) × (0 < shape.units) × (0 < shape.block) × (shape.block ≤ 64) }
     requires wired { (0 < length wires.old) × (length wires.old ≤ 16) }
     requires sendable { All (λ e. is_sendable e ≡ true) endpoints.now }
     requires fit { All IsFit (map U.unit units.now) }
     requires within { All (λ u. All (λ at. at < length endpoints.now) u.members) (map U.unit units.now) }
-    ensures { (rows : List RowParts) → AreCut rows course.block first.items
-        → RunFlowed W.tells_log W.counts_alone (map W.seen wires.old) (map W.seen wires.new) endpoints.now (map U.unit units.now) course.block rows (rows_in result) }
+    ensures { (rows : List RowParts) → AreCut rows shape.block first.items
+        → RunFlowed W.tells_log W.counts_alone (map W.seen wires.old) (map W.seen wires.new) endpoints.now (map U.unit units.now) shape.block rows (rows_in result) }
 {
     let gate = Gate::new(first.len() as u64);
-    if put_all(rt, line, me, course, 0, first).is_err() {
+    if put_all(rt, line, me, shape, 0, first).is_err() {
         return Err(FlowError::Memory);
     }
-    let found = flow_out(rt, alloc, line, me, &gate, course, endpoints, units, wires);
+    let found = flow_out(rt, alloc, line, me, &gate, shape, endpoints, units, wires);
     // After a refusal the parcels that wait are those that nobody took.
     let _left = waiting(rt, line, me);
     found

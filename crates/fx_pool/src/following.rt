@@ -12,7 +12,7 @@ use crate::cutting::cut;
 use crate::flows::FlowError;
 use crate::gates::Gate;
 use crate::lines::{Line, Ticket, put, take};
-use crate::parcels::{Course, Parcel};
+use crate::parcels::{RunShape, Parcel};
 use crate::steps::Step;
 use fx_algebra::Row;
 use fx_outside::Endpoint;
@@ -31,18 +31,18 @@ pub(crate) fn work<R: Wait, W: Wire, U: Step>(
     me: &mut Ticket,
     gate: &Gate,
     waits: bool,
-    course: Course,
+    shape: RunShape,
     endpoints: &[Endpoint],
     units: &[U],
     wire: &mut W,
 ) -> Result<Vec<Row>, FlowError>
     requires pass { IsSegPassOf line.now me.old × (0 < me.old.me.view.client.parts) }
-    requires course { (me.old.me.view.client.course ≡ Some course) × (course.units ≡ length (map U.unit units.now)) × (0 < course.block) × (course.block ≤ 64) }
+    requires shape { (me.old.me.view.client.shape ≡ Some shape) × (shape.units ≡ length (map U.unit units.now)) × (0 < shape.block) × (shape.block ≤ 64) }
     requires sendable { All (λ e. is_sendable e ≡ true) endpoints.now }
     requires fit { All IsFit (map U.unit units.now) }
     requires within { All (λ u. All (λ at. at < length endpoints.now) u.members) (map U.unit units.now) }
     ensures pass { IsSegPassOf line.now me.new × IsSamePass me.old.me.view.client me.new.me.view.client }
-    ensures flowed { HasFlowed W.counts_alone (W.seen wire.old) (W.seen wire.new) endpoints.now (map U.unit units.now) course me.old.me.view.client me.new.me.view.client result }
+    ensures flowed { HasFlowed W.counts_alone (W.seen wire.old) (W.seen wire.new) endpoints.now (map U.unit units.now) shape me.old.me.view.client me.new.me.view.client result }
     ensures empty { OnOk result (waits ≡ false → me.old.me.view.client.parts ≡ 16 → SameParcels me.new.me.view.client.put me.new.me.view.client.took) }
 {
     let mut made = Vec::new(alloc);
@@ -52,7 +52,7 @@ pub(crate) fn work<R: Wait, W: Wire, U: Step>(
             return Ok(made);
         };
         match follow(
-            rt, alloc, line, me, gate, course, endpoints, units, wire, parcel, &mut made,
+            rt, alloc, line, me, gate, shape, endpoints, units, wire, parcel, &mut made,
         ) {
             Ok(next) => in_hand = next,
             Err(error) => {
@@ -90,7 +90,7 @@ fn waited_for<R: Wait>(rt: &R, line: &Line, me: &mut Ticket, gate: &Gate) -> Opt
     ensures pass { IsSegPassOf line.now me.new }
     ensures took { MatchOption result
         (me.new.me.view.client ≡ me.old.me.view.client)
-        (λ p. (me.new.me.view.client ≡ hand me.old.me.view.client.parts me.old.me.view.client.course me.old.me.view.client.put (me.old.me.view.client.took ++ p ∷ [])) × IsOf me.old.me.view.client.course p) }
+        (λ p. (me.new.me.view.client ≡ hand me.old.me.view.client.parts me.old.me.view.client.shape me.old.me.view.client.put (me.old.me.view.client.took ++ p ∷ [])) × IsOf me.old.me.view.client.shape p) }
 {
     for _ in rt.forever() {
         let Some(seen) = gate.seen(rt) else {
@@ -111,7 +111,7 @@ fn follow<R: Wait, W: Wire, U: Step>(
     line: &Line,
     me: &mut Ticket,
     gate: &Gate,
-    course: Course,
+    shape: RunShape,
     endpoints: &[Endpoint],
     units: &[U],
     wire: &mut W,
@@ -119,18 +119,18 @@ fn follow<R: Wait, W: Wire, U: Step>(
     made: &mut Vec<Row>,
 ) -> Result<Option<Parcel>, FlowError>
     requires pass { IsSegPassOf line.now me.old × (0 < me.old.me.view.client.parts) }
-    requires course { (me.old.me.view.client.course ≡ Some course) × (course.units ≡ length (map U.unit units.now)) × (0 < course.block) × (course.block ≤ 64) }
-    requires parcel { IsParcelOf course parcel }
+    requires shape { (me.old.me.view.client.shape ≡ Some shape) × (shape.units ≡ length (map U.unit units.now)) × (0 < shape.block) × (shape.block ≤ 64) }
+    requires parcel { IsParcelOf shape parcel }
     requires sendable { All (λ e. is_sendable e ≡ true) endpoints.now }
     requires fit { All IsFit (map U.unit units.now) }
     requires within { All (λ u. All (λ at. at < length endpoints.now) u.members) (map U.unit units.now) }
     ensures pass { IsSegPassOf line.now me.new × IsSamePass me.old.me.view.client me.new.me.view.client }
-    ensures followed { Followed W.counts_alone (W.seen wire.old) (W.seen wire.new) endpoints.now (map U.unit units.now) course me.old.me.view.client me.new.me.view.client parcel made.old.items made.new.items result }
+    ensures followed { Followed W.counts_alone (W.seen wire.old) (W.seen wire.new) endpoints.now (map U.unit units.now) shape me.old.me.view.client me.new.me.view.client parcel made.old.items made.new.items result }
 {
     let unit = &units[parcel.step as usize];
     match unit.ask(alloc, wire, endpoints, parcel.rows.as_slice()) {
         Err(error) => Err(error),
-        Ok(found) => match pass_on(rt, alloc, line, me, gate, course, parcel.step, found, made) {
+        Ok(found) => match pass_on(rt, alloc, line, me, gate, shape, parcel.step, found, made) {
             Ok(next) => Ok(next),
             Err(Memory) => Err(FlowError::Memory),
         },
@@ -144,18 +144,18 @@ fn pass_on<R: Wait>(
     line: &Line,
     me: &mut Ticket,
     gate: &Gate,
-    course: Course,
+    shape: RunShape,
     at: u64,
     found: Vec<Row>,
     made: &mut Vec<Row>,
 ) -> Result<Option<Parcel>, Memory>
     requires pass { IsSegPassOf line.now me.old × (0 < me.old.me.view.client.parts) }
-    requires course { (me.old.me.view.client.course ≡ Some course) × (0 < course.block) × (at < course.units) }
+    requires shape { (me.old.me.view.client.shape ≡ Some shape) × (0 < shape.block) × (at < shape.units) }
     ensures pass { IsSegPassOf line.now me.new × IsSamePass me.old.me.view.client me.new.me.view.client }
-    ensures passed { HasPassedOn course at me.old.me.view.client me.new.me.view.client found.items made.old.items made.new.items result }
+    ensures passed { HasPassedOn shape at me.old.me.view.client me.new.me.view.client found.items made.old.items made.new.items result }
 {
     let step = at + 1;
-    if step >= course.units {
+    if step >= shape.units {
         let mut found = found;
         if made.append(&mut found).is_err() {
             return Err(Memory);
@@ -163,8 +163,8 @@ fn pass_on<R: Wait>(
         gate.finished(rt);
         return Ok(None);
     }
-    let batches = cut(alloc, found, course.block)?;
-    put_all_but_one(rt, line, me, gate, course, step, batches)
+    let batches = cut(alloc, found, shape.block)?;
+    put_all_but_one(rt, line, me, gate, shape, step, batches)
 }
 
 // Puts batches for a unit, and keeps the last in hand.
@@ -173,14 +173,14 @@ fn put_all_but_one<R: Wait>(
     line: &Line,
     me: &mut Ticket,
     gate: &Gate,
-    course: Course,
+    shape: RunShape,
     step: u64,
     batches: Vec<Items<Row>>,
 ) -> Result<Option<Parcel>, Memory>
     requires pass { IsSegPassOf line.now me.old × (0 < me.old.me.view.client.parts) }
-    requires course { (me.old.me.view.client.course ≡ Some course) × (step < course.units) × All (IsSized course.block) batches.items }
+    requires shape { (me.old.me.view.client.shape ≡ Some shape) × (step < shape.units) × All (IsSized shape.block) batches.items }
     ensures pass { IsSegPassOf line.now me.new × IsSamePass me.old.me.view.client me.new.me.view.client }
-    ensures put { IsPutButOne course step me.old.me.view.client me.new.me.view.client batches.items result }
+    ensures put { IsPutButOne shape step me.old.me.view.client me.new.me.view.client batches.items result }
 {
     let mut batches = batches;
     let Some(rows) = batches.pop() else {
@@ -188,11 +188,12 @@ fn put_all_but_one<R: Wait>(
         return Ok(None);
     };
     if !batches.is_empty() {
-        gate.more(rt, batches.len() as u64);
-        put_all(rt, line, me, course, step, batches)?;
-        gate.put(rt);
+        let count = batches.len() as u64;
+        gate.more(rt, count);
+        put_all(rt, line, me, shape, step, batches)?;
+        gate.put(rt, count);
     }
-    Ok(Some(Parcel { course, step, rows }))
+    Ok(Some(Parcel { shape, step, rows }))
 }
 
 /// Puts batches for the unit of a number.
@@ -200,18 +201,18 @@ pub(crate) fn put_all<R: Wait>(
     rt: &R,
     line: &Line,
     me: &mut Ticket,
-    course: Course,
+    shape: RunShape,
     step: u64,
     batches: Vec<Items<Row>>,
 ) -> Result<(), Memory>
     requires pass { IsSegPassOf line.now me.old × (0 < me.old.me.view.client.parts) }
-    requires course { MayPut course me.old.me.view.client × (step < course.units) × All (IsSized course.block) batches.items }
+    requires shape { MayPut shape me.old.me.view.client × (step < shape.units) × All (IsSized shape.block) batches.items }
     ensures pass { IsSegPassOf line.now me.new }
-    ensures course { (0 < length batches.items → OnOk result (me.new.me.view.client.course ≡ Some course)) × (me.old.me.view.client.course ≡ Some course → me.new.me.view.client.course ≡ Some course) }
-    ensures put { ArePut me.old.me.view.client me.new.me.view.client (parcels course step batches.items) result }
+    ensures shape { (0 < length batches.items → OnOk result (me.new.me.view.client.shape ≡ Some shape)) × (me.old.me.view.client.shape ≡ Some shape → me.new.me.view.client.shape ≡ Some shape) }
+    ensures put { ArePut me.old.me.view.client me.new.me.view.client (parcels shape step batches.items) result }
 {
     for rows in batches {
-        if put(rt, line, me, Parcel { course, step, rows }).is_err() {
+        if put(rt, line, me, Parcel { shape, step, rows }).is_err() {
             return Err(Memory);
         }
     }

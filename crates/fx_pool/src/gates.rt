@@ -56,11 +56,15 @@ impl Gate {
         progress.under_way = progress.under_way.wrapping_add(count);
     }
 
-    /// Parcels were put.
-    pub(crate) fn put<R: Wait>(&self, rt: &R) {
+    /// So many parcels were put.
+    pub(crate) fn put<R: Wait>(&self, rt: &R, count: u64) {
         let mut progress = self.progress.lock(rt);
         progress.puts = progress.puts.wrapping_add(1);
-        self.moved.notify_all();
+        if count == 1 {
+            self.moved.notify_one();
+        } else {
+            self.moved.notify_all();
+        }
     }
 
     /// A parcel is finished, and none came of it. Behind the last one the run is over.

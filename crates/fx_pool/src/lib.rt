@@ -25,6 +25,7 @@ pub use faults::ReplyFault;
 pub use flows::{FlowError, run_flow};
 use fx_terms::shareable;
 pub use jobs::{BadReply, Job, JobKind, JobReply, RequestText, Work};
+use parcels::{RunShape, Parcel};
 pub use running::run_jobs;
 
 /// Every type of this crate may be shared between threads and sent to them.
@@ -37,6 +38,8 @@ pub fn all_shareable() {
     shareable::<BadReply>();
     shareable::<ReplyFault>();
     shareable::<FlowError>();
+    shareable::<RunShape>();
+    shareable::<Parcel>();
 }
 
 // The search for this ends only where it is asked for by itself.

@@ -5,17 +5,17 @@ ghost use Rattle.crossbeam_queue.specs.Fifo.{Held};
 ghost use Rattle.fx_pool.specs.Lines.{IsOf, MayPut, hand};
 ghost use Rattle.fx_pool.specs.Parcels.{IsParcelOf, SameParcels};
 
-use crate::parcels::{Course, Parcel};
+use crate::parcels::{RunShape, Parcel};
 use crossbeam_queue::protocol::{Join, Lesson, Outcome, Protocol, Split};
 use crossbeam_queue::{RuledSegQueue, SegPass};
 use std::alloc::{AllocError, Global};
 use std::collections::LinkedList;
 use std::sync::Wait;
 
-// What a pass knows: its parts, the course of the run, and what it put and took. No value of it is made.
+// What a pass knows: its parts, the shape of the run, and what it put and took. No value of it is made.
 pub struct Hand {
     pub parts: u64,
-    pub course: Option<Course>,
+    pub shape: Option<RunShape>,
     pub put: LinkedList<Parcel>,
     pub took: LinkedList<Parcel>,
 }
@@ -32,24 +32,24 @@ impl Protocol<Parcel, Hand> for Fair {
     ghost first = { hand 16 None [] [] };
 }
 
-// The pass puts a parcel, and knows its course.
+// The pass puts a parcel, and knows its shape.
 struct Puts;
 
 impl Outcome<Parcel, Hand> for Puts {
     ghost use Rattle.std.specs.Prelude.{◌≡◌, ◌++◌, ◌∷◌, [], Some};
     ghost use Rattle.fx_pool.specs.Lines.{hand};
 
-    ghost then = { λ v x w. w ≡ hand v.parts (Some x.course) (v.put ++ x ∷ []) v.took };
+    ghost then = { λ v x w. w ≡ hand v.parts (Some x.shape) (v.put ++ x ∷ []) v.took };
 }
 
-// The pass takes a parcel, which is of the course that it knows.
+// The pass takes a parcel, which is of the shape that it knows.
 struct Takes;
 
 impl Outcome<Parcel, Hand> for Takes {
     ghost use Rattle.std.specs.Prelude.{◌≡◌, ◌++◌, ◌∷◌, []};
     ghost use Rattle.fx_pool.specs.Lines.{IsOf, hand};
 
-    ghost then = { λ v x w. (w ≡ hand v.parts v.course v.put (v.took ++ x ∷ [])) × IsOf v.course x };
+    ghost then = { λ v x w. (w ≡ hand v.parts v.shape v.put (v.took ++ x ∷ [])) × IsOf v.shape x };
 }
 
 impl Lesson<Parcel, Hand> for Takes {
@@ -67,16 +67,16 @@ impl Split<Hand> for Halves {
     ghost use Rattle.std.specs.Prelude.{◌-◌, ◌/◌, []};
     ghost use Rattle.fx_pool.specs.Lines.{hand};
 
-    ghost left = { λ v. hand (v.parts - v.parts / 2) v.course v.put v.took };
+    ghost left = { λ v. hand (v.parts - v.parts / 2) v.shape v.put v.took };
 
-    ghost right = { λ v. hand (v.parts / 2) v.course [] [] };
+    ghost right = { λ v. hand (v.parts / 2) v.shape [] [] };
 }
 
 impl Join<Hand> for Halves {
     ghost use Rattle.std.specs.Prelude.{◌+◌, ◌++◌, [], None};
     ghost use Rattle.fx_pool.specs.Lines.{hand};
 
-    ghost both = { λ v w. hand (v.parts + w.parts) v.course (v.put ++ w.put) (v.took ++ w.took) };
+    ghost both = { λ v w. hand (v.parts + w.parts) v.shape (v.put ++ w.put) (v.took ++ w.took) };
 
     ghost spent = { hand 0 None [] [] };
 }
@@ -102,10 +102,10 @@ pub(crate) fn put<R: Wait>(
     parcel: Parcel,
 ) -> Result<(), Parcel>
     requires pass { IsSegPassOf line.now me.old × (0 < me.old.me.view.client.parts) }
-    requires may { MayPut parcel.course me.old.me.view.client × IsParcelOf parcel.course parcel }
+    requires may { MayPut parcel.shape me.old.me.view.client × IsParcelOf parcel.shape parcel }
     ensures pass { IsSegPassOf line.now me.new }
     ensures put { MatchResult result
-        (λ _. me.new.me.view.client ≡ hand me.old.me.view.client.parts (Some parcel.course) (me.old.me.view.client.put ++ parcel ∷ []) me.old.me.view.client.took)
+        (λ _. me.new.me.view.client ≡ hand me.old.me.view.client.parts (Some parcel.shape) (me.old.me.view.client.put ++ parcel ∷ []) me.old.me.view.client.took)
         (λ p. (p ≡ parcel) × (me.new.me.view.client ≡ me.old.me.view.client)) }
 {
     line.push_as::<Puts, R>(rt, me, parcel)
@@ -117,7 +117,7 @@ pub(crate) fn take<R: Wait>(rt: &R, line: &Line, me: &mut Ticket) -> Option<Parc
     ensures pass { IsSegPassOf line.now me.new }
     ensures took { MatchOption result
         ((me.new.me.view.client ≡ me.old.me.view.client) × (me.old.me.view.client.parts ≡ 16 → SameParcels me.old.me.view.client.put (me.old.me.view.client.took ++ [])))
-        (λ p. (me.new.me.view.client ≡ hand me.old.me.view.client.parts me.old.me.view.client.course me.old.me.view.client.put (me.old.me.view.client.took ++ p ∷ [])) × IsOf me.old.me.view.client.course p) }
+        (λ p. (me.new.me.view.client ≡ hand me.old.me.view.client.parts me.old.me.view.client.shape me.old.me.view.client.put (me.old.me.view.client.took ++ p ∷ [])) × IsOf me.old.me.view.client.shape p) }
 {
     line.pop_as::<Takes, R>(rt, me)
 }
@@ -135,8 +135,8 @@ pub(crate) fn waiting<R: Wait>(rt: &R, line: &Line, me: &mut Ticket) -> usize
 pub(crate) fn shared_out(line: &Line, me: &mut Ticket) -> Ticket
     requires { IsSegPassOf line.now me.old × (2 ≤ me.old.me.view.client.parts) }
     ensures pass { IsSegPassOf line.now me.new × IsSegPassOf line.now result }
-    ensures kept { me.new.me.view.client ≡ hand (me.old.me.view.client.parts - me.old.me.view.client.parts / 2) me.old.me.view.client.course me.old.me.view.client.put me.old.me.view.client.took }
-    ensures made { result.me.view.client ≡ hand (me.old.me.view.client.parts / 2) me.old.me.view.client.course [] [] }
+    ensures kept { me.new.me.view.client ≡ hand (me.old.me.view.client.parts - me.old.me.view.client.parts / 2) me.old.me.view.client.shape me.old.me.view.client.put me.old.me.view.client.took }
+    ensures made { result.me.view.client ≡ hand (me.old.me.view.client.parts / 2) me.old.me.view.client.shape [] [] }
 {
     line.another::<Halves>(me)
 }
@@ -145,7 +145,7 @@ pub(crate) fn shared_out(line: &Line, me: &mut Ticket) -> Ticket
 pub(crate) fn taken_in(line: &Line, me: &mut Ticket, other: Ticket)
     requires { IsSegPassOf line.now me.old × IsSegPassOf line.now other × (0 < me.old.me.view.client.parts) × (0 < other.me.view.client.parts) }
     ensures pass { IsSegPassOf line.now me.new }
-    ensures both { me.new.me.view.client ≡ hand (me.old.me.view.client.parts + other.me.view.client.parts) me.old.me.view.client.course (me.old.me.view.client.put ++ other.me.view.client.put) (me.old.me.view.client.took ++ other.me.view.client.took) }
+    ensures both { me.new.me.view.client ≡ hand (me.old.me.view.client.parts + other.me.view.client.parts) me.old.me.view.client.shape (me.old.me.view.client.put ++ other.me.view.client.put) (me.old.me.view.client.took ++ other.me.view.client.took) }
 {
     line.absorb::<Halves>(me, other);
 }

@@ -78,6 +78,12 @@ module _ (block : ℕ) (positive : 0 < block) where
       let long : length (c.0 ++ rows_of cuts) / block ≡ (length c.0 + length (rows_of cuts)) / block = ap (λ (n : ℕ). n / block) (length-append c.0 (rows_of cuts)) in
       omega (arith, here, rest, both, long, length-append c.1 (batches_of cuts))
 
+-- the batches of cuts have their rows
+pub rows_of_cuts : (block : ℕ) → 0 < block → (cuts : List (List Row × List (List Row))) → AllByRecursion (λ (c : List Row × List (List Row)). AreCut c.0 block c.1) cuts
+    → joined (flat_map (λ (c : List Row × List (List Row)). c.1) cuts) ≡ flat_map (λ (c : List Row × List (List Row)). c.0) cuts
+unfolding rows_of batches_of
+rows_of_cuts block positive cuts h = joined_cuts block positive cuts h
+
 cuts_of_several : CutsOfSeveral
 unfolding rows_of batches_of
 cuts_of_several block cuts positive all =

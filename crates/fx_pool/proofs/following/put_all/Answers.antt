@@ -6,5 +6,5 @@ use Rattle.fx_pool.proofs.following.put_all.Goals as goal
 pub returns-then-is_err-clause-put : goal.returns-then-is_err-clause-put
 returns-then-is_err-clause-put g c =
     let i = c.loop-rows.invariant in
-    put_in_part c.args.me.now.me.view.client c.loop-rows.me.me.view.client c.put.new.me.me.view.client c.args.course c.args.step c.args.batches.items
+    put_in_part c.args.me.now.me.view.client c.loop-rows.me.me.view.client c.put.new.me.me.view.client c.args.shape c.args.step c.args.batches.items
     c.loop-rows.yielded c.in-Some.rows c.next.new.self.rest.items (grind (arith, common_steps)) i.put i.took i.parts (search rules)

@@ -11,8 +11,8 @@ invariant-loop-rows g l = record {
   pass : IsSegPassOf l.line l.me;
   parts : l.me.me.view.client.parts ≡ l.fn.me.me.view.client.parts;
   took : l.me.me.view.client.took ≡ l.fn.me.me.view.client.took;
-  may : MayPut l.course l.me.me.view.client;
-  known : 0 < length l.yielded → l.me.me.view.client.course ≡ Some l.course;
-  still : l.fn.me.me.view.client.course ≡ Some l.course → l.me.me.view.client.course ≡ Some l.course;
-  put : (h : Parcel → ℕ) → sum_by h l.me.me.view.client.put ≡ sum_by h l.fn.me.me.view.client.put + sum_by h (parcels l.course l.step l.yielded);
+  may : MayPut l.shape l.me.me.view.client;
+  known : 0 < length l.yielded → l.me.me.view.client.shape ≡ Some l.shape;
+  still : l.fn.me.me.view.client.shape ≡ Some l.shape → l.me.me.view.client.shape ≡ Some l.shape;
+  put : (h : Parcel → ℕ) → sum_by h l.me.me.view.client.put ≡ sum_by h l.fn.me.me.view.client.put + sum_by h (parcels l.shape l.step l.yielded);
 }

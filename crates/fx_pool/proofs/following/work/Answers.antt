@@ -15,16 +15,16 @@ loop-init g c =
       same = (refl, refl);
       some_part = c.requires.pass.1;
       flowed =
-          subst (WireFlowed g.W.Wire.counts_alone see see c.args.endpoints.now units c.args.course view view [] [] []) (sym c.new-made.ensures.items)
-          (at_rest g.W.Wire.counts_alone c.args.endpoints.now units c.args.course see view view [] [] (unmoved g.W.Wire.counts_alone c.args.endpoints.now units c.args.course view view [] refl));
-      of_run = All-nil (IsParcelOf c.args.course);
+          subst (WireFlowed g.W.Wire.counts_alone see see c.args.endpoints.now units c.args.shape view view [] [] []) (sym c.new-made.ensures.items)
+          (at_rest g.W.Wire.counts_alone c.args.endpoints.now units c.args.shape see view view [] [] (unmoved g.W.Wire.counts_alone c.args.endpoints.now units c.args.shape view view [] refl));
+      of_run = All-nil (IsParcelOf c.args.shape);
     }
 
 pub follow-requires-clause-parcel : goal.follow-requires-clause-parcel
 follow-requires-clause-parcel g c =
     let i = c.loop.invariant in
-    its_parcel c.args.course c.loop.in_hand c.args.waits c.loop.me.me.view.client c.next-in-loop.new.me.me.view.client c.in-Some-next.parcel
-    (i.same.1 ∙ c.requires.course.0) i.of_run c.in-Some-next.ensures.next
+    its_parcel c.args.shape c.loop.in_hand c.args.waits c.loop.me.me.view.client c.next-in-loop.new.me.me.view.client c.in-Some-next.parcel
+    (i.same.1 ∙ c.requires.shape.0) i.of_run c.in-Some-next.ensures.next
 
 pub loop-preserved : goal.loop-preserved
 loop-preserved g c =
@@ -39,7 +39,7 @@ loop-preserved g c =
       same = (parts, then.1 ∙ next.1 ∙ i.same.1);
       some_part = (let some = c.requires.pass.1 in omega (arith, parts, some));
       flowed =
-          worked_on g.W.Wire.counts_alone c.args.endpoints.now units c.args.course (see c.args.wire.now) (see c.loop.wire) (see c.follow.new.wire)
+          worked_on g.W.Wire.counts_alone c.args.endpoints.now units c.args.shape (see c.args.wire.now) (see c.loop.wire) (see c.follow.new.wire)
           c.args.me.now.me.view.client c.loop.me.me.view.client c.next-in-loop.new.me.me.view.client c.follow.new.me.me.view.client
           c.loop.in_hand c.args.waits c.loop.made.items c.follow.new.made.items c.in-Some-next.parcel i.flowed c.in-Some-next.ensures.next c.in-Ok.next c.in-Ok.ensures.followed;
       of_run = c.in-Ok.ensures.followed.ended.3;
@@ -50,6 +50,6 @@ returns-in-Err-clause-flowed g c =
     let i = c.loop.invariant in
     let see = g.W.Wire.seen in
     let units = map g.U.Step.unit c.args.units.now in
-    worked_until g.W.Wire.counts_alone c.args.endpoints.now units c.args.course (see c.args.wire.now) (see c.loop.wire) (see c.follow.new.wire)
+    worked_until g.W.Wire.counts_alone c.args.endpoints.now units c.args.shape (see c.args.wire.now) (see c.loop.wire) (see c.follow.new.wire)
     c.args.me.now.me.view.client c.loop.me.me.view.client c.next-in-loop.new.me.me.view.client c.follow.new.me.me.view.client
     c.loop.in_hand c.args.waits c.loop.made.items c.follow.new.made.items c.in-Some-next.parcel i.flowed c.in-Some-next.ensures.next c.in-Err.error c.in-Err.ensures.followed

@@ -9,6 +9,6 @@ invariant-loop g l = record {
   pass : IsSegPassOf l.line l.me;
   same : IsSamePass l.initial.me.me.view.client l.me.me.view.client;
   some_part : 0 < l.me.me.view.client.parts;
-  flowed : WireFlowed g.W.Wire.counts_alone (g.W.Wire.seen l.initial.wire) (g.W.Wire.seen l.wire) l.endpoints (map g.U.Step.unit l.units) l.course l.initial.me.me.view.client l.me.me.view.client [] [] (in_hand l.in_hand) l.made.items;
-  of_run : All (IsParcelOf l.course) (in_hand l.in_hand);
+  flowed : WireFlowed g.W.Wire.counts_alone (g.W.Wire.seen l.initial.wire) (g.W.Wire.seen l.wire) l.endpoints (map g.U.Step.unit l.units) l.shape l.initial.me.me.view.client l.me.me.view.client [] [] (in_hand l.in_hand) l.made.items;
+  of_run : All (IsParcelOf l.shape) (in_hand l.in_hand);
 }
