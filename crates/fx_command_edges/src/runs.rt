@@ -18,12 +18,26 @@ const YES: &str =
 const NO_ROWS: &str =
     "HTTP/1.1 200 OK\r\nContent-Type: application/sparql-results+json\r\n\r\n{\"head\":{\"vars\":[]},\"results\":{\"bindings\":[]}}";
 
+const NO: &str =
+    "HTTP/1.1 200 OK\r\nContent-Type: application/sparql-results+json\r\n\r\n{\"head\":{},\"boolean\":false}";
+
+const FOUR_ROWS: &str =
+    "HTTP/1.1 200 OK\r\nContent-Type: application/sparql-results+json\r\n\r\n{\"head\":{\"vars\":[\"v1_0\"]},\"results\":{\"bindings\":[{\"v1_0\":{\"type\":\"uri\",\"value\":\"http://e/a\"}},{\"v1_0\":{\"type\":\"uri\",\"value\":\"http://e/b\"}},{\"v1_0\":{\"type\":\"uri\",\"value\":\"http://e/c\"}},{\"v1_0\":{\"type\":\"uri\",\"value\":\"http://e/d\"}}]}}";
+
+const REGISTRY: &str =
+    "Amsterdam http://127.0.0.1:8001/sparql\nBerlin http://127.0.0.1:8002/sparql\n";
+
 // Four rows, each of which is a batch of its own.
-const QUERY: &str =
+const ONE_UNIT: &str =
     "SELECT * WHERE { VALUES ?x { <http://e/a> <http://e/b> <http://e/c> <http://e/d> } ?x <http://e/p> ?y }";
 
+// One row, of which the first unit makes those four.
+const TWO_UNITS: &str =
+    "SELECT * WHERE { VALUES ?x { <http://e/s> } ?x <http://e/q> ?y . ?y <http://e/p> ?z }";
+
 // A wire whose exchange of the batch with one row ends only when those of the three others have ended, and fails where it never sees that. All others are
-// answered at once: an ASK with yes, and a batch with no rows.
+// answered at once: an ASK by whether the endpoint is the one that has the pattern, Amsterdam for `q` and Berlin for `p`; a batch for `q` with four rows, and one for
+// `p` with none.
 #[derive(Drop)]
 struct RunWire<'a> {
     ended: &'a AtomicU64,
@@ -50,7 +64,10 @@ impl Wire for RunWire<'_> {
         limit: u64,
     ) -> Result<Vec<u8>, WireError> {
         if has(request, "ASK") {
-            return reply(alloc, YES, limit);
+            return reply(alloc, if is_source(request) { YES } else { NO }, limit);
+        }
+        if has(request, "<http://e/q>") {
+            return reply(alloc, FOUR_ROWS, limit);
         }
         if has(request, self.slow) && !have_ended(self.ended) {
             if self.faults == u64::MAX {
@@ -61,6 +78,15 @@ impl Wire for RunWire<'_> {
         }
         self.ended.fetch_add(1, Ordering::SeqCst);
         reply(alloc, NO_ROWS, limit)
+    }
+}
+
+// Whether an ASK goes to the endpoint that has its pattern.
+fn is_source(request: &[u8]) -> bool {
+    if has(request, "<http://e/q>") {
+        has(request, "127.0.0.1:8001")
+    } else {
+        has(request, "127.0.0.1:8002")
     }
 }
 
@@ -78,15 +104,29 @@ fn reply(alloc: Global, text: &str, limit: u64) -> Result<Vec<u8>, WireError> {
 #[test]
 fn two_wires_at_once_in_a_run(rt: HostRuntime) -> Result<(), Fail> {
     for slow in ["http://e/a", "http://e/b", "http://e/c", "http://e/d"] {
-        assert_eq!(rt; status_of(&rt, rt.alloc(), slow)?, 0);
+        assert_eq!(rt; status_of(&rt, rt.alloc(), ONE_UNIT, slow)?, 0);
+    }
+    Ok(())
+}
+
+// So it is of the batches that come of the first unit's one batch: a worker that found nothing to do before them has waited, and a worker keeps one of them alone.
+#[test]
+fn two_wires_at_once_behind_the_first_unit(rt: HostRuntime) -> Result<(), Fail> {
+    for slow in ["http://e/a", "http://e/b", "http://e/c", "http://e/d"] {
+        assert_eq!(rt; status_of(&rt, rt.alloc(), TWO_UNITS, slow)?, 0);
     }
     Ok(())
 }
 
 // How `query` ends over two wires in batches of one row, where the batch with this row waits for the others.
-fn status_of<R: Threads + Wait + Sync>(rt: &R, alloc: Global, slow: &str) -> Result<u8, Fail> {
+fn status_of<R: Threads + Wait + Sync>(
+    rt: &R,
+    alloc: Global,
+    query: &str,
+    slow: &str,
+) -> Result<u8, Fail> {
     let ended = AtomicU64::new(0);
-    let mut files = files(alloc, "Amsterdam http://127.0.0.1:8001/sparql\n", QUERY)?;
+    let mut files = files(alloc, REGISTRY, query)?;
     let mut wires = [wire(&ended, slow), wire(&ended, slow)];
     let mut door = closed_door(alloc)?;
     let mut out = MemorySink::new(alloc, 1000, 1000, Vec::new(alloc))?;
