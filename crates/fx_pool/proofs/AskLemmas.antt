@@ -12,16 +12,17 @@ use Rattle.fx_bound.specs.Answers.{AreReadOf}
 use Rattle.fx_bound.specs.Parts.{Parts}
 use Rattle.fx_bound.specs.declared.founds.Found.{Found}
 use Rattle.fx_wire.specs.Exchanges.{Seen}
-use Rattle.fx_pool.specs.Flows.{AskedBatch, AskedMembers, HasMemberCause, rows_in}
+use Rattle.fx_pool.specs.Flows.{AskedBatch, AskedMembers, HasMemberCause, IsShort, rows_in}
 use Rattle.fx_pool.specs.declared.flows.FlowError.{FlowError}
 use Rattle.fx_pool.specs.declared.flows.FlowError.TheVariants as flow
 use Rattle.fx_pool.proofs.MembersLemmas.{passed_none}
 use Rattle.fx_traffic.specs.Batches.{unit_sent}
+use Rattle.std.proofs.lemmas.List.Elements.{All-nil}
 use Rattle.std.proofs.lemmas.List.Sorted.{IsPermutation-refl}
 
 module _ (alone : Bool) (s t : Seen) (es : List EndpointParts) (p : Parts) where
   pub refused : (why : FlowError) → AskedMembers alone s t es p p.unit.members (Err why) → AskedBatch alone s t es p (Err why)
-  refused why h = record { exchanges = h.exchanges; failed = h.failed; once = h.once; unfailed = tt; passed = h.passed; left = h.left; sent = h.sent; whole = tt; faultless = tt; done = tt; cause = h.cause }
+  refused why h = record { exchanges = h.exchanges; failed = h.failed; once = h.once; unfailed = tt; passed = h.passed; left = h.left; sent = h.sent; whole = tt; short = h.short; faultless = tt; done = tt; cause = h.cause }
 
   pub given : (lists : List (List Found)) (result : Result (Vec Row Global) FlowError) → AskedMembers alone s t es p p.unit.members (Ok lists)
       → ((graphs : List (List Triple)) → IsSound graphs p.unit → AreReadOf graphs p p.unit.members lists → IfOk result (λ rows. IsPermutation rows.items (step (union graphs) p.unit p.rows)))
@@ -35,6 +36,7 @@ module _ (alone : Bool) (s t : Seen) (es : List EndpointParts) (p : Parts) where
     left = h.left;
     sent = h.sent;
     whole = h.whole;
+    short = h.short;
     faultless = h.faultless;
     done = λ graphs told sound. f graphs sound (h.read graphs told);
     cause = tt;
@@ -48,6 +50,7 @@ module _ (alone : Bool) (s t : Seen) (es : List EndpointParts) (p : Parts) where
     left = h.left;
     sent = h.sent;
     whole = tt;
+    short = h.short;
     faultless = tt;
     done = tt;
     cause = subst (HasMemberCause s t es p p.unit.members h.exchanges) (sym m) tt;
@@ -63,6 +66,7 @@ module _ (alone : Bool) (s t : Seen) (es : List EndpointParts) (p : Parts) where
     left = unit_sent es p.unit p.rows;
     sent = IsPermutation-refl (unit_sent es p.unit p.rows);
     whole = tt;
+    short = All-nil IsShort;
     faultless = tt;
     done = tt;
     cause = tt;

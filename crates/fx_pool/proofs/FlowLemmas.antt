@@ -27,7 +27,7 @@ use Rattle.fx_traffic.proofs.CutLemmas.{batch_laws}
 use Rattle.fx_traffic.proofs.GainLemmas.{gain_laws}
 use Rattle.fx_traffic.proofs.SentLemmas.{sent_laws}
 use Rattle.fx_wire.specs.Exchanges.{Exchange, Seen}
-use Rattle.fx_pool.specs.Flows.{AreTold, IsBatchCause, IsBatchRead, IsCause, IsMemberCause, rows_in}
+use Rattle.fx_pool.specs.Flows.{AreTold, IsBatchCause, IsBatchRead, IsCause, IsMemberCause, IsShort, rows_in}
 use Rattle.fx_pool.specs.Followed.{AreOfBoth, ArePut, HasFlowed, HasTriedCause, HaveFlowed, IsEven, IsTriedCause, WireFlowed, WiresFlowed, all_sent}
 use Rattle.fx_pool.specs.Lines.{hand}
 use Rattle.fx_pool.specs.Parcels.{Finished, IsFinished, IsParcelOf, IsStepOf, SameParcels, created, made, of_finished, parcel_sent, parcels, parcels_sent, sent_for, sent_in_turn}
@@ -172,6 +172,7 @@ module _ (tells alone : Bool) (w t : Seen) (others : List Seen) (es : List Endpo
     left = h.left;
     sent = h.sent;
     whole = h.whole;
+    short = h.short;
     faultless = h.faultless;
     steps = λ graphs told sound. h.steps graphs (first_told es graphs told) sound;
   }
@@ -272,6 +273,7 @@ module _ (tells alone : Bool) (es : List EndpointParts) (us : List unit.Unit) (c
     rows_are = ap (λ (w : List Row). w ++ more) h.rows_are ∙ ap (λ (w : List Row). made c h.spent ++ w) k.rows_are ∙ sym (made_both c h.spent k.spent);
     left = h.left ++ k.left;
     sent = sent_by_both es us h.spent k.spent tx ty h.left k.left h.exchanges k.exchanges h.sent k.sent;
+    short = All-append IsShort h.exchanges k.exchanges h.short k.short;
     whole = λ e. ap (λ (v : List Sent). v ++ k.left) (h.whole (none_of_both tx ty e).0) ∙ k.whole (none_of_both tx ty e).1;
     faultless = λ e. All-append (IsBatchRead (Contains us)) h.exchanges k.exchanges (h.faultless (none_of_both tx ty e).0) (k.faultless (none_of_both tx ty e).1);
     steps = λ graphs told sound.
@@ -391,6 +393,7 @@ then_flowed tells alone es us c from mid to s t v made_rows b o s_tells t_tells 
       left = h.did.left ++ k.did.left;
       sent = sent_laws.any_order _ (h.did.left ++ k.did.left) (h.did.exchanges ++ k.did.exchanges) gained.all gained.same
           (sent_by_both es us h.did.spent k.did.spent h.tried k.tried h.did.left k.did.left h.did.exchanges k.did.exchanges h.did.sent k.did.sent);
+      short = All-permutation IsShort (h.did.exchanges ++ k.did.exchanges) gained.all gained.same (All-append IsShort h.did.exchanges k.did.exchanges h.did.short k.did.short);
       whole = λ e. ap (λ (l : List Sent). l ++ k.did.left) (h.did.whole none) ∙ k.did.whole (sym (ap (λ (l : List Parcel). l ++ k.tried) none) ∙ e);
       faultless = λ e.
           All-permutation (IsBatchRead (Contains us)) (h.did.exchanges ++ k.did.exchanges) gained.all gained.same
@@ -438,6 +441,7 @@ module _ (tells alone : Bool) (es : List EndpointParts) (us : List unit.Unit) (c
     sent = IsPermutation-trans _ (all_sent es us h.did.spent h.tried) wanted h.did.sent turned_sent;
     of_batches = texts_in_turn es c (Contains us) asked of_run 0 us (recursion_from_All (Contains us) us (All-contains_itself us));
     whole = by_ok r (λ tried. h.did.whole tried) h.ended;
+    short = h.did.short;
     faultless = by_ok r (λ tried. h.did.faultless tried) h.ended;
     of_run = λ graphs told sound. may_be_sent es (union graphs) us c positive units first h.did.spent h.tried (h.held ++ rest) h.did.finished (h.did.steps graphs told sound) balance h.did.of_run rows cut;
     done = done r h.ended empty;
@@ -503,6 +507,7 @@ not_flowed tells alone wires es us block rows = record {
   sent = IsPermutation-refl [];
   of_batches = All-nil (IsBatchText es block (Contains us));
   whole = tt;
+  short = All-nil IsShort;
   faultless = tt;
   of_run = λ graphs told sound. batch_laws.nothing es (union graphs) block 1 us rows;
   done = tt;
@@ -524,6 +529,7 @@ no_rows tells alone wires es us block rows none = record {
   sent = IsPermutation-refl [];
   of_batches = All-nil (IsBatchText es block (Contains us));
   whole = refl;
+  short = All-nil IsShort;
   faultless = All-nil (IsBatchRead (Contains us));
   of_run = λ graphs told sound. batch_laws.nothing es (union graphs) block 1 us rows;
   done = λ graphs told sound. subst (λ (l : List Row). IsPermutation [] (stepped (union graphs) us l)) (sym none) (subst (IsPermutation []) (sym (stepped_none (union graphs) us)) (IsPermutation-refl []));

@@ -20,7 +20,7 @@ use Rattle.fx_traffic.specs.Batches.{AreCut}
 use Rattle.fx_traffic.specs.Sent.{Sent, Sends}
 use Rattle.fx_traffic.proofs.SentLemmas.{middle_changes, sent_laws}
 use Rattle.fx_wire.specs.Exchanges.{Exchange, Seen}
-use Rattle.fx_pool.specs.Flows.{AreTold, AskedBatch, HasMemberCause, IsBatchRead, IsReadFor, Passed}
+use Rattle.fx_pool.specs.Flows.{AreTold, AskedBatch, HasMemberCause, IsBatchRead, IsReadFor, IsShort, Passed}
 use Rattle.fx_pool.specs.Followed.{Followed, HasFlowed, HasPassedOn, HasTriedCause, IsEven, IsNext, IsPassedOn, IsSamePass, IsTriedCause, WireFlowed, all_sent, in_hand}
 use Rattle.fx_pool.specs.Lines.{IsOf, hand}
 use Rattle.fx_pool.specs.Parcels.{Finished, IsFinished, IsParcelOf, IsStepOf, created, made, made_by, next_of, of_finished, parcels, parcel_sent, parcels_sent, sent_for}
@@ -89,6 +89,7 @@ module _ (alone : Bool) (es : List EndpointParts) (us : List unit.Unit) (c : Run
         left = h.left ++ k.left;
         sent = sent_by_both es us h.spent k.spent [] tried h.left k.left h.exchanges k.exchanges h.sent k.sent;
         whole = λ e. ap (λ (v : List Sent). v ++ k.left) (h.whole refl) ∙ k.whole e;
+        short = All-append IsShort h.exchanges k.exchanges h.short k.short;
         faultless = λ e. All-append (IsBatchRead (Contains us)) h.exchanges k.exchanges (h.faultless refl) (k.faultless e);
         steps = λ graphs told sound.
             All-append (IsStepOf (union graphs) us) h.spent k.spent (h.steps graphs told sound)
@@ -110,6 +111,7 @@ module _ (alone : Bool) (es : List EndpointParts) (us : List unit.Unit) (c : Run
     left = [];
     sent = IsPermutation-refl [];
     whole = λ e. refl;
+    short = All-nil IsShort;
     faultless = λ e. All-nil (IsBatchRead (Contains us));
     steps = λ graphs told sound. All-nil (IsStepOf (union graphs) us);
   }
@@ -166,6 +168,7 @@ module _ (alone : Bool) (es : List EndpointParts) (us : List unit.Unit) (c : Run
           left = k.left;
           sent = subst (λ (v : List Sent). Sends v k.left k.exchanges) (sym (append-nil (parcel_sent es us p ++ []))) (sent_is k.left k.exchanges k.sent);
           whole = λ e. k.whole;
+          short = k.short;
           faultless = λ e. all_read k.exchanges k.faultless;
           steps = λ graphs told sound. All-from_recursion (IsStepOf (union graphs) us) (f ∷ []) ((λ v at'. its_step graphs told sound v (same_unit v at')), tt);
         }
@@ -195,6 +198,7 @@ module _ (alone : Bool) (es : List EndpointParts) (us : List unit.Unit) (c : Run
       left = k.left;
       sent = sent_is k.left k.exchanges k.sent;
       whole = λ e. cc;
+      short = k.short;
       faultless = λ e. cc;
       steps = λ graphs told sound. All-nil (IsStepOf (union graphs) us);
     }

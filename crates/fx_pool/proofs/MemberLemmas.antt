@@ -22,7 +22,7 @@ use Rattle.fx_bound.specs.Uniting.{Place}
 use Rattle.fx_bound.specs.declared.founds.Found.{Found}
 use Rattle.fx_traffic.specs.Batches.{member_sent, text_sent, to_endpoint}
 use Rattle.fx_traffic.specs.Sent.{Sent, Sends}
-use Rattle.fx_pool.specs.Flows.{AskedMember, FoundBy, FoundIn, IsBadReplyTo, IsBatchCause, IsReadFor, Names, Passed}
+use Rattle.fx_pool.specs.Flows.{AskedMember, FoundBy, FoundIn, IsBadReplyTo, IsBatchCause, IsReadFor, IsShort, Names, Passed}
 use Rattle.fx_pool.specs.Posting.{IsHonestAt, IsPosted, IsSent, exchanges_of, failures_of}
 use Rattle.fx_pool.specs.Reading.{a_batch, HasFault, HasResults}
 use Rattle.fx_pool.specs.declared.faults.ReplyFault.TheVariants.{Http}
@@ -79,6 +79,7 @@ module _ (alone : Bool) (es : List EndpointParts) (p : Parts) (at : ℕ) (e : En
         found = found;
         numbered = All-from_recursion (λ (f : Found). Contains (numbers p) f.branch) [] tt;
         whole = refl;
+        short = All-from_recursion IsShort [] tt;
         faultless = All-from_recursion (IsReadFor p) [] tt;
         read = λ g told. nothing_read p g known empty;
         named = tt;
@@ -107,6 +108,7 @@ module _ (alone : Bool) (es : List EndpointParts) (p : Parts) (at : ℕ) (e : En
       found = found;
       numbered = tt;
       whole = tt;
+      short = All-from_recursion IsShort [] tt;
       faultless = tt;
       read = tt;
       named = tt;
@@ -149,6 +151,7 @@ module _ (alone : Bool) (es : List EndpointParts) (p : Parts) (at : ℕ) (e : En
         found = found;
         numbered = numbered result h;
         whole = whole result;
+        short = All-from_recursion IsShort (x ∷ []) (record { text = text; posts = posts.exact; short = posts.short }, tt);
         faultless = faultless result h;
         read = read result h;
         named = named result h;
@@ -211,6 +214,7 @@ module _ (alone : Bool) (es : List EndpointParts) (p : Parts) (at : ℕ) (e : En
       found = found;
       numbered = tt;
       whole = tt;
+      short = All-from_recursion IsShort [] tt;
       faultless = tt;
       read = tt;
       named = refl;
@@ -228,6 +232,7 @@ module _ (alone : Bool) (es : List EndpointParts) (p : Parts) (at : ℕ) (e : En
       found = found;
       numbered = tt;
       whole = tt;
+      short = All-from_recursion IsShort [] tt;
       faultless = tt;
       read = tt;
       named = refl;

@@ -16,7 +16,7 @@ use Rattle.fx_traffic.specs.Batches.{member_sent}
 use Rattle.fx_traffic.specs.Sent.{Sent, Sends}
 use Rattle.fx_traffic.proofs.SentLemmas.{sent_laws}
 use Rattle.fx_wire.specs.Exchanges.{Exchange, Seen, exchanged}
-use Rattle.fx_pool.specs.Flows.{AreTold, AskedMember, AskedMembers, HasMemberCause, IsBatchCause, IsMemberCause, IsReadFor, Passed}
+use Rattle.fx_pool.specs.Flows.{AreTold, AskedMember, AskedMembers, HasMemberCause, IsBatchCause, IsMemberCause, IsReadFor, IsShort, Passed}
 use Rattle.fx_pool.specs.Posting.{AreHonest, IsHonestAt}
 use Rattle.fx_pool.specs.declared.flows.FlowError.{FlowError}
 use Rattle.fx_pool.specs.declared.flows.FlowError.TheVariants as flow
@@ -104,6 +104,7 @@ asked_none alone s es p = record {
   sent = IsPermutation-refl [];
   numbered = All-from_recursion (λ list. All (λ (f : Found). Contains (numbers p) f.branch) list) [] tt;
   whole = refl;
+  short = All-from_recursion IsShort [] tt;
   faultless = All-from_recursion (IsReadFor p) [] tt;
   read = λ graphs told. tt;
   cause = tt;
@@ -127,6 +128,7 @@ module _ (alone : Bool) (s t u : Seen) (es : List EndpointParts) (p : Parts) (me
     sent = both_sent k.left k.exchanges k.sent;
     numbered = All-append (λ list. All (λ (f : Found). Contains (numbers p) f.branch) list) lists (founds ∷ []) h.numbered (All-from_recursion (λ list. All (λ (f : Found). Contains (numbers p) f.branch) list) (founds ∷ []) (k.numbered, tt));
     whole = ap (λ (v : List Sent). v ++ k.left) h.whole ∙ k.whole;
+    short = All-append IsShort h.exchanges k.exchanges h.short k.short;
     faultless = All-append (IsReadFor p) h.exchanges k.exchanges h.faultless k.faultless;
     read = λ graphs told. read_more graphs p members lists at founds (h.read graphs told) (k.read (graph_of graphs at) (told_at t.graph es graphs at k.endpoint (same_told s.graph t.graph h.passed.same es graphs told) k.found));
     cause = tt;
@@ -161,6 +163,7 @@ module _ (alone : Bool) (s t u : Seen) (es : List EndpointParts) (p : Parts) (me
       sent = left_over (h.left ++ k.left) (h.exchanges ++ k.exchanges) (both_sent k.left k.exchanges k.sent);
       numbered = tt;
       whole = tt;
+      short = All-append IsShort h.exchanges k.exchanges h.short k.short;
       faultless = tt;
       read = tt;
       cause =
@@ -179,6 +182,7 @@ module _ (alone : Bool) (s t u : Seen) (es : List EndpointParts) (p : Parts) (me
       sent = left_over (h.left ++ k.left) (h.exchanges ++ k.exchanges) (both_sent k.left k.exchanges k.sent);
       numbered = tt;
       whole = tt;
+      short = All-append IsShort h.exchanges k.exchanges h.short k.short;
       faultless = tt;
       read = tt;
       cause = tt;

@@ -380,11 +380,15 @@ module _ (es : List EndpointParts) (graph : List Triple) (us : List unit.Unit) (
         let e = asked_even (λ p. sum_by h (joined (at_step k p))) in
         let whole : sum_by h (joined (entering_at k all) ++ b.unused) ≡ sum_by h rows = weights_from (joined (entering_at k all) ++ b.unused) rows b.of_rows h in
         omega (
-          arith, e, whole,
+          arith,
+          e,
+          whole,
           sum_by-append h (joined (entering_at k all)) b.unused,
           sum_by-append h (joined (entering_at k asked)) (joined (entering_at k left) ++ b.unused),
           sum_by-append h (joined (entering_at k left)) b.unused,
-          entering_weight h k all, entering_weight h k asked, entering_weight h k left,
+          entering_weight h k all,
+          entering_weight h k asked,
+          entering_weight h k left,
         ));
     few =
         let e = asked_even (λ p. length (at_step k p)) in
@@ -477,13 +481,12 @@ module _ (es : List EndpointParts) (graph : List Triple) (us : List unit.Unit) (
   entered_from k (u ∷ behind) rows most its long b =
       let here = b (omega arith) in
       let none : k ≡ k + 0 = omega arith in
-      let at : slice_get us k ≡ Some u = ap (slice_get us) none ∙ sym (its 0) in
-      (
+      let at : slice_get us k ≡ Some u = ap (slice_get us) none ∙ sym (its 0) in (
         among_at k rows (most + length rows / c.block) here,
         entered_from (k + 1) behind (step graph u rows) (most + length rows / c.block)
-        (λ j. its (suc j) ∙ ap (slice_get us) (one_on k j))
-        (omega (arith, long))
-        (λ some. next_at k u at (omega (arith, units, long, some)) rows (most + length rows / c.block) here),
+            (λ j. its (suc j) ∙ ap (slice_get us) (one_on k j))
+            (omega (arith, long))
+            (λ some. next_at k u at (omega (arith, units, long, some)) rows (most + length rows / c.block) here),
       )
     where
       one_on : (m j : ℕ) → m + suc j ≡ (m + 1) + j

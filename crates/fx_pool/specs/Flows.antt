@@ -113,6 +113,12 @@ pub record IsReadFor (p : Parts) (x : Exchange) : Type 0 where
   pub founds : List Found
   pub tells : HasFound x.reply p founds
 
+-- its text has no more bytes than one may have
+pub record IsShort (x : Exchange) : Type 0 where
+  pub text : List ℕ
+  pub posts : x.request ≡ request_of x.at text
+  pub short : length text ≤ 67108864
+
 -- so it is for a batch of a unit of these
 pub record IsBatchRead (Of : unit.Unit → Type 0) (x : Exchange) : Type 0 where
   pub unit : unit.Unit
@@ -136,6 +142,7 @@ pub record AskedMember (alone : Bool) (before after : Seen) (endpoints : List En
   pub found : slice_get endpoints at ≡ Some endpoint
   pub numbered : IfOk result (λ founds. All (λ f. Contains (numbers p) f.branch) founds)
   pub whole : IfOk result (λ _. left ≡ [])
+  pub short : All IsShort exchanges
   pub faultless : IfOk result (λ _. All (IsReadFor p) exchanges)
   pub read : IfOk result (λ founds. (g : List Triple) → before.graph endpoint.iri ≡ Some g → IsRead g p founds)
   pub named : IfErr result (Names at)
@@ -168,6 +175,7 @@ pub record AskedMembers (alone : Bool) (before after : Seen) (endpoints : List E
   pub sent : Sends (flat_map (member_sent endpoints p.unit p.rows) members) left exchanges
   pub numbered : IfOk result (λ lists. All (λ list. All (λ f. Contains (numbers p) f.branch) list) lists)
   pub whole : IfOk result (λ _. left ≡ [])
+  pub short : All IsShort exchanges
   pub faultless : IfOk result (λ _. All (IsReadFor p) exchanges)
   pub read : IfOk result (λ lists. (graphs : List (List Triple)) → AreTold before.graph endpoints graphs → AreReadOf graphs p members lists)
   pub cause : IfErr result (HasMemberCause before after endpoints p members exchanges)
@@ -189,6 +197,7 @@ pub record AskedBatch (alone : Bool) (before after : Seen) (endpoints : List End
   pub left : List Sent
   pub sent : Sends (unit_sent endpoints p.unit p.rows) left exchanges
   pub whole : IfOk result (λ _. left ≡ [])
+  pub short : All IsShort exchanges
   pub faultless : IfOk result (λ _. All (IsReadFor p) exchanges)
   pub done : IfOk result (λ rows. (graphs : List (List Triple)) → AreTold before.graph endpoints graphs → IsSound graphs p.unit → IsPermutation rows (step (union graphs) p.unit p.rows))
   pub cause : IfErr result (HasMemberCause before after endpoints p p.unit.members exchanges)

@@ -13,7 +13,7 @@ use Rattle.fx_traffic.specs.Batches.{AreCut}
 use Rattle.fx_traffic.specs.Gains.{AreAfter, HaveGained, TellAll, faults_at}
 use Rattle.fx_traffic.specs.Sent.{Sent, Sends}
 use Rattle.fx_wire.specs.Exchanges.{Exchange, Seen}
-use Rattle.fx_pool.specs.Flows.{AreTold, HasMemberCause, IsBatchRead, Passed}
+use Rattle.fx_pool.specs.Flows.{AreTold, HasMemberCause, IsBatchRead, IsShort, Passed}
 use Rattle.fx_pool.specs.Lines.{IsOf, hand}
 use Rattle.fx_pool.specs.Parcels.{Finished, IsFinished, IsParcelOf, IsStepOf, SameParcels, created, made, made_at, of_finished, parcels, parcels_sent}
 use Rattle.fx_pool.specs.RunFlows.{HasFlowCause}
@@ -51,6 +51,7 @@ pub record WireFlowed (alone : Bool) (before after : Seen) (es : List EndpointPa
   pub left : List Sent
   pub sent : Sends (all_sent es us spent tried) left exchanges
   pub whole : tried ≡ [] → left ≡ []
+  pub short : All IsShort exchanges
   pub faultless : tried ≡ [] → All (IsBatchRead (Contains us)) exchanges
   pub steps : (graphs : List (List Triple)) → AreTold before.graph es graphs → All (IsSound graphs) us → All (IsStepOf (union graphs) us) spent
 
@@ -155,6 +156,7 @@ pub record WiresFlowed (tells alone : Bool) (before after : List Seen) (es : Lis
   pub left : List Sent
   pub sent : Sends (all_sent es us spent tried) left exchanges
   pub whole : tried ≡ [] → left ≡ []
+  pub short : All IsShort exchanges
   pub faultless : tried ≡ [] → All (IsBatchRead (Contains us)) exchanges
   pub steps : (graphs : List (List Triple)) → TellAll before es graphs → All (IsSound graphs) us → All (IsStepOf (union graphs) us) spent
 

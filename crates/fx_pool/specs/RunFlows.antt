@@ -11,7 +11,7 @@ use Rattle.fx_traffic.specs.Batches.{IsBatchText, IsRunSent, IsSized, unit_sent}
 use Rattle.fx_traffic.specs.Gains.{AreAfter, HaveGained, Tell, TellAll, faults_at}
 use Rattle.fx_traffic.specs.Sent.{Sent, Sends}
 use Rattle.fx_wire.specs.Exchanges.{Exchange, Seen}
-use Rattle.fx_pool.specs.Flows.{IsBatchRead, IsCause, Names}
+use Rattle.fx_pool.specs.Flows.{IsBatchRead, IsCause, IsShort, Names}
 use Rattle.fx_pool.specs.Runs.{IsHonestOver}
 use Rattle.fx_pool.specs.declared.flows.FlowError.{FlowError}
 use Rattle.fx_pool.specs.declared.flows.FlowError.TheVariants as flow
@@ -37,7 +37,7 @@ HasFlowCause before after endpoints us block wanted xs flow.Memory = Unit {0}
 HasFlowCause before after endpoints us block wanted xs e = IsFlowCause before after endpoints us block wanted xs e
 
 -- The units of a run were asked for over wires, from these rows on: what these exchanged, one wire's part behind the other's, what was
--- wanted of it, texts of batches of these units, and the rows behind the last unit: with rows each text was sent, and each reply read, without a fault. If wires count each
+-- wanted of it, texts of batches of these units, and the rows behind the last unit: with rows each text was sent, and each reply read, without a fault. No text was sent that is longer than one may be. If wires count each
 -- address alone, at each address no more faults were counted, together, than there are wires, and none with rows.
 pub record RunFlowed (tells alone : Bool) (before after : List Seen) (endpoints : List EndpointParts) (us : List unit.Unit) (block : ℕ) (rows : List Row) (result : Result (List Row) FlowError) : Type 0 where
   pub exchanges : List Exchange
@@ -53,6 +53,7 @@ pub record RunFlowed (tells alone : Bool) (before after : List Seen) (endpoints 
   pub sent : Sends wanted left exchanges
   pub of_batches : All (IsBatchText endpoints block (Contains us)) wanted
   pub whole : IfOk result (λ _. left ≡ [])
+  pub short : All IsShort exchanges
   pub faultless : IfOk result (λ _. All (IsBatchRead (Contains us)) exchanges)
   pub of_run : (graphs : List (List Triple)) → TellAll before endpoints graphs → All (IsSound graphs) us → IsRunSent endpoints (union graphs) block 1 us rows wanted
   pub done : IfOk result (λ next. (graphs : List (List Triple)) → TellAll before endpoints graphs → All (IsSound graphs) us → IsPermutation next (stepped (union graphs) us rows))

@@ -12,7 +12,7 @@ use crate::cutting::cut;
 use crate::flows::FlowError;
 use crate::gates::Gate;
 use crate::lines::{Line, Ticket, put, take};
-use crate::parcels::{RunShape, Parcel};
+use crate::parcels::{Parcel, RunShape};
 use crate::steps::Step;
 use fx_algebra::Row;
 use fx_outside::Endpoint;

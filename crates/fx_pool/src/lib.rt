@@ -25,7 +25,7 @@ pub use faults::ReplyFault;
 pub use flows::{FlowError, run_flow};
 use fx_terms::shareable;
 pub use jobs::{BadReply, Job, JobKind, JobReply, RequestText, Work};
-use parcels::{RunShape, Parcel};
+use parcels::{Parcel, RunShape};
 pub use running::run_jobs;
 
 /// Every type of this crate may be shared between threads and sent to them.

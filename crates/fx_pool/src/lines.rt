@@ -5,7 +5,7 @@ ghost use Rattle.crossbeam_queue.specs.Fifo.{Held};
 ghost use Rattle.fx_pool.specs.Lines.{IsOf, MayPut, hand};
 ghost use Rattle.fx_pool.specs.Parcels.{IsParcelOf, SameParcels};
 
-use crate::parcels::{RunShape, Parcel};
+use crate::parcels::{Parcel, RunShape};
 use crossbeam_queue::protocol::{Join, Lesson, Outcome, Protocol, Split};
 use crossbeam_queue::{RuledSegQueue, SegPass};
 use std::alloc::{AllocError, Global};
