@@ -355,6 +355,62 @@ both_flowed see tells alone es us c v l m r s j whole ws vs xs ys a b o parts le
     subst (λ (w : List Seen). HaveFlowed tells alone w (map see (vs ++ ys)) es us c v j o) (sym before)
     (subst (λ (w : List Seen). HaveFlowed tells alone (map see ws ++ map see xs) w es us c v j o) (sym after) all)
 
+-- wires that did nothing
+idle_flowed : (tells alone : Bool) (es : List EndpointParts) (us : List unit.Unit) (c : RunShape) (wires : List Seen) (view : Hand) → WiresFlowed tells alone wires wires es us c view view [] [] []
+idle_flowed tells alone es us c wires view = record {
+  exchanges = [];
+  gained = λ told. gain_laws.nothing wires;
+  honest = All-nil (IsHonestOver wires);
+  after_all = after_itself wires;
+  failed = 0;
+  few = zero-le;
+  counted = λ is address. omega arith;
+  spent = [];
+  finished = All-nil (IsFinished c);
+  of_run = All-nil (IsParcelOf c);
+  even = λ w. (let nil : sum_by w [] ≡ 0 = refl in omega (arith, nil));
+  rows_are = refl;
+  left = [];
+  sent = IsPermutation-refl [];
+  whole = λ e. refl;
+  short = All-nil IsShort;
+  faultless = λ e. All-nil (IsBatchRead (Contains us));
+  steps = λ graphs told sound. All-nil (IsStepOf (union graphs) us);
+}
+
+-- some of the wires were worked with
+pub beside_idle : {W : Type 0} (see : W → Seen) (tells alone : Bool) (es : List EndpointParts) (us : List unit.Unit) (c : RunShape) (from to : Hand) (whole used later idle : List W) (r : Result RowList FlowError)
+    → whole ≡ used ++ idle → HaveFlowed tells alone (map see used) (map see later) es us c from to r → HaveFlowed tells alone (map see whole) (map see (later ++ idle)) es us c from to r
+unfolding beside idle_flowed
+beside_idle see tells alone es us c from to whole used later idle r parts h =
+    let before : map see whole ≡ map see used ++ map see idle = ap (map see) parts ∙ map-append see used idle in
+    let after : map see (later ++ idle) ≡ map see later ++ map see idle = map-append see later idle in
+    let rest = idle_flowed tells alone es us c (map see idle) to in
+    let even : IsEven from to [] (h.did.spent ++ []) (h.tried ++ []) (h.held ++ []) = λ w.
+    (let e = h.did.even w in
+    let nil : sum_by w [] ≡ 0 = refl in
+    omega (arith, e, nil, weight_created w h.did.spent [], weight_finished w h.did.spent [], sum_by-append w h.tried [], sum_by-append w h.held [])) in
+    let all : HaveFlowed tells alone (map see used ++ map see idle) (map see later ++ map see idle) es us c from to r = record {
+      tried = h.tried ++ [];
+      one = (let one : length h.tried ≤ length (map see used) = h.one in omega (arith, one, length-append h.tried [], length-append (map see used) (map see idle)));
+      held = h.held ++ [];
+      rows = h.rows ++ [];
+      did = beside tells alone es us c (map see used) (map see later) (map see idle) (map see idle) from to from to to to h.tried [] h.held [] h.rows [] h.did rest even;
+      ended = ended r h.ended;
+      cause = cause r h.cause;
+    } in
+    subst (λ (w : List Seen). HaveFlowed tells alone w (map see (later ++ idle)) es us c from to r) (sym before)
+    (subst (λ (w : List Seen). HaveFlowed tells alone (map see used ++ map see idle) w es us c from to r) (sym after) all)
+  where
+    ended : (o : Result RowList FlowError) → IfOk o (λ made. (h.tried ≡ []) × (h.held ≡ []) × (made.items ≡ h.rows)) → IfOk o (λ made. (h.tried ++ [] ≡ []) × (h.held ++ [] ≡ []) × (made.items ≡ h.rows ++ []))
+    ended (Ok found) k = (append-nil h.tried ∙ k.0, append-nil h.held ∙ k.1, k.2 ∙ sym (append-nil h.rows))
+    ended (Err why) k = tt
+
+    cause : (o : Result RowList FlowError) → IfErr o (HasFlowCause (map see used) (map see later) es us c.block (parcels_sent es us h.tried) h.did.exchanges)
+        → IfErr o (HasFlowCause (map see used ++ map see idle) (map see later ++ map see idle) es us c.block (parcels_sent es us (h.tried ++ [])) (h.did.exchanges ++ []))
+    cause (Ok found) k = tt
+    cause (Err why) k = left_cause tells alone es us c (map see used) (map see later) (map see idle) (map see idle) h.tried [] h.did.exchanges [] h.did.after_all (after_itself (map see idle)) why k
+
 -- ---- one call after the other
 
 pub then_flowed : (tells alone : Bool) (es : List EndpointParts) (us : List unit.Unit) (c : RunShape) (from mid to : Hand) (s t v : List Seen) (made : RowList) (b o : Result RowList FlowError)

@@ -131,13 +131,23 @@ fn all_rows<R: Threads + Wait + Sync, W: Wire + Send, U: Step + Sync>(
         → RunFlowed W.tells_log W.counts_alone (map W.seen wires.old) (map W.seen wires.new) endpoints.now (map U.unit units.now) shape.block rows (rows_in result) }
 {
     let gate = Gate::new(first.len() as u64);
+    let count = wanted(first.len(), units.len(), wires.len());
     if put_all(rt, line, me, shape, 0, first).is_err() {
         return Err(FlowError::Memory);
     }
-    let found = flow_out(rt, alloc, line, me, &gate, shape, endpoints, units, wires);
+    let (used, _idle) = wires.split_at_mut(count);
+    let found = flow_out(rt, alloc, line, me, &gate, shape, endpoints, units, used);
     // After a refusal the parcels that wait are those that nobody took.
     let _left = waiting(rt, line, me);
     found
+}
+
+// How many wires a run can use: no more than batches, where no unit makes further ones.
+fn wanted(batches: usize, units: usize, wires: usize) -> usize
+    requires { (0 < batches) × (0 < wires) }
+    ensures { (0 < result) × (result ≤ wires) }
+{
+    if units == 1 { batches.min(wires) } else { wires }
 }
 
 // Solutions as rows, numbered from 0.
