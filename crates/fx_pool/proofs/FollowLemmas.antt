@@ -281,9 +281,16 @@ module _ (alone : Bool) (es : List EndpointParts) (us : List unit.Unit) (c : Run
 
   -- the next parcel is in hand, whether it was or was taken
   next_even : (before : Option Parcel) (waits : Bool) (from to : Hand) (p : Parcel) → IsNext before waits from to (Some p) → IsEven from to (in_hand before) [] [] (p ∷ [])
-  next_even (Some q) waits from to p h =
-      subst (λ (l : List Parcel). IsEven from to l [] [] (p ∷ [])) (ap (λ (o : Option Parcel). in_hand o) h.0) (unmoved alone es us c from to (p ∷ []) h.1)
+  next_even (Some q) waits from to p h = subst (λ (r : Parcel). IsEven from to (r ∷ []) [] [] (p ∷ [])) h.0 (unmoved alone es us c from to (p ∷ []) h.1)
   next_even None waits from to p h = took_one alone es us c from to p h.0
+
+  -- what was in hand was put back
+  put_back : (from to : Hand) (q : Parcel) → to ≡ hand from.parts (Some q.shape) (from.put ++ q ∷ []) from.took → IsEven from to (q ∷ []) [] [] []
+  put_back from to q is w =
+      let put : sum_by w to.put ≡ sum_by w from.put + w q = ap (λ (v : Hand). sum_by w v.put) is ∙ sum_by_push w from.put q in
+      let took : sum_by w to.took ≡ sum_by w from.took = ap (λ (v : Hand). sum_by w v.took) is in
+      let nil : sum_by w [] ≡ 0 = refl in
+      omega (arith, put, took, nil, sum_by-cons w q [])
 
   module _ (s t v : Seen) (from mid taken to : Hand) (before : Option Parcel) (waits : Bool) (rows now : List Row) (p : Parcel)
       (h : WireFlowed alone s t es us c from mid [] [] (in_hand before) rows) (k : IsNext before waits mid taken (Some p)) where
@@ -317,10 +324,17 @@ module _ (alone : Bool) (es : List EndpointParts) (us : List unit.Unit) (c : Run
   -- nothing is in hand, and none came
   pub worked_out : (s t : Seen) (from mid to : Hand) (before : Option Parcel) (waits : Bool) (made_rows : Vec Row Global)
       → WireFlowed alone s t es us c from mid [] [] (in_hand before) made_rows.items → IsNext before waits mid to None → HasFlowed alone s t es us c from to (Ok made_rows)
-  worked_out s t from mid to (Some q) waits made_rows h k = absurd (no_parcel q k.0)
-    where
-      no_parcel : (q : Parcel) → None ≡ Some q → ⊥
-      no_parcel q e = cc
+  worked_out s t from mid to (Some q) waits made_rows h k = record {
+    tried = [];
+    one = omega arith;
+    held = [];
+    rows = made_rows.items;
+    did =
+        subst (λ (l : List Row). WireFlowed alone s t es us c from to [] [] [] l) (append-nil made_rows.items)
+        (in_turn alone es us c s t t from mid to [] (q ∷ []) [] [] made_rows.items [] h (at_rest alone es us c t mid to (q ∷ []) [] (put_back mid to q k.1)));
+    ended = (refl, refl, refl);
+    cause = tt;
+  }
   worked_out s t from mid to None waits made_rows h k = record {
     tried = [];
     one = omega arith;
@@ -333,9 +347,7 @@ module _ (alone : Bool) (es : List EndpointParts) (us : List unit.Unit) (c : Run
 
 -- the next parcel is of the run
 pub its_parcel : (c : RunShape) (before : Option Parcel) (waits : Bool) (from to : Hand) (p : Parcel) → from.shape ≡ Some c → All (IsParcelOf c) (in_hand before) → IsNext before waits from to (Some p) → IsParcelOf c p
-its_parcel c (Some q) waits from to p known held h =
-    let same : q ≡ p = (let e : Some p ≡ Some q = h.0 in cc) in
-    subst (IsParcelOf c) same (recursion_from_All (IsParcelOf c) (q ∷ []) held).0
+its_parcel c (Some q) waits from to p known held h = subst (IsParcelOf c) (sym h.0) (recursion_from_All (IsParcelOf c) (q ∷ []) held).0
 its_parcel c None waits from to p known held h = subst (λ (o : Option RunShape). IsOf o p) known h.1
 
 -- and the pass is the same

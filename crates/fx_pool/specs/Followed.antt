@@ -1,5 +1,5 @@
 -- What workers did with the parcels of a run: what they finished, what they were at when they ended, and what their wires exchanged.
-use Rattle.std.specs.Prelude.{◌≡◌, ◌<◌, ◌≤◌, ◌+◌, ◌++◌, ◌⊎◌, ℕ, Bool, false, List, [], ◌∷◌, Option, Some, None, IfOk, IfErr, IsTrue, All, Contains, Result, Ok, Err, length, slice_get, sum_by}
+use Rattle.std.specs.Prelude.{◌≡◌, ◌<◌, ◌≤◌, ◌+◌, ◌++◌, ◌⊎◌, ℕ, Bool, false, true, List, [], ◌∷◌, Option, Some, None, IfOk, IfErr, IsTrue, All, Contains, Result, Ok, Err, length, slice_get, sum_by}
 use Rattle.std.specs.declared.alloc.Global.{Global}
 use Rattle.std.specs.declared.vec.Vec.{Vec}
 use Rattle.fx_terms.specs.declared.allocation.Memory.{Memory}
@@ -69,9 +69,10 @@ HasTriedCause before after es us tried xs e = IsTriedCause before after es us tr
 
 -- ---- the next parcel
 
--- the one in hand, or one that was taken; none where the queue was empty, or, where the worker waits, the run is over
+-- the one in hand, or one that was taken; none where the queue was empty, or, where the worker waits, the run is over, and the one in hand was put back
 abbrev pub IsNext : Option Parcel → Bool → Hand → Hand → Option Parcel → Type 0
-IsNext (Some q) waits from to result = (result ≡ Some q) × (to ≡ from)
+IsNext (Some q) waits from to (Some p) = (p ≡ q) × (to ≡ from)
+IsNext (Some q) waits from to None = (waits ≡ true) × (to ≡ hand from.parts (Some q.shape) (from.put ++ q ∷ []) from.took)
 IsNext None waits from to None = (to ≡ from) × (waits ≡ false → from.parts ≡ 16 → SameParcels from.put from.took)
 IsNext None waits from to (Some p) = (to ≡ hand from.parts from.shape from.put (from.took ++ p ∷ [])) × IsOf from.shape p
 

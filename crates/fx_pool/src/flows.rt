@@ -147,7 +147,11 @@ fn wanted(batches: usize, units: usize, wires: usize) -> usize
     requires { (0 < batches) × (0 < wires) }
     ensures { (0 < result) × (result ≤ wires) }
 {
-    if units == 1 { batches.min(wires) } else { wires }
+    if units == 1 {
+        batches.min(wires)
+    } else {
+        wires
+    }
 }
 
 // Solutions as rows, numbered from 0.

@@ -1,5 +1,5 @@
 //! One worker with its wire, on the way of parcels through the units of a run.
-ghost use Rattle.std.specs.Prelude.{◌≡◌, ◌<◌, ◌≤◌, ◌+◌, ◌++◌, [], ◌∷◌, All, IsTrue, MatchOption, None, Some, OnOk, false, length, map, sum_by, true};
+ghost use Rattle.std.specs.Prelude.{◌≡◌, ◌<◌, ◌≤◌, ◌+◌, ◌++◌, [], ◌∷◌, All, IfSome, MatchOption, None, Some, OnOk, false, length, map, sum_by, true};
 ghost use Rattle.crossbeam_queue.specs.SegTies.{IsSegPassOf};
 ghost use Rattle.fx_outside.specs.Endpoints.{is_sendable};
 ghost use Rattle.fx_spelling.specs.Units.{IsFit};
@@ -48,7 +48,7 @@ pub(crate) fn work<R: Wait, W: Wire, U: Step>(
     let mut made = Vec::new(alloc);
     let mut in_hand = None;
     for _ in rt.forever() {
-        let Some(parcel) = next(rt, line, me, gate, waits, in_hand) else {
+        let Some(parcel) = next(rt, line, me, gate, waits, shape, in_hand) else {
             return Ok(made);
         };
         match follow(
@@ -64,23 +64,48 @@ pub(crate) fn work<R: Wait, W: Wire, U: Step>(
     unreachable!()
 }
 
-// The parcel in hand, or the next from the queue.
+// The parcel in hand, or the next from the queue. Where the run is over, what is in hand is put back.
 fn next<R: Wait>(
     rt: &R,
     line: &Line,
     me: &mut Ticket,
     gate: &Gate,
     waits: bool,
+    shape: RunShape,
     in_hand: Option<Parcel>,
 ) -> Option<Parcel>
-    requires pass { IsSegPassOf line.now me.old × (0 < me.old.me.view.client.parts) }
+    requires pass { IsSegPassOf line.now me.old × (0 < me.old.me.view.client.parts) × (me.old.me.view.client.shape ≡ Some shape) }
+    requires parcel { IfSome in_hand (IsParcelOf shape) }
     ensures pass { IsSegPassOf line.now me.new }
     ensures next { IsNext in_hand waits me.old.me.view.client me.new.me.view.client result }
 {
     match in_hand {
+        Some(parcel) if waits => kept(rt, line, me, gate, parcel),
         Some(parcel) => Some(parcel),
         None if waits => waited_for(rt, line, me, gate),
         None => take(rt, line, me),
+    }
+}
+
+// The parcel in hand, which is put back where the run is over, if there is room.
+fn kept<R: Wait>(
+    rt: &R,
+    line: &Line,
+    me: &mut Ticket,
+    gate: &Gate,
+    parcel: Parcel,
+) -> Option<Parcel>
+    requires pass { IsSegPassOf line.now me.old × (0 < me.old.me.view.client.parts) × (me.old.me.view.client.shape ≡ Some parcel.shape) }
+    requires parcel { IsParcelOf parcel.shape parcel }
+    ensures pass { IsSegPassOf line.now me.new }
+    ensures next { IsNext (Some parcel) true me.old.me.view.client me.new.me.view.client result }
+{
+    match gate.seen(rt) {
+        Some(_) => Some(parcel),
+        None => match put(rt, line, me, parcel) {
+            Ok(()) => None,
+            Err(parcel) => Some(parcel),
+        },
     }
 }
 
