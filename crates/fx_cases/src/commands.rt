@@ -1,4 +1,4 @@
-//! The calls of `fx_commands` that read command lines, count rows and write lines.
+//! The calls of `fx_words` and `fx_commands` that read command lines, count rows and write lines.
 
 use crate::counting::counted;
 use crate::runs::{sink_of, words_of};

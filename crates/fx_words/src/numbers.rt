@@ -1,5 +1,5 @@
 //! Numbers among words.
-ghost use Rattle.std.specs.Prelude.{◌≡◌, ◌≤◌, IfSome, map};
+ghost use Rattle.std.specs.Prelude.{◌≡◌, ◌≤◌, IfSome};
 ghost use Rattle.std.specs.Str.{all_ascii_digits};
 ghost use Rattle.fx_words.specs.Commands as spec;
 
