@@ -63,22 +63,31 @@ impl Wire for RunWire<'_> {
         request: &[u8],
         limit: u64,
     ) -> Result<Vec<u8>, WireError> {
-        if has(request, "ASK") {
-            return reply(alloc, if is_source(request) { YES } else { NO }, limit);
-        }
-        if has(request, "<http://e/q>") {
-            return reply(alloc, FOUR_ROWS, limit);
-        }
-        if has(request, self.slow) && !have_ended(self.ended) {
+        let Some(text) = text_for(request, self.slow, self.ended) else {
             if self.faults == u64::MAX {
                 return Err(WireError::Memory);
             }
             self.faults += 1;
             return Err(WireError::Failed);
-        }
-        self.ended.fetch_add(1, Ordering::SeqCst);
-        reply(alloc, NO_ROWS, limit)
+        };
+        let most = text.len().min(limit as usize);
+        Ok(Vec::from_slice(alloc, &text.as_bytes()[..most])?)
     }
+}
+
+// The reply to a request; none where it is the slow one, and the others haven't ended.
+fn text_for(request: &[u8], slow: &str, ended: &AtomicU64) -> Option<&'static str> {
+    if has(request, "ASK") {
+        return Some(if is_source(request) { YES } else { NO });
+    }
+    if has(request, "<http://e/q>") {
+        return Some(FOUR_ROWS);
+    }
+    if has(request, slow) && !have_ended(ended) {
+        return None;
+    }
+    ended.fetch_add(1, Ordering::SeqCst);
+    Some(NO_ROWS)
 }
 
 // Whether an ASK goes to the endpoint that has its pattern.
@@ -92,11 +101,6 @@ fn is_source(request: &[u8]) -> bool {
 
 fn has(request: &[u8], text: &str) -> bool {
     str::from_utf8(request).is_ok_and(|request| request.contains(text))
-}
-
-fn reply(alloc: Global, text: &str, limit: u64) -> Result<Vec<u8>, WireError> {
-    let most = text.len().min(limit as usize);
-    Ok(Vec::from_slice(alloc, &text.as_bytes()[..most])?)
 }
 
 // Whichever of four batches of a run waits for the three others, two wires do them all. A run on one thread fails where the batch that it does first waits,
