@@ -1,15 +1,13 @@
 //! A run of bound joins over several wires at once.
 
 use crate::pools::have_ended;
-use crate::tests::{closed_door, files, words};
-use fx_commands::run;
-use fx_outside::{Endpoint, MemorySink};
+use crate::tests::{files, run_words};
+use fx_outside::Endpoint;
 use fx_wire::{Wire, WireError};
 use std::alloc::Global;
 use std::str;
 use std::sync::Wait;
 use std::sync::atomic::{AtomicU64, Ordering};
-use std::test::Fail;
 use std::thread::Threads;
 
 const YES: &str =
@@ -106,58 +104,43 @@ fn has(request: &[u8], text: &str) -> bool {
 // Whichever of four batches of a run waits for the three others, two wires do them all. A run on one thread fails where the batch that it does first waits,
 // and one that gives each worker two fixed batches fails where the first of a worker's waits.
 #[test]
-fn two_wires_at_once_in_a_run(rt: HostRuntime) -> Result<(), Fail> {
-    for slow in ["http://e/a", "http://e/b", "http://e/c", "http://e/d"] {
-        assert_eq!(rt; status_of(&rt, rt.alloc(), ONE_UNIT, slow)?, 0);
-    }
-    Ok(())
+fn two_wires_at_once_in_a_run(rt: HostRuntime) {
+    assert_eq!(rt; first_slow_amiss(&rt, rt.alloc(), ONE_UNIT), None);
 }
 
 // So it is of the batches that come of the first unit's one batch: a worker that found nothing to do before them has waited, and a worker keeps one of them alone.
 #[test]
-fn two_wires_at_once_behind_the_first_unit(rt: HostRuntime) -> Result<(), Fail> {
+fn two_wires_at_once_behind_the_first_unit(rt: HostRuntime) {
+    assert_eq!(rt; first_slow_amiss(&rt, rt.alloc(), TWO_UNITS), None);
+}
+
+// The first of the four rows whose batch can't wait for the others without a failure.
+fn first_slow_amiss<R: Threads + Wait + Sync>(
+    rt: &R,
+    alloc: Global,
+    query: &str,
+) -> Option<&'static str> {
     for slow in ["http://e/a", "http://e/b", "http://e/c", "http://e/d"] {
-        assert_eq!(rt; status_of(&rt, rt.alloc(), TWO_UNITS, slow)?, 0);
+        if code_of(rt, alloc, query, slow) != Some(0) {
+            return Some(slow);
+        }
     }
-    Ok(())
+    None
 }
 
 // How `query` ends over two wires in batches of one row, where the batch with this row waits for the others.
-fn status_of<R: Threads + Wait + Sync>(
+fn code_of<R: Threads + Wait + Sync>(
     rt: &R,
     alloc: Global,
     query: &str,
     slow: &str,
-) -> Result<u8, Fail> {
+) -> Option<u8> {
     let ended = AtomicU64::new(0);
     let mut files = files(alloc, REGISTRY, query)?;
     let mut wires = [wire(&ended, slow), wire(&ended, slow)];
-    let mut door = closed_door(alloc)?;
-    let mut out = MemorySink::new(alloc, 1000, 1000, Vec::new(alloc))?;
-    let mut line = MemorySink::new(alloc, 100, 100, Vec::new(alloc))?;
-    let words = words(
-        alloc,
-        &[
-            "query",
-            "members.txt",
-            "all.rq",
-            "--workers",
-            "2",
-            "--block",
-            "1",
-        ],
-    )?;
-    let status = run(
-        rt,
-        alloc,
-        words.as_slice(),
-        &mut files,
-        &mut wires,
-        &mut door,
-        &mut out,
-        &mut line,
-    );
-    Ok(status.code())
+    let further = ["--workers", "2", "--block", "1"];
+    let ended = run_words(rt, alloc, &further, &mut files, &mut wires)?;
+    Some(ended.code)
 }
 
 fn wire<'a>(ended: &'a AtomicU64, slow: &'a str) -> RunWire<'a> {

@@ -1,107 +1,124 @@
-//! Streams of std.
+//! Streams of std. What they do is a function beside each test, which answers nothing where memory runs out.
 
 use fx_outside::{ReadFailed, Sink, Source, StdLink, StdSink, WriteFailed, read_front, write_all};
+use std::alloc::Global;
 use std::io;
 use std::io::{ErrorKind, Read, Write};
-use std::test::Fail;
 
 #[test]
-fn a_std_link_hands_on_and_counts(rt: HostRuntime) -> Result<(), Fail> {
-    let mut link = StdLink::new(Failing {
-        kind: ErrorKind::BrokenPipe,
-        times: 2,
-    });
-    let mut into = [0u8; 4];
-    assert_eq!(rt; link.read(&mut into), Err(ReadFailed));
-    assert_eq!(rt; link.write(b"ab"), Err(WriteFailed));
-    assert_eq!(rt; link.read(&mut into), Ok(1));
-    assert_eq!(rt; into, [7u8, 0, 0, 0]);
-    assert_eq!(rt; link.write(b"ab"), Ok(2));
-    Ok(())
+fn a_std_link_hands_on_and_counts(rt: HostRuntime) {
+    assert!(rt; hands_on_and_counts());
 }
 
 #[test]
-fn a_link_that_is_interrupted_reads_on_and_one_that_times_out_fails(
-    rt: HostRuntime,
-) -> Result<(), Fail> {
+fn a_link_that_is_interrupted_reads_on_and_one_that_times_out_fails(rt: HostRuntime) {
+    assert_eq!(rt; first_read_amiss(), None, "by the rows from 0");
+}
+
+#[test]
+fn the_front_of_a_reader_is_read_in_as_many_reads_as_it_takes(rt: HostRuntime) {
+    assert_eq!(rt; first_front_amiss(rt.alloc()), None, "by the rows from 0");
+}
+
+#[test]
+fn a_std_sink_hands_on_and_counts(rt: HostRuntime) {
+    assert!(rt; takes_all(rt.alloc()));
+    assert_eq!(rt; first_piece_amiss(), None, "by the rows from 0");
+    assert!(rt; is_interrupted_at_most_so_often());
+}
+
+fn hands_on_and_counts() -> bool {
+    let mut link = StdLink::new(that_fails(ErrorKind::BrokenPipe, 2));
     let mut into = [0u8; 4];
-    for (kind, times, want) in [
+    link.read(&mut into) == Err(ReadFailed)
+        && link.write(b"ab") == Err(WriteFailed)
+        && link.read(&mut into) == Ok(1)
+        && into == [7u8, 0, 0, 0]
+        && link.write(b"ab") == Ok(2)
+}
+
+fn first_read_amiss() -> Option<usize> {
+    let rows = [
         (ErrorKind::Interrupted, 999, Ok(1)),
         (ErrorKind::Interrupted, 1000, Err(ReadFailed)),
         (ErrorKind::TimedOut, 1, Err(ReadFailed)),
         (ErrorKind::WouldBlock, 1, Err(ReadFailed)),
-    ] {
-        let mut link = StdLink::new(Failing { kind, times });
-        assert_eq!(rt; link.read(&mut into), want, "at {times}");
-    }
-    Ok(())
+    ];
+    rows.iter()
+        .position(|(kind, times, want)| read_once(*kind, *times) != *want)
 }
 
-#[test]
-fn the_front_of_a_reader_is_read_in_as_many_reads_as_it_takes(rt: HostRuntime) -> Result<(), Fail> {
-    // The most bytes of a read, how often each is interrupted first, with how many bytes left it fails, the most that is read of eight
-    // bytes, and what comes of it.
-    for (step, times, stop, most, want) in [
+fn read_once(kind: ErrorKind, times: u64) -> Result<usize, ReadFailed> {
+    StdLink::new(that_fails(kind, times)).read(&mut [0u8; 4])
+}
+
+// The most bytes of a read, how often each is interrupted first, with how many bytes left it fails, the most that is read of eight
+// bytes, and what comes of it.
+fn first_front_amiss(alloc: Global) -> Option<usize> {
+    let rows = [
         (3, 0, 9, 7, Some("abcdefg")),
         (1, 2, 9, 10, Some("abcdefgh")),
         (4, 999, 9, 8, Some("abcdefgh")),
         (4, 1000, 9, 10, None),
         (2, 0, 4, 10, None),
         (2, 0, 4, 4, Some("abcd")),
-    ] {
-        let mut reader = Pieces {
-            left: b"abcdefgh",
-            step,
-            times,
-            interrupted: 0,
-            stop,
-        };
-        let found = read_front(&mut reader, rt.alloc(), most);
-        let found = found.as_ref().ok().map(|bytes| bytes.as_slice());
-        assert_eq!(rt;
-            found,
-            want.map(str::as_bytes),
-            "at {step}, {times}, {stop}, {most}"
-        );
-    }
-    Ok(())
+    ];
+    rows.iter().position(|(step, times, stop, most, want)| {
+        !gives_front(alloc, in_pieces(*step, *times, *stop), *most, *want)
+    })
 }
 
-#[test]
-fn a_std_sink_hands_on_and_counts(rt: HostRuntime) -> Result<(), Fail> {
-    let mut bytes = Vec::new(rt.alloc());
-    let mut sink = StdSink::new(&mut bytes);
-    assert_eq!(rt; write_all(&mut sink, b"hello"), Ok(()));
-    assert_eq!(rt; bytes.as_slice(), b"hello".as_slice());
+fn gives_front(alloc: Global, mut reader: Pieces, most: usize, want: Option<&str>) -> bool {
+    match (read_front(&mut reader, alloc, most), want) {
+        (Ok(found), Some(want)) => found.as_slice() == want.as_bytes(),
+        (Err(_), None) => true,
+        _ => false,
+    }
+}
 
+fn takes_all(alloc: Global) -> bool {
+    let mut bytes = Vec::new(alloc);
+    let written = write_all(&mut StdSink::new(&mut bytes), b"hello");
+    written == Ok(()) && bytes.as_slice() == b"hello".as_slice()
+}
+
+fn first_piece_amiss() -> Option<usize> {
     let mut room = [0u8; 3];
     let mut sink = StdSink::new(room.as_mut_slice());
-    for (piece, want) in [
+    let rows = [
         ("ab", Ok(2)),
         ("cd", Ok(1)),
         ("", Ok(0)),
         ("d", Err(WriteFailed)),
-    ] {
-        assert_eq!(rt; sink.write(piece.as_bytes()), want, "at {piece}");
-    }
+    ];
+    rows.iter()
+        .position(|(piece, want)| sink.write(piece.as_bytes()) != *want)
+}
 
-    let mut sink = StdSink::new(Failing {
-        kind: ErrorKind::Interrupted,
-        times: 3,
-    });
-    assert_eq!(rt; sink.write(b"ab"), Ok(2));
-    let mut sink = StdSink::new(Failing {
-        kind: ErrorKind::Interrupted,
-        times: u64::MAX,
-    });
-    assert_eq!(rt; sink.write(b"ab"), Err(WriteFailed));
-    let mut sink = StdSink::new(Failing {
-        kind: ErrorKind::BrokenPipe,
-        times: 1,
-    });
-    assert_eq!(rt; sink.write(b"ab"), Err(WriteFailed));
-    assert_eq!(rt; sink.write(b"ab"), Ok(2));
-    Ok(())
+fn is_interrupted_at_most_so_often() -> bool {
+    let mut broken = StdSink::new(that_fails(ErrorKind::BrokenPipe, 1));
+    write_once(ErrorKind::Interrupted, 3) == Ok(2)
+        && write_once(ErrorKind::Interrupted, u64::MAX) == Err(WriteFailed)
+        && broken.write(b"ab") == Err(WriteFailed)
+        && broken.write(b"ab") == Ok(2)
+}
+
+fn write_once(kind: ErrorKind, times: u64) -> Result<usize, WriteFailed> {
+    StdSink::new(that_fails(kind, times)).write(b"ab")
+}
+
+fn that_fails(kind: ErrorKind, times: u64) -> Failing {
+    Failing { kind, times }
+}
+
+fn in_pieces(step: usize, times: u64, stop: usize) -> Pieces {
+    Pieces {
+        left: b"abcdefgh",
+        step,
+        times,
+        interrupted: 0,
+        stop,
+    }
 }
 
 // A stream whose first reads and writes fail. It gives the byte 7 without end, one at a time.
