@@ -1,4 +1,5 @@
 pub mod Answers
+pub mod Datatypes
 pub mod Graphs
 pub mod Iris
 pub mod Literals

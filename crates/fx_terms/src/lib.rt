@@ -4,6 +4,7 @@
 #![tactic(auto)]
 
 pub mod allocation;
+pub mod datatypes;
 pub mod graphs;
 pub mod iris;
 pub mod literals;
