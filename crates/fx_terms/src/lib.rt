@@ -5,6 +5,7 @@
 
 pub mod allocation;
 pub mod datatypes;
+pub mod escapes;
 pub mod graphs;
 pub mod iris;
 pub mod literals;

@@ -1,5 +1,8 @@
 -- Classes of characters: the productions 139 to 173 of SPARQL 1.1 section 19.8 that are one character long.
-use Rattle.std.specs.Prelude.{ℕ, Bool, not, ◌&&◌, ◌||◌, ◌==◌, nat_le}
+use Rattle.std.specs.Prelude.{ℕ, Bool, not, ◌&&◌, ◌||◌, ◌==◌, nat_le, is_some}
+use Rattle.std.specs.Char.{is_ascii_hexdigit}
+use Rattle.fx_terms.specs.Escapes.{letter_escape}
+use Rattle.fx_terms.specs.Iris.{is_forbidden}
 use Rattle.fx_terms.specs.Names.{is_between, is_base_char, is_name_start, is_name_char}
 use Rattle.fx_tokens.specs.declared.classes.Class.{Class}
 use Rattle.fx_tokens.specs.declared.classes.Class.TheVariants as class
@@ -12,10 +15,6 @@ is a c = c == a
 
 abbrev pub is_digit : ℕ → Bool
 is_digit c = is_between 48 57 c
-
--- HEX
-abbrev pub is_hex : ℕ → Bool
-is_hex c = is_digit c || (is_between 65 70 c || is_between 97 102 c)
 
 abbrev pub is_letter : ℕ → Bool
 is_letter c = is_between 65 90 c || is_between 97 122 c
@@ -56,12 +55,9 @@ is_exponent c = c == 101 || c == 69
 abbrev pub is_scalar : ℕ → Bool
 is_scalar c = nat_le c 0x10FFFF && not (is_between 0xD800 0xDFFF c)
 
--- < > " { } | ^ ` \ and U+0000 to U+0020 may not stand in an IRI
-abbrev pub is_forbidden_in_iri : ℕ → Bool
-is_forbidden_in_iri c = nat_le c 32 || (c == 60 || (c == 62 || (c == 34 || (c == 123 || (c == 125 || (c == 124 || (c == 94 || (c == 96 || c == 92))))))))
-
+-- what may stand in an IRI
 abbrev pub is_iri_char : ℕ → Bool
-is_iri_char c = not (is_forbidden_in_iri c)
+is_iri_char c = not (is_forbidden c)
 
 -- a character of the text that an IRI may hold
 abbrev pub is_iri_scalar : ℕ → Bool
@@ -69,7 +65,7 @@ is_iri_scalar c = is_scalar c && is_iri_char c
 
 -- ECHAR's character behind the backslash: t b n r f " ' \
 abbrev pub is_escape_letter : ℕ → Bool
-is_escape_letter c = c == 116 || (c == 98 || (c == 110 || (c == 114 || (c == 102 || (c == 34 || (c == 39 || c == 92))))))
+is_escape_letter c = is_some (letter_escape c)
 
 -- LF and CR
 abbrev pub is_line_end : ℕ → Bool
@@ -117,7 +113,7 @@ holds class.PartChar = is_part_char
 holds class.LocalStart = is_local_start
 holds class.LocalChar = is_local_char
 holds class.LocalEscape = is_local_escape
-holds class.HexDigit = is_hex
+holds class.HexDigit = is_ascii_hexdigit
 holds class.VariableMark = is_variable_mark
 holds class.Sign = is_sign
 holds class.Exponent = is_exponent

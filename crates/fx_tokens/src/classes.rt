@@ -3,6 +3,9 @@ ghost use Rattle.std.specs.Prelude.{◌≡◌};
 ghost use Rattle.fx_terms.specs.Names.{is_base_char, is_name_start, is_name_char};
 ghost use Rattle.fx_tokens.specs.Classes as class;
 
+use fx_terms::escapes::letter_escape;
+use fx_terms::iris::is_forbidden;
+
 /// A quote.
 #[derive(Clone, Copy)]
 pub enum Quote {
@@ -84,12 +87,12 @@ impl Class {
             Class::LocalStart => is_name_start(c) || c == ':',
             Class::LocalChar => is_part_char(c) || c == ':',
             Class::LocalEscape => is_local_escape(c),
-            Class::HexDigit => is_hex(c),
+            Class::HexDigit => c.is_ascii_hexdigit(),
             Class::VariableMark => c == '?' || c == '$',
             Class::Sign => c == '+' || c == '-',
             Class::Exponent => c == 'e' || c == 'E',
-            Class::IriChar => is_iri_char(c),
-            Class::EscapeLetter => is_escape_letter(c),
+            Class::IriChar => !is_forbidden(c as u32),
+            Class::EscapeLetter => letter_escape(c).is_some(),
             Class::InLine => is_in_line(c),
             Class::Plain(quote) => is_long_plain(quote.char(), c) && is_in_line(c),
             Class::LongPlain(quote) => is_long_plain(quote.char(), c),
@@ -115,12 +118,6 @@ fn is_letter_or_digit(c: char) -> bool
     ensures { result ≡ class.is_letter_or_digit c }
 {
     is_letter(c) || is_digit(c)
-}
-
-fn is_hex(c: char) -> bool
-    ensures { result ≡ class.is_hex c }
-{
-    is_digit(c) || matches!(c, 'A'..='F' | 'a'..='f')
 }
 
 fn is_base_char(c: char) -> bool
@@ -156,27 +153,6 @@ fn is_local_escape(c: char) -> bool
     ensures { result ≡ class.is_local_escape c }
 {
     matches!(c, '#'..='/' | '!' | ';' | '=' | '?' | '@' | '_' | '~')
-}
-
-fn is_forbidden_in_iri(c: char) -> bool
-    ensures { result ≡ class.is_forbidden_in_iri c }
-{
-    matches!(
-        c,
-        '\0'..=' ' | '<' | '>' | '"' | '{' | '}' | '|' | '^' | '`' | '\\'
-    )
-}
-
-fn is_iri_char(c: char) -> bool
-    ensures { result ≡ class.is_iri_char c }
-{
-    !is_forbidden_in_iri(c)
-}
-
-fn is_escape_letter(c: char) -> bool
-    ensures { result ≡ class.is_escape_letter c }
-{
-    matches!(c, 't' | 'b' | 'n' | 'r' | 'f' | '"' | '\'' | '\\')
 }
 
 fn is_line_end(c: char) -> bool

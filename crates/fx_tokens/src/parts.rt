@@ -1,13 +1,13 @@
 //! The parts that tokens are made of. Each call gives the text behind the longest part at the front, or none where none
 //! stands there.
-ghost use Rattle.std.specs.Prelude.{◌≡◌, ◌∷◌, ◌<◌, ◌+◌, ◌*◌, ◌^◌, [], true, MatchOption, IfSome};
+ghost use Rattle.std.specs.Prelude.{◌≡◌, ◌∷◌, ◌<◌, ◌+◌, ◌*◌, ◌^◌, [], MatchOption, IfSome};
 ghost use Rattle.std.specs.Str.{chars};
 ghost use Rattle.fx_tokens.specs.Answers.{left, left_number, width};
-ghost use Rattle.fx_tokens.specs.Classes.{holds, is_hex};
-ghost use Rattle.fx_tokens.specs.Forms.{hex_value};
+ghost use Rattle.fx_tokens.specs.Classes.{holds};
 ghost use Rattle.fx_tokens.specs.Scan as scan;
 
 use crate::classes::Class;
+use fx_terms::escapes::digit_value;
 
 /// The first character, and the text behind it.
 pub fn split_first(text: &str) -> Option<(char, &str)>
@@ -140,24 +140,8 @@ fn digit(text: &str, high: u32) -> Option<(u32, &str)>
 {
     let (first, rest) = split_first(text)?;
     if Class::HexDigit.holds(first) {
-        Some((high * 16 + hex_value(first), rest))
+        Some((high * 16 + digit_value(first), rest))
     } else {
         None
-    }
-}
-
-/// The value of a hexadecimal digit.
-fn hex_value(digit: char) -> u32
-    requires { is_hex digit ≡ true }
-    ensures value { result ≡ hex_value digit }
-    ensures bound { result < 16 }
-{
-    let code = digit as u32;
-    if digit <= '9' {
-        code - 48
-    } else if digit <= 'F' {
-        code - 55
-    } else {
-        code - 87
     }
 }
