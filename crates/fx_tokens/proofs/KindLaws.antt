@@ -10,8 +10,8 @@ use Rattle.fx_tokens.specs.Answers.{width}
 use Rattle.fx_tokens.specs.Classes as class
 use Rattle.fx_tokens.specs.Forms.{One, Then, Repeat, none, more, Either, Maybe, AtLeastOne, Hex}
 use Rattle.fx_tokens.specs.Kinds as kind
-use Rattle.fx_tokens.specs.declared.classes.Quote.{Quote}
-use Rattle.fx_tokens.specs.declared.classes.Quote.TheVariants.{Single, Double}
+use Rattle.fx_tokens.specs.declared.classes.QuoteMark.{QuoteMark}
+use Rattle.fx_tokens.specs.declared.classes.QuoteMark.TheVariants.{Single, Double}
 use Rattle.fx_tokens.specs.declared.TokenKind.{TokenKind}
 use Rattle.fx_tokens.specs.declared.TokenKind.TheVariants as token
 use Rattle.fx_tokens.specs.declared.kinds.Part.{Part}
@@ -424,11 +424,11 @@ tag_best text = best_then (unit_one (class.is 64)) (best_then (unit_one class.is
 
 -- ---- the parts that the code repeats
 
-is_quote : (q : Quote) → IsQuote (class.quote q)
+is_quote : (q : QuoteMark) → IsQuote (class.quote q)
 is_quote Single = single
 is_quote Double = double
 
-pub text_unit : (q : Quote) → IsUnit (kind.TextPart (class.quote q)) (scan.text_part (class.quote q))
+pub text_unit : (q : QuoteMark) → IsUnit (kind.TextPart (class.quote q)) (scan.text_part (class.quote q))
 text_unit q = text_part_unit (class.quote q) (is_quote q).plain
 
 abbrev pub form_of : Part → List ℕ → Type 0

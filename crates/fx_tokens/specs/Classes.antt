@@ -6,8 +6,8 @@ use Rattle.fx_terms.specs.Iris.{is_forbidden}
 use Rattle.fx_terms.specs.Names.{is_between, is_base_char, is_name_start, is_name_char}
 use Rattle.fx_tokens.specs.declared.classes.Class.{Class}
 use Rattle.fx_tokens.specs.declared.classes.Class.TheVariants as class
-use Rattle.fx_tokens.specs.declared.classes.Quote.{Quote}
-use Rattle.fx_tokens.specs.declared.classes.Quote.TheVariants.{Single, Double}
+use Rattle.fx_tokens.specs.declared.classes.QuoteMark.{QuoteMark}
+use Rattle.fx_tokens.specs.declared.classes.QuoteMark.TheVariants.{Single, Double}
 
 -- this character
 abbrev pub is : ℕ → ℕ → Bool
@@ -76,10 +76,10 @@ abbrev pub is_in_line : ℕ → Bool
 is_in_line c = not (is_line_end c)
 
 -- WS
-abbrev pub is_blank : ℕ → Bool
-is_blank c = c == 32 || (c == 9 || is_line_end c)
+abbrev pub is_white_space : ℕ → Bool
+is_white_space c = c == 32 || (c == 9 || is_line_end c)
 
-abbrev pub quote : Quote → ℕ
+abbrev pub quote : QuoteMark → ℕ
 quote Single = 39
 quote Double = 34
 

@@ -8,19 +8,19 @@ use fx_terms::iris::is_forbidden;
 
 /// A quote.
 #[derive(Clone, Copy)]
-pub enum Quote {
+pub enum QuoteMark {
     Single,
     Double,
 }
 
-impl Quote {
+impl QuoteMark {
     /// The quote's character.
     pub fn char(self) -> char
         ensures { result ≡ class.quote self }
     {
         match self {
-            Quote::Single => '\'',
-            Quote::Double => '"',
+            QuoteMark::Single => '\'',
+            QuoteMark::Double => '"',
         }
     }
 }
@@ -60,9 +60,9 @@ pub enum Class {
     /// Not a line end.
     InLine,
     /// What a text between two of these quotes holds as it is.
-    Plain(Quote),
+    Plain(QuoteMark),
     /// What a text between three of these quotes holds as it is.
-    LongPlain(Quote),
+    LongPlain(QuoteMark),
     /// A mark of one character.
     OneMark,
     /// The first of a mark of two characters that ends in `=`.
@@ -168,8 +168,8 @@ fn is_in_line(c: char) -> bool
 }
 
 /// Whether a character is white space: a space, a tab or a line end.
-pub fn is_blank(c: char) -> bool
-    ensures { result ≡ class.is_blank c }
+pub fn is_white_space(c: char) -> bool
+    ensures { result ≡ class.is_white_space c }
 {
     c == ' ' || c == '\t' || is_line_end(c)
 }

@@ -2,7 +2,7 @@
 //! stands there.
 ghost use Rattle.std.specs.Prelude.{◌≡◌, ◌∷◌, ◌<◌, ◌+◌, ◌*◌, ◌^◌, [], MatchOption, IfSome};
 ghost use Rattle.std.specs.Str.{chars};
-ghost use Rattle.fx_tokens.specs.Answers.{left, left_number, width};
+ghost use Rattle.fx_tokens.specs.Answers.{chars_left, left_number, width};
 ghost use Rattle.fx_tokens.specs.Classes.{holds};
 ghost use Rattle.fx_tokens.specs.Scan as scan;
 
@@ -21,7 +21,7 @@ pub fn split_first(text: &str) -> Option<(char, &str)>
 /// One character of a class.
 #[tactic(auto, unfolding(crate::specs::Scan::one))]
 pub fn one(text: &str, class: Class) -> Option<&str>
-    ensures { left result ≡ scan.one (holds class) (chars text.now) }
+    ensures { chars_left result ≡ scan.one (holds class) (chars text.now) }
 {
     let (first, rest) = split_first(text)?;
     if class.holds(first) { Some(rest) } else { None }
@@ -40,7 +40,7 @@ pub fn skip(text: &str, class: Class) -> &str
 
 /// One or more characters of a class.
 pub fn some(text: &str, class: Class) -> Option<&str>
-    ensures { left result ≡ scan.some (holds class) (chars text.now) }
+    ensures { chars_left result ≡ scan.some (holds class) (chars text.now) }
 {
     let rest = one(text, class)?;
     Some(skip(rest, class))
@@ -48,7 +48,7 @@ pub fn some(text: &str, class: Class) -> Option<&str>
 
 /// The one of two texts that leaves less, the first of two that leave as much.
 pub fn longer<'a>(rest: Option<&'a str>, other: Option<&'a str>) -> Option<&'a str>
-    ensures { left result ≡ scan.longer (left rest.entry) (left other.entry) }
+    ensures { chars_left result ≡ scan.longer (chars_left rest.entry) (chars_left other.entry) }
 {
     match (rest, other) {
         (None, _) => other,
@@ -73,7 +73,7 @@ pub fn width(text: &str) -> usize
 /// A text that `\uXXXX` or `\UXXXXXXXX` writes, behind its backslash: one that an IRI may hold, where it stands in one.
 #[tactic(auto, unfolding(crate::specs::Scan::code))]
 pub fn code(text: &str, in_iri: bool) -> Option<&str>
-    ensures { left result ≡ scan.code (scan.fits in_iri) (chars text.now) }
+    ensures { chars_left result ≡ scan.code (scan.fits in_iri) (chars text.now) }
 {
     match one(text, Class::Is('u')) {
         Some(rest) => short_code(rest, in_iri),
@@ -84,7 +84,7 @@ pub fn code(text: &str, in_iri: bool) -> Option<&str>
 /// Four hexadecimal digits that name a character.
 #[tactic(auto, unfolding(crate::specs::Scan::short_code))]
 fn short_code(text: &str, in_iri: bool) -> Option<&str>
-    ensures { left result ≡ scan.short_code (scan.fits in_iri) (chars text.now) }
+    ensures { chars_left result ≡ scan.short_code (scan.fits in_iri) (chars text.now) }
 {
     let (number, rest) = four(text, 0)?;
     if fits(number, in_iri) {
@@ -97,7 +97,7 @@ fn short_code(text: &str, in_iri: bool) -> Option<&str>
 /// Eight hexadecimal digits that name a character.
 #[tactic(auto, unfolding(crate::specs::Scan::long_code))]
 fn long_code(text: &str, in_iri: bool) -> Option<&str>
-    ensures { left result ≡ scan.long_code (scan.fits in_iri) (chars text.now) }
+    ensures { chars_left result ≡ scan.long_code (scan.fits in_iri) (chars text.now) }
 {
     let (high, rest) = four(text, 0)?;
     let (number, rest) = four(rest, high)?;

@@ -1,12 +1,12 @@
 //! The longest token at the front of a text, and why there is none.
 ghost use Rattle.std.specs.Prelude.{◌≡◌, ◌+◌, ◌-◌, ◌<◌, ◌≤◌, ◌∷◌, length};
 ghost use Rattle.std.specs.Str.{chars};
-ghost use Rattle.fx_tokens.specs.Answers.{left, left_kind, width};
+ghost use Rattle.fx_tokens.specs.Answers.{chars_left, left_kind, width};
 ghost use Rattle.fx_tokens.specs.Classes.{quote as quote_char};
 ghost use Rattle.fx_tokens.specs.Reads.{Faulty, BadText};
 ghost use Rattle.fx_tokens.specs.Scan as scan;
 
-use crate::classes::{Class, Quote};
+use crate::classes::{Class, QuoteMark};
 use crate::kinds::{
     Part, blank, decimal, integer, iri, mark, prefix_name, signed, skip_parts, string, tag,
     variable, word,
@@ -49,7 +49,7 @@ fn better<'a>(
     kind: TokenKind,
     rest: Option<&'a str>,
 ) -> Option<(TokenKind, &'a str)>
-    ensures { left_kind result ≡ scan.better (left_kind best.entry) kind (left rest.entry) }
+    ensures { left_kind result ≡ scan.better (left_kind best.entry) kind (chars_left rest.entry) }
 {
     match (best, rest) {
         (_, None) => best,
@@ -78,10 +78,10 @@ pub fn fault(text: &str, size: usize) -> TokenError
         };
     };
     if first == '\'' {
-        return text_fault(rest, Quote::Single, place, size);
+        return text_fault(rest, QuoteMark::Single, place, size);
     }
     if first == '"' {
-        return text_fault(rest, Quote::Double, place, size);
+        return text_fault(rest, QuoteMark::Double, place, size);
     }
     TokenError::Bad {
         place,
@@ -90,7 +90,7 @@ pub fn fault(text: &str, size: usize) -> TokenError
 }
 
 /// Why a text between quotes has no end: `text` is what stands behind its quote, which is at `place`.
-fn text_fault(text: &str, quote: Quote, place: u64, size: usize) -> TokenError
+fn text_fault(text: &str, quote: QuoteMark, place: u64, size: usize) -> TokenError
     requires { place + width (quote_char quote ∷ chars text.now) ≡ size }
     ensures { BadText place (quote_char quote) (chars text.now) result }
 {
