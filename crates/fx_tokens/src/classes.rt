@@ -168,7 +168,7 @@ fn is_in_line(c: char) -> bool
 }
 
 /// Whether a character is white space: a space, a tab or a line end.
-pub fn is_white_space(c: char) -> bool
+pub(crate) fn is_white_space(c: char) -> bool
     ensures { result ≡ class.is_white_space c }
 {
     c == ' ' || c == '\t' || is_line_end(c)

@@ -27,7 +27,7 @@ pub enum Part {
 }
 
 /// The text behind all the parts at the front.
-pub fn skip_parts(text: &str, part: Part) -> &str
+pub(crate) fn skip_parts(text: &str, part: Part) -> &str
     ensures { chars result.now ≡ scan.skip (scan.part_of part) (chars text.now) }
 {
     let mut rest = text;
@@ -38,7 +38,7 @@ pub fn skip_parts(text: &str, part: Part) -> &str
 }
 
 /// One part.
-pub fn one_part(text: &str, part: Part) -> Option<&str>
+pub(crate) fn one_part(text: &str, part: Part) -> Option<&str>
     ensures { chars_left result ≡ scan.part_of part (chars text.now) }
 {
     match part {
@@ -169,7 +169,7 @@ fn escape(text: &str) -> Option<&str>
 
 /// IRIREF.
 #[tactic(auto, unfolding(crate::specs::Scan::iri))]
-pub fn iri(text: &str) -> Option<&str>
+pub(crate) fn iri(text: &str) -> Option<&str>
     ensures { chars_left result ≡ scan.iri (chars text.now) }
 {
     let rest = one(text, Class::Is('<'))?;
@@ -178,7 +178,7 @@ pub fn iri(text: &str) -> Option<&str>
 
 /// PNAME_NS or PNAME_LN, where it is known that no name with a prefix begins where more than `barren` bytes are left.
 #[tactic(auto, unfolding(crate::specs::Scan::prefix_name))]
-pub fn prefix_name(text: &str, barren: usize) -> Option<&str>
+pub(crate) fn prefix_name(text: &str, barren: usize) -> Option<&str>
     requires { scan.Barren barren (chars text.now) }
     ensures { chars_left result ≡ scan.prefix_name (chars text.now) }
 {
@@ -190,7 +190,7 @@ pub fn prefix_name(text: &str, barren: usize) -> Option<&str>
 
 /// How many bytes are left behind the place up to which no name with a prefix begins, from where it is known that there are
 /// `barren`. A run of characters that no colon follows is so gone over once, wherever tokens begin in it.
-pub fn barren_behind(text: &str, barren: usize) -> usize
+pub(crate) fn barren_behind(text: &str, barren: usize) -> usize
     requires { scan.Barren barren (chars text.now) }
     ensures { scan.Barren result (chars text.now) }
 {
@@ -239,7 +239,7 @@ fn local(text: &str) -> Option<&str>
 
 /// VAR1 or VAR2.
 #[tactic(auto, unfolding(crate::specs::Scan::variable))]
-pub fn variable(text: &str) -> Option<&str>
+pub(crate) fn variable(text: &str) -> Option<&str>
     ensures { chars_left result ≡ scan.variable (chars text.now) }
 {
     let rest = one(text, Class::VariableMark)?;
@@ -249,7 +249,7 @@ pub fn variable(text: &str) -> Option<&str>
 
 /// BLANK_NODE_LABEL.
 #[tactic(auto, unfolding(crate::specs::Scan::blank))]
-pub fn blank(text: &str) -> Option<&str>
+pub(crate) fn blank(text: &str) -> Option<&str>
     ensures { chars_left result ≡ scan.blank (chars text.now) }
 {
     let rest = one(text, Class::Is('_'))?;
@@ -260,7 +260,7 @@ pub fn blank(text: &str) -> Option<&str>
 
 /// LANGTAG.
 #[tactic(auto, unfolding(crate::specs::Scan::tag))]
-pub fn tag(text: &str) -> Option<&str>
+pub(crate) fn tag(text: &str) -> Option<&str>
     ensures { chars_left result ≡ scan.tag (chars text.now) }
 {
     let rest = one(text, Class::Is('@'))?;
@@ -269,7 +269,7 @@ pub fn tag(text: &str) -> Option<&str>
 }
 
 /// INTEGER.
-pub fn integer(text: &str) -> Option<&str>
+pub(crate) fn integer(text: &str) -> Option<&str>
     ensures { chars_left result ≡ scan.integer (chars text.now) }
 {
     some(text, Class::Digit)
@@ -277,7 +277,7 @@ pub fn integer(text: &str) -> Option<&str>
 
 /// INTEGER_POSITIVE or INTEGER_NEGATIVE.
 #[tactic(auto, unfolding(crate::specs::Scan::signed))]
-pub fn signed(text: &str) -> Option<&str>
+pub(crate) fn signed(text: &str) -> Option<&str>
     ensures { chars_left result ≡ scan.signed (chars text.now) }
 {
     integer(one(text, Class::Sign)?)
@@ -285,7 +285,7 @@ pub fn signed(text: &str) -> Option<&str>
 
 /// A decimal or a double, with a sign or without.
 #[tactic(auto, unfolding(crate::specs::Scan::decimal))]
-pub fn decimal(text: &str) -> Option<&str>
+pub(crate) fn decimal(text: &str) -> Option<&str>
     ensures { chars_left result ≡ scan.decimal (chars text.now) }
 {
     match one(text, Class::Sign) {
@@ -341,7 +341,7 @@ fn exponent(text: &str) -> Option<&str>
 
 /// A text between quotes.
 #[tactic(auto, unfolding(crate::specs::Scan::string))]
-pub fn string(text: &str) -> Option<&str>
+pub(crate) fn string(text: &str) -> Option<&str>
     ensures { chars_left result ≡ scan.string (chars text.now) }
 {
     longer(
@@ -381,7 +381,7 @@ fn three(text: &str, quote: QuoteMark) -> Option<&str>
 
 /// A keyword.
 #[tactic(auto, unfolding(crate::specs::Scan::word))]
-pub fn word(text: &str) -> Option<&str>
+pub(crate) fn word(text: &str) -> Option<&str>
     ensures { chars_left result ≡ scan.word (chars text.now) }
 {
     let rest = one(text, Class::Letter)?;
@@ -390,7 +390,7 @@ pub fn word(text: &str) -> Option<&str>
 
 /// A mark.
 #[tactic(auto, unfolding(crate::specs::Scan::mark))]
-pub fn mark(text: &str) -> Option<&str>
+pub(crate) fn mark(text: &str) -> Option<&str>
     ensures { chars_left result ≡ scan.mark (chars text.now) }
 {
     let single = one(text, Class::OneMark);

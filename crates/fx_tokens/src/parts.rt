@@ -20,7 +20,7 @@ pub fn split_first(text: &str) -> Option<(char, &str)>
 
 /// One character of a class.
 #[tactic(auto, unfolding(crate::specs::Scan::one))]
-pub fn one(text: &str, class: Class) -> Option<&str>
+pub(crate) fn one(text: &str, class: Class) -> Option<&str>
     ensures { chars_left result ≡ scan.one (holds class) (chars text.now) }
 {
     let (first, rest) = split_first(text)?;
@@ -28,7 +28,7 @@ pub fn one(text: &str, class: Class) -> Option<&str>
 }
 
 /// The text behind all the characters of a class at the front.
-pub fn skip(text: &str, class: Class) -> &str
+pub(crate) fn skip(text: &str, class: Class) -> &str
     ensures { chars result.now ≡ scan.skip (scan.one (holds class)) (chars text.now) }
 {
     let mut rest = text;
@@ -39,7 +39,7 @@ pub fn skip(text: &str, class: Class) -> &str
 }
 
 /// One or more characters of a class.
-pub fn some(text: &str, class: Class) -> Option<&str>
+pub(crate) fn some(text: &str, class: Class) -> Option<&str>
     ensures { chars_left result ≡ scan.some (holds class) (chars text.now) }
 {
     let rest = one(text, class)?;
@@ -47,7 +47,7 @@ pub fn some(text: &str, class: Class) -> Option<&str>
 }
 
 /// The one of two texts that leaves less, the first of two that leave as much.
-pub fn longer<'a>(rest: Option<&'a str>, other: Option<&'a str>) -> Option<&'a str>
+pub(crate) fn longer<'a>(rest: Option<&'a str>, other: Option<&'a str>) -> Option<&'a str>
     ensures { chars_left result ≡ scan.longer (chars_left rest.entry) (chars_left other.entry) }
 {
     match (rest, other) {
@@ -64,7 +64,7 @@ pub fn longer<'a>(rest: Option<&'a str>, other: Option<&'a str>) -> Option<&'a s
 }
 
 /// How many bytes a text has.
-pub fn width(text: &str) -> usize
+pub(crate) fn width(text: &str) -> usize
     ensures { result ≡ width (chars text.now) }
 {
     text.len()
@@ -72,7 +72,7 @@ pub fn width(text: &str) -> usize
 
 /// A text that `\uXXXX` or `\UXXXXXXXX` writes, behind its backslash: one that an IRI may hold, where it stands in one.
 #[tactic(auto, unfolding(crate::specs::Scan::code))]
-pub fn code(text: &str, in_iri: bool) -> Option<&str>
+pub(crate) fn code(text: &str, in_iri: bool) -> Option<&str>
     ensures { chars_left result ≡ scan.code (scan.fits in_iri) (chars text.now) }
 {
     match one(text, Class::Is('u')) {

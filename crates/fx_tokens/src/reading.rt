@@ -17,7 +17,7 @@ use crate::{TokenError, TokenFault, TokenKind};
 /// The kind of the longest token at the front, and the text behind it, where it is known that no name with a prefix begins
 /// where more than `barren` bytes are left.
 #[tactic(auto, unfolding(crate::specs::Scan::longest))]
-pub fn longest(text: &str, barren: usize) -> Option<(TokenKind, &str)>
+pub(crate) fn longest(text: &str, barren: usize) -> Option<(TokenKind, &str)>
     requires { scan.Barren barren (chars text.now) }
     ensures { left_kind result ≡ scan.longest (chars text.now) }
 {
@@ -65,7 +65,7 @@ fn better<'a>(
 }
 
 /// Why no token stands at the front of a text that isn't empty, where everything has `size` bytes and the text is the end of it.
-pub fn fault(text: &str, size: usize) -> TokenError
+pub(crate) fn fault(text: &str, size: usize) -> TokenError
     requires some { 0 < length (chars text.now) }
     requires within { width (chars text.now) ≤ size }
     ensures { Faulty (size - width (chars text.now)) (chars text.now) result }
