@@ -1,10 +1,10 @@
 //! Classes of characters.
 ghost use Rattle.std.specs.Prelude.{◌≡◌};
-ghost use Rattle.fx_terms.specs.Names.{is_base_char, is_name_start, is_name_char};
 ghost use Rattle.fx_tokens.specs.Classes as class;
 
 use fx_terms::escapes::letter_escape;
 use fx_terms::iris::is_forbidden;
+use fx_terms::names::{is_base_char, is_name_char, is_name_start};
 
 /// A quote.
 #[derive(Clone, Copy)]
@@ -118,29 +118,6 @@ fn is_letter_or_digit(c: char) -> bool
     ensures { result ≡ class.is_letter_or_digit c }
 {
     is_letter(c) || is_digit(c)
-}
-
-fn is_base_char(c: char) -> bool
-    ensures { result ≡ is_base_char c }
-{
-    matches!(c, 'A'..='Z' | 'a'..='z' | '\u{C0}'..='\u{D6}' | '\u{D8}'..='\u{F6}' | '\u{F8}'..='\u{2FF}'
-        | '\u{370}'..='\u{37D}' | '\u{37F}'..='\u{1FFF}' | '\u{200C}'..='\u{200D}' | '\u{2070}'..='\u{218F}'
-        | '\u{2C00}'..='\u{2FEF}' | '\u{3001}'..='\u{D7FF}' | '\u{F900}'..='\u{FDCF}' | '\u{FDF0}'..='\u{FFFD}'
-        | '\u{10000}'..='\u{EFFFF}')
-}
-
-fn is_name_start(c: char) -> bool
-    ensures { result ≡ is_name_start c }
-{
-    is_base_char(c) || c == '_' || c.is_ascii_digit()
-}
-
-fn is_name_char(c: char) -> bool
-    ensures { result ≡ is_name_char c }
-{
-    is_name_start(c)
-        || c == '\u{B7}'
-        || matches!(c, '\u{300}'..='\u{36F}' | '\u{203F}'..='\u{2040}')
 }
 
 fn is_part_char(c: char) -> bool
