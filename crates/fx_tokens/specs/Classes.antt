@@ -2,7 +2,9 @@
 use Rattle.std.specs.Prelude.{ℕ, Bool, not, ◌&&◌, ◌||◌, ◌==◌, nat_le, is_some}
 use Rattle.std.specs.Char.{is_ascii_hexdigit}
 use Rattle.fx_terms.specs.Escapes.{letter_escape}
+pub use Rattle.fx_terms.specs.Iris.{is_digit, is_letter}
 use Rattle.fx_terms.specs.Iris.{is_forbidden}
+pub use Rattle.fx_terms.specs.Literals.{is_letter_or_digit}
 use Rattle.fx_terms.specs.Names.{is_between, is_base_char, is_name_start, is_name_char}
 use Rattle.fx_tokens.specs.declared.classes.Class.{Class}
 use Rattle.fx_tokens.specs.declared.classes.Class.TheVariants as class
@@ -12,15 +14,6 @@ use Rattle.fx_tokens.specs.declared.classes.QuoteMark.TheVariants.{Single, Doubl
 -- this character
 abbrev pub is : ℕ → ℕ → Bool
 is a c = c == a
-
-abbrev pub is_digit : ℕ → Bool
-is_digit c = is_between 48 57 c
-
-abbrev pub is_letter : ℕ → Bool
-is_letter c = is_between 65 90 c || is_between 97 122 c
-
-abbrev pub is_letter_or_digit : ℕ → Bool
-is_letter_or_digit c = is_letter c || is_digit c
 
 abbrev pub is_word_char : ℕ → Bool
 is_word_char c = is_letter_or_digit c || c == 95
