@@ -7,6 +7,7 @@ use Rattle.std.specs.Str.{chars, bytes_eq}
 use Rattle.std.specs.Prelude.{codes}
 use Rattle.std.specs.declared.cmp.Ordering.{Ordering}
 use Rattle.std.specs.Ordering.{int_cmp, int_eq, bool_cmp, is_lt, is_le, is_gt, is_ge, is_eq}
+use Rattle.fx_terms.specs.Datatypes.{xsd_integer, xsd_boolean}
 use Rattle.fx_terms.specs.Texts.{text_cmp}
 use Rattle.fx_terms.specs.Terms.{form_of}
 use Rattle.fx_terms.specs.Literals.{plain}
@@ -22,7 +23,7 @@ use Rattle.fx_algebra.specs.declared.expressions.Function.TheVariants as functio
 use Rattle.fx_algebra.specs.declared.expressions.Expr.{Expr, Expr-F, fold-Expr}
 use Rattle.fx_algebra.specs.declared.worths.Worth.{Worth}
 use Rattle.fx_algebra.specs.declared.worths.Worth.TheVariants as worth
-use Rattle.fx_algebra.specs.Worths.{xsd_integer, xsd_boolean, if_in_range, worth_of, truth}
+use Rattle.fx_algebra.specs.Worths.{if_in_range, worth_of, truth}
 use Rattle.fx_algebra.specs.Words.{begins, ends, has_part, forms, string_form, worded_form, in_language}
 
 -- ---- the terms of values

@@ -6,7 +6,7 @@ use Rattle.std.specs.Ordering.{int_eq}
 use Rattle.std.specs.Str.{bytes_eq}
 use Rattle.std.specs.Str.Parse.{without_leading_sign, signed_digits_value}
 use Rattle.fx_terms.specs.Iris.{is_digit}
-use Rattle.fx_terms.specs.Literals.{xsd_string, lang_string}
+use Rattle.fx_terms.specs.Datatypes.{xsd, xsd_string, xsd_boolean, lang_string}
 use Rattle.fx_terms.specs.declared.terms.Term.{Term}
 use Rattle.fx_terms.specs.declared.terms.Term.TheVariants as term
 use Rattle.fx_algebra.specs.declared.worths.IntegerType.{IntegerType}
@@ -15,16 +15,6 @@ use Rattle.fx_algebra.specs.declared.worths.Kind.{Kind}
 use Rattle.fx_algebra.specs.declared.worths.Kind.TheVariants as kind
 use Rattle.fx_algebra.specs.declared.worths.Worth.{Worth}
 use Rattle.fx_algebra.specs.declared.worths.Worth.TheVariants as worth
-
-abbrev pub xsd_integer : List ℕ
-xsd_integer = codes "http://www.w3.org/2001/XMLSchema#integer"
-
-abbrev pub xsd_boolean : List ℕ
-xsd_boolean = codes "http://www.w3.org/2001/XMLSchema#boolean"
-
--- the namespace of the types of XML Schema
-abbrev pub xsd : List ℕ
-xsd = codes "http://www.w3.org/2001/XMLSchema#"
 
 -- ---- types of integers (SPARQL 1.1 section 17.1, XML Schema part 2 sections 3.3.13 to 3.3.25)
 

@@ -8,6 +8,7 @@ use Rattle.std.proofs.lemmas.Bool.Decides.{nat_tests}
 use Rattle.std.proofs.lemmas.List.Elements.{recursion_from_All}
 use Rattle.std.proofs.lemmas.List.Folds.{list_any-append}
 use Rattle.std.proofs.lemmas.Str.{IsUtf8-from_ascii}
+use Rattle.fx_terms.specs.Datatypes.{xsd_integer}
 use Rattle.fx_terms.specs.Iris.{IsIri}
 use Rattle.fx_terms.specs.Names.{IsName}
 use Rattle.fx_terms.specs.Terms.{IsTerm}
@@ -32,7 +33,6 @@ use Rattle.fx_algebra.specs.Printed as words
 use Rattle.fx_algebra.specs.Printed.{element_step, element_words, group_step, group_words, in_brackets, marked, pattern_words, print_step, separated}
 use Rattle.fx_algebra.specs.Measures.{Measured, measure_step}
 use Rattle.fx_algebra.specs.Values.{integer}
-use Rattle.fx_algebra.specs.Worths.{xsd_integer}
 use Rattle.std.specs.Fmt.{signed_decimal}
 use Rattle.std.proofs.lemmas.Fmt.{IsAscii-decimal}
 use Rattle.fx_algebra.specs.declared.expressions.Expr.{Expr-F, fold-roll-Expr, roll-Expr}

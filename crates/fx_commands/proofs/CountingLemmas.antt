@@ -6,6 +6,7 @@ use Rattle.std.specs.Str.{IsAscii}
 use Rattle.std.proofs.lemmas.Bool.{and_parts}
 use Rattle.std.proofs.lemmas.Bool.Decides.{nat_tests}
 use Rattle.std.proofs.lemmas.Str.{IsUtf8-from_ascii, chars-IsAscii}
+use Rattle.fx_terms.specs.Datatypes.{xsd_integer}
 use Rattle.fx_terms.specs.Iris.{IsIri}
 use Rattle.fx_terms.specs.Names.{IsName, is_name, named}
 use Rattle.fx_terms.specs.Terms.{IsTerm}
@@ -20,7 +21,6 @@ use Rattle.fx_algebra.specs.Occurrences as service
 use Rattle.fx_algebra.specs.Printed.{Word, fixed, variable, term, joined, condition as condition_words, element_step, element_words, form_words, group_step, group_words, in_place, order_words, pattern_words, print_step, printed, printed_query, query_words}
 use Rattle.fx_algebra.specs.Printed as words
 use Rattle.fx_algebra.specs.Scopes.{once, with_name}
-use Rattle.fx_algebra.specs.Worths.{xsd_integer}
 use Rattle.fx_algebra.specs.declared.answers.Answer.{Answer}
 use Rattle.fx_algebra.specs.declared.expressions.Compare.TheVariants.{Less}
 use Rattle.fx_algebra.specs.declared.expressions.Expr.{Expr-F, fold-roll-Expr, roll-Expr}

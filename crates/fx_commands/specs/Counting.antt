@@ -1,5 +1,6 @@
 -- The query that counts, the members that it is asked of, and what `count_rows` gives.
 use Rattle.std.specs.Prelude.{◌≡◌, ◌⊎◌, ℕ, false, List, [], ◌∷◌, codes, length, None, Result, Ok, Err}
+use Rattle.fx_terms.specs.Datatypes.{xsd_integer}
 use Rattle.fx_terms.specs.declared.patterns.Pattern.{Pattern}
 use Rattle.fx_terms.specs.declared.patterns.PatternTerm.TheVariants as part
 use Rattle.fx_terms.specs.declared.terms.Term.{Term}
@@ -9,7 +10,6 @@ use Rattle.fx_outside.specs.Endpoints.{EndpointParts}
 use Rattle.fx_algebra.specs.Answers.{answer_alone}
 use Rattle.fx_algebra.specs.Graphs.{union}
 use Rattle.fx_algebra.specs.Solutions.{Bindings}
-use Rattle.fx_algebra.specs.Worths.{xsd_integer}
 use Rattle.fx_algebra.specs.declared.answers.Answer.{Answer}
 use Rattle.fx_algebra.specs.declared.answers.Answer.TheVariants as answer
 use Rattle.fx_algebra.specs.declared.expressions.Compare.TheVariants.{Less}

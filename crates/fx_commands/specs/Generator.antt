@@ -2,12 +2,12 @@
 use Rattle.std.specs.Prelude.{ℕ, ◌+◌, ◌%◌, Bool, if◌then◌else◌, List, [], ◌∷◌, ◌++◌, codes, length, map, ◌==◌, ◌&&◌, ◌||◌}
 use Rattle.std.specs.List.{flat_map, range_with_len, sum_by}
 use Rattle.std.specs.Fmt.{decimal}
+use Rattle.fx_terms.specs.Datatypes.{xsd_integer}
 use Rattle.fx_terms.specs.Graphs.{graph_of}
 use Rattle.fx_terms.specs.Literals.{LiteralParts}
 use Rattle.fx_terms.specs.declared.terms.Term.TheVariants.{Iri, Literal}
 use Rattle.fx_terms.specs.declared.triples.Triple.{Triple}
 use Rattle.fx_algebra.specs.Graphs.{union}
-use Rattle.fx_algebra.specs.Worths.{xsd_integer}
 use Rattle.fx_commands.specs.Counting.{age, generated_rows, knows}
 use Rattle.fx_commands.specs.Lines.{line}
 

@@ -6,11 +6,10 @@ ghost use Rattle.fx_terms.specs.Iris.{read_iri};
 ghost use Rattle.fx_commands.specs.Generator as spec;
 ghost use Rattle.fx_commands.specs.GeneratorSteps.{at_addresses};
 
+use fx_terms::datatypes::XSD_INTEGER;
 use fx_terms::{Graph, Iri, Literal, LiteralError, Memory, Term, TermError, Triple};
 use itoa::Buffer;
 use std::alloc::Global;
-
-const XSD_INTEGER: &str = "http://www.w3.org/2001/XMLSchema#integer";
 
 /// The three members that are made of so many persons: the address of each, and its graph. It takes time by the number of persons and its logarithm, for sorting.
 pub fn members(alloc: Global, size: u32) -> Result<Vec<(Iri, Graph)>, Memory>

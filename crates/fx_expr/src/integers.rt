@@ -9,6 +9,7 @@ ghost use Rattle.fx_expr.specs.Digits.{IsPlain, signed, without_zeros as without
 
 use fx_algebra::IntegerType;
 use fx_terms::Iri;
+use fx_terms::datatypes::XSD;
 
 // ---- types
 
@@ -27,7 +28,7 @@ pub(crate) fn integer_type(datatype: &Iri) -> Option<IntegerType>
 fn schema_name(datatype: &[u8]) -> Option<&[u8]>
     ensures { option_map (λ name. name.now) result ≡ spec.schema_name datatype.now }
 {
-    datatype.strip_prefix(b"http://www.w3.org/2001/XMLSchema#")
+    datatype.strip_prefix(XSD)
 }
 
 // The type of a name.

@@ -2,11 +2,11 @@
 ghost use Rattle.std.specs.Prelude.{◌≡◌, [], false, IfOk, Ok};
 ghost use Rattle.std.specs.Str.{bytes_eq};
 ghost use Rattle.fx_terms.specs.Iris.{read_iri};
-ghost use Rattle.fx_terms.specs.Literals.{lang_string};
+ghost use Rattle.fx_terms.specs.Datatypes.{lang_string};
 ghost use Rattle.fx_terms.specs.declared.terms.Term.TheVariants as term;
 ghost use Rattle.fx_algebra.specs.Values as spec;
 
-use crate::worths::{XSD_BOOLEAN, XSD_INTEGER};
+use fx_terms::datatypes::{XSD_BOOLEAN, XSD_INTEGER};
 use fx_terms::{Iri, Literal, LiteralError, Memory, Term, TermError};
 use itoa::Buffer;
 use std::alloc::Global;

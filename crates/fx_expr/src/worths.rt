@@ -1,21 +1,12 @@
 //! What literals are worth.
 ghost use Rattle.std.specs.Prelude.{◌≡◌, ◌||◌, bytes_eq, codes, option_map};
-ghost use Rattle.fx_terms.specs.Literals.{lang_string, xsd_string};
+ghost use Rattle.fx_terms.specs.Datatypes.{lang_string, xsd_boolean, xsd_string};
 ghost use Rattle.fx_algebra.specs.Worths as spec;
 
 use crate::integers::{integer_type, is_good_form, number_in_range};
 use fx_algebra::{IntegerType, Kind, Worth};
+use fx_terms::datatypes::{LANG_STRING, XSD_BOOLEAN, XSD_STRING};
 use fx_terms::{Iri, Literal, Term};
-
-/// The datatype of the integers that expressions make.
-pub(crate) const XSD_INTEGER: &str = "http://www.w3.org/2001/XMLSchema#integer";
-
-/// The datatype of truth values.
-pub(crate) const XSD_BOOLEAN: &str = "http://www.w3.org/2001/XMLSchema#boolean";
-
-const XSD_STRING: &str = "http://www.w3.org/2001/XMLSchema#string";
-
-const LANG_STRING: &str = "http://www.w3.org/1999/02/22-rdf-syntax-ns#langString";
 
 /// The truth of a term (SPARQL 1.1 section 17.2.2, effective boolean value), or `None` exactly at its error.
 ///
@@ -114,7 +105,7 @@ fn other_kind(datatype: &Iri) -> Kind
 }
 
 fn is_boolean_type(datatype: &Iri) -> bool
-    ensures { result ≡ bytes_eq datatype.now spec.xsd_boolean }
+    ensures { result ≡ bytes_eq datatype.now xsd_boolean }
 {
     datatype.text() == XSD_BOOLEAN
 }

@@ -1,6 +1,8 @@
 -- What tokens say (SPARQL 1.1 sections 4.1, 19.2, 19.7 and 19.8): by their kinds and characters, and by where they stand.
 use Rattle.std.specs.Prelude.{ℕ, zero, suc, ◌+◌, ◌-◌, Bool, true, false, ◌&&◌, ◌||◌, ◌==◌, nat_lt, if◌then◌else◌, List, [], ◌∷◌, length, map, drop, slice_range, Option, Some, None, Result, Ok, Err}
+use Rattle.std.specs.Option.{unwrap_or}
 use Rattle.std.specs.Str.{chars, encode_utf8_all}
+use Rattle.fx_terms.specs.Escapes.{letter_escape}
 use Rattle.fx_terms.specs.Iris.{read_iri}
 use Rattle.fx_terms.specs.Names as names
 use Rattle.fx_terms.specs.declared.iris.TermError.{TermError}
@@ -24,8 +26,9 @@ use Rattle.fx_grammar.specs.declared.places.Service.TheVariants.{Outside, Named,
 
 -- ---- escapes
 
+-- the character that a letter behind a backslash names; no token has a letter there that names none
 abbrev pub letter : ℕ → ℕ
-letter c = if c == 116 then 9 else (if c == 98 then 8 else (if c == 110 then 10 else (if c == 114 then 13 else (if c == 102 then 12 else c))))
+letter c = unwrap_or (letter_escape c) c
 
 -- no token has an escape that names no character; U+FFFD stands for it
 abbrev pub char_of : ℕ → ℕ

@@ -5,7 +5,9 @@ use Rattle.std.specs.List.{flat_map}
 use Rattle.std.specs.Str.{bytes_eq}
 use Rattle.std.specs.Char.{to_ascii_lowercase}
 use Rattle.fx_terms.specs.Iris.{read_iri}
-use Rattle.fx_terms.specs.Literals.{plain, lang_string, is_tag, LiteralParts}
+use Rattle.fx_terms.specs.Datatypes.{lang_string}
+pub use Rattle.fx_terms.specs.Datatypes.{xsd_integer, xsd_boolean}
+use Rattle.fx_terms.specs.Literals.{plain, is_tag, LiteralParts}
 use Rattle.fx_terms.specs.declared.terms.Term.{Term}
 use Rattle.fx_terms.specs.declared.terms.Term.TheVariants as term
 use Rattle.fx_terms.specs.declared.patterns.Pattern.{Pattern}
@@ -52,13 +54,7 @@ abbrev pub name_of : Token → Result (List ℕ) SyntaxKind
 name_of (token_of.Variable name) = Ok name
 name_of _ = Err Unexpected
 
--- the bytes of the texts that stand for numbers, truth values and types
-abbrev pub xsd_integer : List ℕ
-xsd_integer = codes "http://www.w3.org/2001/XMLSchema#integer"
-
-abbrev pub xsd_boolean : List ℕ
-xsd_boolean = codes "http://www.w3.org/2001/XMLSchema#boolean"
-
+-- the predicate that is written `a`: rdf:type
 abbrev pub rdf_type : List ℕ
 rdf_type = codes "http://www.w3.org/1999/02/22-rdf-syntax-ns#type"
 

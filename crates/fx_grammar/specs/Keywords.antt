@@ -122,23 +122,60 @@ comparison text =
     else (if bytes_eq text (codes ">=") then Some compare.GreaterOrEqual
     else None)))))
 
+-- the words with which updates, and their parts, begin
+abbrev pub is_update_word : List ℕ → Bool
+is_update_word text =
+    bytes_eq text (codes "INSERT") || bytes_eq text (codes "DELETE") || bytes_eq text (codes "LOAD") || bytes_eq text (codes "CLEAR")
+    || bytes_eq text (codes "DROP") || bytes_eq text (codes "CREATE") || bytes_eq text (codes "ADD") || bytes_eq text (codes "MOVE")
+    || bytes_eq text (codes "COPY") || bytes_eq text (codes "WITH")
+
+-- the words with which other forms of query, updates and BASE begin
 abbrev pub is_other_form : List ℕ → Bool
-is_other_form text = bytes_eq text (codes "CONSTRUCT") || bytes_eq text (codes "DESCRIBE") || bytes_eq text (codes "BASE") || bytes_eq text (codes "INSERT") || bytes_eq text (codes "DELETE") || bytes_eq text (codes "LOAD") || bytes_eq text (codes "CLEAR") || bytes_eq text (codes "DROP") || bytes_eq text (codes "CREATE") || bytes_eq text (codes "ADD") || bytes_eq text (codes "MOVE") || bytes_eq text (codes "COPY") || bytes_eq text (codes "WITH")
+is_other_form text = bytes_eq text (codes "CONSTRUCT") || bytes_eq text (codes "DESCRIBE") || bytes_eq text (codes "BASE") || is_update_word text
 
-abbrev pub is_other_call_1 : List ℕ → Bool
-is_other_call_1 text = bytes_eq text (codes "EXISTS") || bytes_eq text (codes "IRI") || bytes_eq text (codes "URI") || bytes_eq text (codes "BNODE") || bytes_eq text (codes "RAND") || bytes_eq text (codes "ABS") || bytes_eq text (codes "CEIL") || bytes_eq text (codes "FLOOR") || bytes_eq text (codes "ROUND") || bytes_eq text (codes "CONCAT") || bytes_eq text (codes "SUBSTR")
+-- functions that make terms (SPARQL 1.1 section 17.4.2)
+abbrev pub is_term_call : List ℕ → Bool
+is_term_call text =
+    bytes_eq text (codes "IRI") || bytes_eq text (codes "URI") || bytes_eq text (codes "BNODE") || bytes_eq text (codes "STRDT")
+    || bytes_eq text (codes "STRLANG") || bytes_eq text (codes "UUID") || bytes_eq text (codes "STRUUID")
 
-abbrev pub is_other_call_2 : List ℕ → Bool
-is_other_call_2 text = bytes_eq text (codes "REPLACE") || bytes_eq text (codes "UCASE") || bytes_eq text (codes "LCASE") || bytes_eq text (codes "ENCODE_FOR_URI") || bytes_eq text (codes "STRBEFORE") || bytes_eq text (codes "STRAFTER") || bytes_eq text (codes "YEAR") || bytes_eq text (codes "MONTH") || bytes_eq text (codes "DAY") || bytes_eq text (codes "HOURS") || bytes_eq text (codes "MINUTES")
+-- functions of texts (section 17.4.3)
+abbrev pub is_text_call : List ℕ → Bool
+is_text_call text =
+    bytes_eq text (codes "SUBSTR") || bytes_eq text (codes "UCASE") || bytes_eq text (codes "LCASE") || bytes_eq text (codes "ENCODE_FOR_URI")
+    || bytes_eq text (codes "CONCAT") || bytes_eq text (codes "STRBEFORE") || bytes_eq text (codes "STRAFTER") || bytes_eq text (codes "REPLACE")
+    || bytes_eq text (codes "REGEX")
 
-abbrev pub is_other_call_3 : List ℕ → Bool
-is_other_call_3 text = bytes_eq text (codes "SECONDS") || bytes_eq text (codes "TIMEZONE") || bytes_eq text (codes "TZ") || bytes_eq text (codes "NOW") || bytes_eq text (codes "UUID") || bytes_eq text (codes "STRUUID") || bytes_eq text (codes "MD5") || bytes_eq text (codes "SHA1") || bytes_eq text (codes "SHA256") || bytes_eq text (codes "SHA384") || bytes_eq text (codes "SHA512")
+-- functions of numbers (section 17.4.4)
+abbrev pub is_number_call : List ℕ → Bool
+is_number_call text =
+    bytes_eq text (codes "ABS") || bytes_eq text (codes "CEIL") || bytes_eq text (codes "FLOOR") || bytes_eq text (codes "ROUND")
+    || bytes_eq text (codes "RAND")
 
-abbrev pub is_other_call_4 : List ℕ → Bool
-is_other_call_4 text = bytes_eq text (codes "STRLANG") || bytes_eq text (codes "STRDT") || bytes_eq text (codes "REGEX") || bytes_eq text (codes "COUNT") || bytes_eq text (codes "SUM") || bytes_eq text (codes "MIN") || bytes_eq text (codes "MAX") || bytes_eq text (codes "AVG") || bytes_eq text (codes "SAMPLE") || bytes_eq text (codes "GROUP_CONCAT")
+-- functions of times (section 17.4.5)
+abbrev pub is_time_call : List ℕ → Bool
+is_time_call text =
+    bytes_eq text (codes "NOW") || bytes_eq text (codes "YEAR") || bytes_eq text (codes "MONTH") || bytes_eq text (codes "DAY")
+    || bytes_eq text (codes "HOURS") || bytes_eq text (codes "MINUTES") || bytes_eq text (codes "SECONDS") || bytes_eq text (codes "TIMEZONE")
+    || bytes_eq text (codes "TZ")
 
+-- hashes (section 17.4.6)
+abbrev pub is_hash_call : List ℕ → Bool
+is_hash_call text =
+    bytes_eq text (codes "MD5") || bytes_eq text (codes "SHA1") || bytes_eq text (codes "SHA256") || bytes_eq text (codes "SHA384")
+    || bytes_eq text (codes "SHA512")
+
+-- aggregates (section 11)
+abbrev pub is_aggregate : List ℕ → Bool
+is_aggregate text =
+    bytes_eq text (codes "COUNT") || bytes_eq text (codes "SUM") || bytes_eq text (codes "MIN") || bytes_eq text (codes "MAX")
+    || bytes_eq text (codes "AVG") || bytes_eq text (codes "SAMPLE") || bytes_eq text (codes "GROUP_CONCAT")
+
+-- functions that this profile leaves out
 abbrev pub is_other_call : List ℕ → Bool
-is_other_call text = is_other_call_1 text || is_other_call_2 text || is_other_call_3 text || is_other_call_4 text
+is_other_call text =
+    bytes_eq text (codes "EXISTS") || is_term_call text || is_text_call text || is_number_call text
+    || is_time_call text || is_hash_call text || is_aggregate text
 
 abbrev pub other_word : List ℕ → Token
 other_word text = if is_other_form text then token.Plain k.OtherForm else (if is_other_call text then token.Plain k.OtherCall else token.Plain k.Other)

@@ -6,6 +6,7 @@ ghost use Rattle.fx_readers.specs.Gives.{Gives};
 
 use crate::elements::ReadsElements;
 use fx_algebra::{Element, Group};
+use fx_blocks::inline_values;
 use fx_grammar::{Kind, SyntaxKind, Token};
 use fx_readers::{Fault, Prefixes, iri_name, mark, refuse, sees, sees_iri_name};
 use fx_terms::{Boxed, Iri, Items, Name};
@@ -13,7 +14,6 @@ use fx_trees::elements;
 use fx_trees::elements::{note, one_element, one_group};
 use fx_trees::names::no_names;
 use fx_triples::{behind_other, first_triples};
-use fx_values::inline_values;
 use indexmap::IndexSet;
 use std::alloc::Global;
 

@@ -74,10 +74,17 @@ fn other_word(text: &[u8]) -> Token
     }
 }
 
+// Functions that this profile leaves out.
 fn is_other_call(text: &[u8]) -> bool
     ensures { result ≡ spec.is_other_call text.now }
 {
-    is_other_call_1(text) || is_other_call_2(text) || is_other_call_3(text) || is_other_call_4(text)
+    is_text(text, b"EXISTS")
+        || is_term_call(text)
+        || is_text_call(text)
+        || is_number_call(text)
+        || is_time_call(text)
+        || is_hash_call(text)
+        || is_aggregate(text)
 }
 
 fn is_text(text: &[u8], other: &[u8]) -> bool
@@ -302,14 +309,11 @@ fn comparison(text: &[u8]) -> Option<Compare>
     }
 }
 
-// Words with which other forms of query and updates begin.
-fn is_other_form(text: &[u8]) -> bool
-    ensures { result ≡ spec.is_other_form text.now }
+// The words with which updates, and their parts, begin.
+fn is_update_word(text: &[u8]) -> bool
+    ensures { result ≡ spec.is_update_word text.now }
 {
-    is_text(text, b"CONSTRUCT")
-        || is_text(text, b"DESCRIBE")
-        || is_text(text, b"BASE")
-        || is_text(text, b"INSERT")
+    is_text(text, b"INSERT")
         || is_text(text, b"DELETE")
         || is_text(text, b"LOAD")
         || is_text(text, b"CLEAR")
@@ -321,65 +325,86 @@ fn is_other_form(text: &[u8]) -> bool
         || is_text(text, b"WITH")
 }
 
-// Functions that this profile leaves out.
-fn is_other_call_1(text: &[u8]) -> bool
-    ensures { result ≡ spec.is_other_call_1 text.now }
+// The words with which other forms of query, updates and BASE begin.
+fn is_other_form(text: &[u8]) -> bool
+    ensures { result ≡ spec.is_other_form text.now }
 {
-    is_text(text, b"EXISTS")
-        || is_text(text, b"IRI")
-        || is_text(text, b"URI")
-        || is_text(text, b"BNODE")
-        || is_text(text, b"RAND")
-        || is_text(text, b"ABS")
-        || is_text(text, b"CEIL")
-        || is_text(text, b"FLOOR")
-        || is_text(text, b"ROUND")
-        || is_text(text, b"CONCAT")
-        || is_text(text, b"SUBSTR")
+    is_text(text, b"CONSTRUCT")
+        || is_text(text, b"DESCRIBE")
+        || is_text(text, b"BASE")
+        || is_update_word(text)
 }
 
-// Functions that this profile leaves out.
-fn is_other_call_2(text: &[u8]) -> bool
-    ensures { result ≡ spec.is_other_call_2 text.now }
+// Functions that make terms (SPARQL 1.1 section 17.4.2).
+fn is_term_call(text: &[u8]) -> bool
+    ensures { result ≡ spec.is_term_call text.now }
 {
-    is_text(text, b"REPLACE")
+    is_text(text, b"IRI")
+        || is_text(text, b"URI")
+        || is_text(text, b"BNODE")
+        || is_text(text, b"STRDT")
+        || is_text(text, b"STRLANG")
+        || is_text(text, b"UUID")
+        || is_text(text, b"STRUUID")
+}
+
+// Functions of texts (section 17.4.3).
+fn is_text_call(text: &[u8]) -> bool
+    ensures { result ≡ spec.is_text_call text.now }
+{
+    is_text(text, b"SUBSTR")
         || is_text(text, b"UCASE")
         || is_text(text, b"LCASE")
         || is_text(text, b"ENCODE_FOR_URI")
+        || is_text(text, b"CONCAT")
         || is_text(text, b"STRBEFORE")
         || is_text(text, b"STRAFTER")
+        || is_text(text, b"REPLACE")
+        || is_text(text, b"REGEX")
+}
+
+// Functions of numbers (section 17.4.4).
+fn is_number_call(text: &[u8]) -> bool
+    ensures { result ≡ spec.is_number_call text.now }
+{
+    is_text(text, b"ABS")
+        || is_text(text, b"CEIL")
+        || is_text(text, b"FLOOR")
+        || is_text(text, b"ROUND")
+        || is_text(text, b"RAND")
+}
+
+// Functions of times (section 17.4.5).
+fn is_time_call(text: &[u8]) -> bool
+    ensures { result ≡ spec.is_time_call text.now }
+{
+    is_text(text, b"NOW")
         || is_text(text, b"YEAR")
         || is_text(text, b"MONTH")
         || is_text(text, b"DAY")
         || is_text(text, b"HOURS")
         || is_text(text, b"MINUTES")
-}
-
-// Functions that this profile leaves out.
-fn is_other_call_3(text: &[u8]) -> bool
-    ensures { result ≡ spec.is_other_call_3 text.now }
-{
-    is_text(text, b"SECONDS")
+        || is_text(text, b"SECONDS")
         || is_text(text, b"TIMEZONE")
         || is_text(text, b"TZ")
-        || is_text(text, b"NOW")
-        || is_text(text, b"UUID")
-        || is_text(text, b"STRUUID")
-        || is_text(text, b"MD5")
+}
+
+// Hashes (section 17.4.6).
+fn is_hash_call(text: &[u8]) -> bool
+    ensures { result ≡ spec.is_hash_call text.now }
+{
+    is_text(text, b"MD5")
         || is_text(text, b"SHA1")
         || is_text(text, b"SHA256")
         || is_text(text, b"SHA384")
         || is_text(text, b"SHA512")
 }
 
-// Functions that this profile leaves out.
-fn is_other_call_4(text: &[u8]) -> bool
-    ensures { result ≡ spec.is_other_call_4 text.now }
+// Aggregates (section 11).
+fn is_aggregate(text: &[u8]) -> bool
+    ensures { result ≡ spec.is_aggregate text.now }
 {
-    is_text(text, b"STRLANG")
-        || is_text(text, b"STRDT")
-        || is_text(text, b"REGEX")
-        || is_text(text, b"COUNT")
+    is_text(text, b"COUNT")
         || is_text(text, b"SUM")
         || is_text(text, b"MIN")
         || is_text(text, b"MAX")

@@ -7,6 +7,7 @@ ghost use Rattle.fx_grammar.specs.Classified as spec;
 
 use crate::keywords;
 use fx_grammar::{Closing, Context, Kind, Service, Text, Token, is};
+use fx_terms::escapes::letter_escape;
 use fx_terms::{Iri, Memory, Name, NameError, TermError};
 use fx_tokens::{TokenKind, four, split_first};
 use std::alloc::{AllocError, Global};
@@ -319,14 +320,7 @@ fn char_of(number: u32) -> char
 fn letter(c: char) -> char
     ensures { result ≡ spec.letter c }
 {
-    match c {
-        't' => '\t',
-        'b' => '\x08',
-        'n' => '\n',
-        'r' => '\r',
-        'f' => '\x0c',
-        c => c,
-    }
+    letter_escape(c).unwrap_or(c)
 }
 
 // What stands before the colon, and behind it without its backslashes.

@@ -23,7 +23,8 @@ use Rattle.fx_terms.specs.declared.terms.Term.{Term}
 use Rattle.fx_terms.specs.declared.terms.Term.TheVariants as term
 use Rattle.fx_terms.specs.declared.triples.Triple.{Triple}
 use Rattle.fx_terms.specs.Iris.{IsIri, iri_after, is_forbidden}
-use Rattle.fx_terms.specs.Literals.{LiteralParts, IsLiteral, plain, typed, tagged, is_dash, xsd_string, lang_string}
+use Rattle.fx_terms.specs.Datatypes.{xsd_string, lang_string}
+use Rattle.fx_terms.specs.Literals.{LiteralParts, IsLiteral, plain, typed, tagged, is_dash}
 use Rattle.fx_terms.specs.Terms.{IsTerm}
 use Rattle.fx_terms.specs.Triples.{IsTriple, triple_cmp}
 use Rattle.fx_terms.specs.Graphs.{set_of, put_once}

@@ -13,7 +13,8 @@ use Rattle.fx_terms.specs.declared.triples.Triple.{Triple}
 use Rattle.fx_terms.specs.declared.iris.TermError.{TermError}
 use Rattle.fx_terms.specs.declared.literals.LiteralError.{LiteralError}
 use Rattle.fx_terms.specs.Iris.{read_iri}
-use Rattle.fx_terms.specs.Literals.{LiteralParts, plain, typed, tagged, is_tag, is_dash, lang_string as rdf_lang_string}
+use Rattle.fx_terms.specs.Datatypes.{lang_string as rdf_lang_string}
+use Rattle.fx_terms.specs.Literals.{LiteralParts, plain, typed, tagged, is_tag, is_dash}
 use Rattle.fx_ntriples.specs.declared.faults.Fault.TheVariants.{Bad, Blank}
 use Rattle.fx_ntriples.specs.declared.quotes.Quote.{Quote}
 use Rattle.fx_ntriples.specs.declared.quotes.Quote.TheVariants.{Iri, Text}

@@ -11,5 +11,5 @@ pub mod States
 pub mod Steps
 pub mod Stops
 pub mod Tags
-pub mod Utf8Stops
+pub mod Utf8Refused
 pub mod Viable

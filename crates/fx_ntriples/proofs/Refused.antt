@@ -6,7 +6,8 @@ use Rattle.fx_terms.specs.declared.terms.Term.TheVariants as term
 use Rattle.fx_terms.specs.declared.triples.Triple.{Triple}
 use Rattle.fx_terms.specs.declared.iris.TermError.{TermError}
 use Rattle.fx_terms.specs.Iris.{read_iri}
-use Rattle.fx_terms.specs.Literals.{typed, lang_string as rdf_lang_string}
+use Rattle.fx_terms.specs.Datatypes.{lang_string as rdf_lang_string}
+use Rattle.fx_terms.specs.Literals.{typed}
 use Rattle.fx_ntriples.specs.declared.faults.Fault.{Fault}
 use Rattle.fx_ntriples.specs.declared.faults.Fault.TheVariants.{Bad, Blank, Relative}
 use Rattle.fx_ntriples.specs.declared.quotes.Quote.{Quote}

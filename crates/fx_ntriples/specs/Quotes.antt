@@ -1,9 +1,11 @@
 -- What stands between the signs of an IRIREF or of a string (RDF 1.1 N-Triples, section 7, IRIREF, STRING_LITERAL_QUOTE, UCHAR and
 -- ECHAR), by bytes: each character that the rules name is ASCII.
-use Rattle.std.specs.Prelude.{◌≡◌, ℕ, zero, suc, ◌+◌, ◌*◌, Bool, true, not, ◌&&◌, ◌||◌, ◌==◌, if◌then◌else◌, List, [], ◌∷◌, ◌++◌, length, take, drop, Option, Some, None}
+use Rattle.std.specs.Prelude.{◌≡◌, ℕ, zero, suc, ◌+◌, Bool, true, not, ◌&&◌, ◌||◌, ◌==◌, if◌then◌else◌, List, [], ◌∷◌, ◌++◌, length, take, drop, Option, Some, None}
 use Rattle.std.specs.List.{list_all, prefix_len}
-use Rattle.std.specs.Char.{encode_utf8, digit_value, is_ascii_hexdigit}
+use Rattle.std.specs.Char.{encode_utf8, is_ascii_hexdigit}
 use lib.Utf8.{scalar}
+pub use Rattle.fx_terms.specs.Escapes.{hex_value}
+use Rattle.fx_terms.specs.Escapes.{letter_escape}
 use Rattle.fx_terms.specs.Iris.{is_forbidden}
 use Rattle.fx_ntriples.specs.declared.faults.Fault.{Fault}
 use Rattle.fx_ntriples.specs.declared.faults.Fault.TheVariants.{Bad}
@@ -21,28 +23,14 @@ is_plain Iri b = not (is_forbidden b)
 is_plain Text b = not (b == 34 || b == 92 || b == 10 || b == 13)
 
 -- ECHAR: the character that a letter behind a backslash names in a string
-abbrev pub short_escape : ℕ → Option ℕ
-short_escape b =
-    if b == 116 then Some 9
-    else (if b == 98 then Some 8
-    else (if b == 110 then Some 10
-    else (if b == 114 then Some 13
-    else (if b == 102 then Some 12
-    else (if b == 34 || b == 39 || b == 92 then Some b else None)))))
-
 abbrev pub short : Quote → ℕ → Option ℕ
 short Iri b = None
-short Text b = short_escape b
+short Text b = letter_escape b
 
 -- what UCHAR may name: a character that is no surrogate and at most U+10FFFF, in an IRI one that stands for itself there
 abbrev pub may_name : Quote → ℕ → Bool
 may_name Iri c = scalar c && not (is_forbidden c)
 may_name Text c = scalar c
-
--- the number that hexadecimal digits write, behind those that write v
-abbrev pub hex_value : ℕ → List ℕ → ℕ
-hex_value v [] = v
-hex_value v (d ∷ ds) = hex_value (v * 16 + digit_value d) ds
 
 -- an escape behind its backslash, and the bytes of the character that it names
 pub data IsEscape : Quote → List ℕ → List ℕ → Type 0 where

@@ -4,7 +4,7 @@ use Rattle.std.specs.List.{list_all, slice_split}
 use Rattle.std.specs.Char.{is_ascii_hexdigit}
 use Rattle.fx_terms.specs.declared.triples.Triple.{Triple}
 use Rattle.fx_terms.specs.Iris.{read_iri}
-use Rattle.fx_terms.specs.Literals.{lang_string as rdf_lang_string}
+use Rattle.fx_terms.specs.Datatypes.{lang_string as rdf_lang_string}
 use Rattle.fx_ntriples.specs.declared.quotes.Quote.{Quote}
 use Rattle.fx_ntriples.specs.declared.quotes.Quote.TheVariants.{Iri, Text}
 use Rattle.fx_ntriples.specs.Quotes.{IsBody, may_name, hex_value}

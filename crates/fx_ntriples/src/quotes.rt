@@ -3,12 +3,13 @@ ghost use Rattle.std.specs.String.{string_bytes};
 ghost use Rattle.std.specs.Prelude.{◌≡◌, MatchResult, ◌++◌, ◌+◌, ◌*◌, ◌^◌, ◌<◌, ◌≤◌, length, take, drop, true, false, Some, None, if◌then◌else◌};
 ghost use Rattle.std.specs.List.{list_all, prefix_len};
 ghost use Rattle.std.specs.Str.{IsCharBoundary};
-ghost use Rattle.std.specs.Char.{is_ascii_hexdigit, digit_value};
+ghost use Rattle.std.specs.Char.{is_ascii_hexdigit};
 ghost use Rattle.fx_ntriples.specs.Quotes as spec;
-ghost use Rattle.fx_terms.specs.Iris as iris;
 ghost use Rattle.fx_ntriples.specs.Answers.{ReadsText, ReadsEscape, text_of};
 
 use crate::faults::{Fault, Stop};
+use fx_terms::escapes::{digit_value, letter_escape};
+use fx_terms::iris::is_forbidden;
 use std::alloc::Global;
 
 /// Between which signs a text stands.
@@ -91,12 +92,6 @@ fn closing(quote: Quote) -> u8
     }
 }
 
-fn is_forbidden(b: u32) -> bool
-    ensures { result ≡ iris.is_forbidden b }
-{
-    b <= 32 || matches!(b, 60 | 62 | 34 | 123 | 125 | 124 | 94 | 96 | 92)
-}
-
 fn is_plain(quote: Quote, b: u8) -> bool
     ensures { result ≡ spec.is_plain quote b }
 {
@@ -124,23 +119,7 @@ fn short(quote: Quote, b: u8) -> Option<char>
 {
     match quote {
         Quote::Iri => None,
-        Quote::Text => short_escape(b),
-    }
-}
-
-fn short_escape(b: u8) -> Option<char>
-    ensures { result ≡ spec.short_escape b }
-{
-    match b {
-        b't' => Some('\t'),
-        b'b' => Some('\x08'),
-        b'n' => Some('\n'),
-        b'r' => Some('\r'),
-        b'f' => Some('\x0c'),
-        b'"' => Some('"'),
-        b'\'' => Some('\''),
-        b'\\' => Some('\\'),
-        _ => None,
+        Quote::Text => letter_escape(b as char),
     }
 }
 
@@ -198,20 +177,6 @@ fn hex_end(line: &[u8], start: usize, count: usize) -> usize
     end
 }
 
-fn digit(b: u8) -> u32
-    requires { is_ascii_hexdigit b ≡ true }
-    ensures value { result ≡ digit_value b }
-    ensures small { result < 16 }
-{
-    if b <= b'9' {
-        (b - b'0') as u32
-    } else if b <= b'F' {
-        (b - b'A') as u32 + 10
-    } else {
-        (b - b'a') as u32 + 10
-    }
-}
-
 // The number that hexadecimal digits write.
 fn hex_value(digits: &[u8]) -> u32
     requires few { length digits.now ≤ 8 }
@@ -220,7 +185,7 @@ fn hex_value(digits: &[u8]) -> u32
 {
     let mut value = 0;
     for d in digits {
-        value = value * 16 + digit(*d);
+        value = value * 16 + digit_value(*d as char);
     }
     value
 }

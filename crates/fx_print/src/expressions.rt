@@ -66,7 +66,7 @@ pub fn is_call(expr: &Expr) -> bool
 }
 
 /// Whether an expression is a variable.
-pub fn is_variable(expr: &Expr) -> bool
+pub(crate) fn is_variable(expr: &Expr) -> bool
     ensures { result ≡ spec.is_variable (spec.printed expr.now).level }
 {
     matches!(expr, Expr::Variable(_))

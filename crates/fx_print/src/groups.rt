@@ -30,7 +30,7 @@ fn push_elements(text: &mut String, elements: &[Element]) -> Result<(), Memory>
 
 /// An element of a group.
 #[cycle(print)]
-pub fn push_element(text: &mut String, element: &Element) -> Result<(), Memory>
+pub(crate) fn push_element(text: &mut String, element: &Element) -> Result<(), Memory>
     ensures { OnOk result (string_bytes text.new ≡ string_bytes text.old ++ spec.spaced (spec.element_words element.now)) }
 {
     match element {
@@ -115,7 +115,7 @@ fn push_silence(text: &mut String, silent: bool) -> Result<(), Memory>
 
 /// The columns and rows of VALUES.
 #[tactic(auto, unfolding(fx_algebra::specs::Printed::block))]
-pub fn push_block(text: &mut String, inline: &Inline) -> Result<(), Memory>
+pub(crate) fn push_block(text: &mut String, inline: &Inline) -> Result<(), Memory>
     ensures { OnOk result (string_bytes text.new ≡ string_bytes text.old ++ spec.spaced (spec.block inline.now)) }
 {
     push_fixed(text, "(")?;

@@ -6,7 +6,7 @@ ghost use Rattle.fx_algebra.specs.Printed as spec;
 
 pub mod expressions;
 pub mod groups;
-pub mod queries;
+mod queries;
 pub mod words;
 
 use crate::groups::push_element;

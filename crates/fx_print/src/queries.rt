@@ -11,7 +11,7 @@ use fx_terms::{Memory, Name};
 
 /// A query.
 #[tactic(auto, unfolding(fx_algebra::specs::Printed::query_words))]
-pub fn push_query(text: &mut String, query: &Query) -> Result<(), Memory>
+pub(crate) fn push_query(text: &mut String, query: &Query) -> Result<(), Memory>
     ensures { OnOk result (string_bytes text.new ≡ string_bytes text.old ++ spec.spaced (spec.query_words query.now)) }
 {
     push_form(text, &query.form)?;

@@ -35,7 +35,7 @@ pub fn push_term(text: &mut String, term: &Term) -> Result<(), Memory>
 }
 
 /// An IRI.
-pub fn push_iri(text: &mut String, iri: &Iri) -> Result<(), Memory>
+pub(crate) fn push_iri(text: &mut String, iri: &Iri) -> Result<(), Memory>
     ensures { OnOk result (string_bytes text.new ≡ string_bytes text.old ++ (32 ∷ written_iri iri.now)) }
 {
     text.push(' ')?;
@@ -43,7 +43,7 @@ pub fn push_iri(text: &mut String, iri: &Iri) -> Result<(), Memory>
 }
 
 /// A number.
-pub fn push_number(text: &mut String, number: u64) -> Result<(), Memory>
+pub(crate) fn push_number(text: &mut String, number: u64) -> Result<(), Memory>
     ensures { OnOk result (string_bytes text.new ≡ string_bytes text.old ++ (32 ∷ decimal number)) }
 {
     let mut buffer = Buffer::new();

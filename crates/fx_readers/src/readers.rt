@@ -2,7 +2,8 @@
 ghost use Rattle.std.specs.Prelude.{◌≡◌, ◌++◌, IfOk, length, None, Some, option_map, string_bytes, true, false, Ok};
 ghost use Rattle.std.specs.Str.{bytes_eq};
 ghost use Rattle.fx_terms.specs.Iris.{read_iri};
-ghost use Rattle.fx_terms.specs.Literals.{plain, lang_string, is_tag};
+ghost use Rattle.fx_terms.specs.Datatypes.{lang_string};
+ghost use Rattle.fx_terms.specs.Literals.{plain, is_tag};
 ghost use Rattle.fx_terms.specs.declared.terms.Term.TheVariants as Term;
 ghost use Rattle.fx_grammar.specs.Kinds as kinds;
 ghost use Rattle.fx_grammar.specs.Rule as rule;
@@ -13,6 +14,7 @@ use crate::faults::Fault;
 use crate::prefixes::Prefixes;
 use fx_algebra::{Compare, Function};
 use fx_grammar::{Annotation, Kind, SyntaxKind, Text, Token, is};
+use fx_terms::datatypes::{LANG_STRING, XSD_BOOLEAN, XSD_INTEGER};
 use fx_terms::{Boxed, Iri, Literal, LiteralError, Memory, Name, Term, TermError, is_tag};
 use std::alloc::{AllocError, Global};
 
@@ -171,7 +173,7 @@ pub fn iri_name<'a>(
 fn is_lang_string(iri: &Iri) -> bool
     ensures { result ≡ bytes_eq iri.now lang_string }
 {
-    iri.text() == "http://www.w3.org/1999/02/22-rdf-syntax-ns#langString"
+    iri.text() == LANG_STRING
 }
 
 fn not_lang_string(named: Result<Iri, SyntaxKind>) -> Result<Iri, SyntaxKind>
@@ -320,18 +322,14 @@ fn with_datatype(alloc: Global, form: &str, datatype: &Iri) -> Result<Boxed<Term
 fn integer(alloc: Global, digits: &Text) -> Result<Boxed<Term>, Memory>
     ensures { IfOk result (λ t. t ≡ grammar.integer digits.now) }
 {
-    constant(
-        alloc,
-        digits.as_str(),
-        "http://www.w3.org/2001/XMLSchema#integer",
-    )
+    constant(alloc, digits.as_str(), XSD_INTEGER)
 }
 
 /// A literal of xsd:boolean.
 fn truth(alloc: Global, form: &str) -> Result<Boxed<Term>, Memory>
     ensures { IfOk result (λ t. t ≡ Term.Literal (grammar.typed form.now grammar.xsd_boolean)) }
 {
-    constant(alloc, form, "http://www.w3.org/2001/XMLSchema#boolean")
+    constant(alloc, form, XSD_BOOLEAN)
 }
 
 fn constant(alloc: Global, form: &str, datatype: &str) -> Result<Boxed<Term>, Memory>

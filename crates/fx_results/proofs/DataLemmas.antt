@@ -8,7 +8,8 @@ use Rattle.std.proofs.lemmas.Slice.Eq.{bytes_eq-Decides}
 use Rattle.serde_json.specs.Data.{string}
 use Rattle.serde_json.specs.View.{items_of}
 use Rattle.fx_terms.specs.Iris.{read_iri, iri_after, iri_with_scheme, has_scheme}
-use Rattle.fx_terms.specs.Literals.{LiteralParts, lang_string, is_tag, plain}
+use Rattle.fx_terms.specs.Datatypes.{xsd_string, lang_string}
+use Rattle.fx_terms.specs.Literals.{LiteralParts, is_tag, plain}
 use Rattle.fx_terms.specs.Names.{is_name}
 use Rattle.fx_terms.specs.declared.terms.Term.{Term}
 use Rattle.fx_terms.specs.declared.terms.Term.TheVariants.{Iri, Literal}
@@ -16,7 +17,7 @@ use Rattle.fx_algebra.specs.Scopes.{is_among}
 use Rattle.fx_algebra.specs.Solutions.{Bindings, rises}
 use Rattle.fx_algebra.specs.declared.answers.Answer.{Answer}
 use Rattle.fx_algebra.specs.declared.answers.Answer.TheVariants.{Table, Truth}
-use Rattle.fx_results.specs.Documents.{answer_data, iri_data, term_data, untagged_data, plain_data, typed_data, tagged_data, row_members, row_data, string_datatype}
+use Rattle.fx_results.specs.Documents.{answer_data, iri_data, term_data, untagged_data, plain_data, typed_data, tagged_data, row_members, row_data}
 use Rattle.fx_results.specs.Meanings.{is_answer, is_iri, is_term, is_typed, is_tagged, is_row}
 use Rattle.fx_results.specs.Reading.{answer_in, term_in, terms_in, row_in, rows_in, are_columns, names_in, columns_of, are_distinct}
 use Rattle.fx_results.proofs.ReadingLemmas.{both}
@@ -56,14 +57,14 @@ unless : (b : Bool) → not b ≡ true → b ≡ false
 unless true h = cc
 unless false h = refl
 
-untagged_reads : (b : Bool) (l : LiteralParts) → bytes_eq l.datatype string_datatype ≡ b → l.tag ≡ [] → is_typed l ≡ true → term_in (cond b (plain_data l.form) (typed_data l.form l.datatype)) ≡ Ok (Literal l)
-untagged_reads true l e none h = let d = same l.datatype string_datatype e in λ i. Ok (Literal (record { form = l.form; datatype = sym d i; tag = sym none i }))
+untagged_reads : (b : Bool) (l : LiteralParts) → bytes_eq l.datatype xsd_string ≡ b → l.tag ≡ [] → is_typed l ≡ true → term_in (cond b (plain_data l.form) (typed_data l.form l.datatype)) ≡ Ok (Literal l)
+untagged_reads true l e none h = let d = same l.datatype xsd_string e in λ i. Ok (Literal (record { form = l.form; datatype = sym d i; tag = sym none i }))
 untagged_reads false l e none h =
     let t = both (is_iri l.datatype) (not (bytes_eq l.datatype lang_string)) h in
     typed_reads l.form l.datatype (iri_is l.datatype t.0) (unless _ t.1) ∙ (λ i. Ok (Literal (record { form = l.form; datatype = l.datatype; tag = sym none i })))
 
 literal_reads : (b : Bool) (l : LiteralParts) → (length l.tag == 0) ≡ b → cond b (is_typed l) (is_tagged l) ≡ true → term_in (cond b (untagged_data l.form l.datatype) (tagged_data l.form l.tag)) ≡ Ok (Literal l)
-literal_reads true l e h = untagged_reads (bytes_eq l.datatype string_datatype) l refl (no_tag l.tag e) h
+literal_reads true l e h = untagged_reads (bytes_eq l.datatype xsd_string) l refl (no_tag l.tag e) h
 literal_reads false l e h =
     let t = both (bytes_eq l.datatype lang_string && is_tag l.tag) (bytes_eq (map to_ascii_lowercase l.tag) l.tag) h in
     let u = both (bytes_eq l.datatype lang_string) (is_tag l.tag) t.0 in

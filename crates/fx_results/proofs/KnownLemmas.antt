@@ -8,7 +8,8 @@ use Rattle.std.specs.Str.{chars}
 use Rattle.std.proofs.lemmas.List.Elements.{recursion_from_All}
 use Rattle.std.proofs.lemmas.Slice.Eq.{bytes_eq-Decides}
 use Rattle.fx_terms.specs.Iris.{IsIri}
-use Rattle.fx_terms.specs.Literals.{LiteralParts, IsLiteral, lang_string, is_tag}
+use Rattle.fx_terms.specs.Datatypes.{lang_string}
+use Rattle.fx_terms.specs.Literals.{LiteralParts, IsLiteral, is_tag}
 use Rattle.fx_terms.specs.Names.{IsName, is_name, named}
 use Rattle.fx_terms.specs.Terms.{IsTerm}
 use Rattle.fx_terms.specs.declared.terms.Term.{Term}

@@ -14,13 +14,14 @@ use Rattle.serde_json.specs.View.{items_of}
 use Rattle.serde_json.specs.Written.{outline, items_outline, members_outline, compact_text}
 use Rattle.json.specs.Token.{Token}
 use Rattle.serde_json.proofs.Texts.{print-outline}
+use Rattle.fx_terms.specs.Datatypes.{xsd_string}
 use Rattle.fx_terms.specs.Texts.{text_cmp}
 use Rattle.fx_terms.specs.declared.terms.Term.{Term}
 use Rattle.fx_terms.specs.declared.terms.Term.TheVariants.{Iri, Literal}
 use Rattle.fx_algebra.specs.Solutions.{Bindings, rises}
 use Rattle.fx_algebra.specs.declared.answers.Answer.{Answer}
 use Rattle.fx_algebra.specs.declared.answers.Answer.TheVariants.{Table, Truth}
-use Rattle.fx_results.specs.Documents.{answer_data, term_data, untagged_data, tagged_data, plain_data, typed_data, row_members, row_data, string_datatype}
+use Rattle.fx_results.specs.Documents.{answer_data, term_data, untagged_data, tagged_data, plain_data, typed_data, row_members, row_data}
 use Rattle.fx_results.proofs.ReadingLemmas.{both}
 use Rattle.fx_results.proofs.Rows.{all_below, put-row_members, is_gt-text_cmp}
 
@@ -42,7 +43,7 @@ plain-choice true x y h g = h
 plain-choice false x y h g = g
 
 untagged_plain : (form datatype : List ℕ) → Plain (untagged_data form datatype) 1
-untagged_plain form datatype = plain-choice (bytes_eq datatype string_datatype) (plain_data form) (typed_data form datatype)
+untagged_plain form datatype = plain-choice (bytes_eq datatype xsd_string) (plain_data form) (typed_data form datatype)
     (record { numbers = (tt, (tt, tt)); back = refl; shallow = omega arith })
     (record { numbers = (tt, (tt, (tt, tt))); back = refl; shallow = omega arith })
 

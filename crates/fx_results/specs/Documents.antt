@@ -4,6 +4,7 @@ use Rattle.std.specs.Prelude.{ℕ, Bool, List, [], ◌∷◌, ◌==◌, length, 
 use Rattle.serde_json.specs.Data.{Data, Members, boolean, string, array, object, member, no_members}
 use Rattle.serde_json.specs.View.{items_of}
 use Rattle.serde_json.specs.Written.{compact_text}
+use Rattle.fx_terms.specs.Datatypes.{xsd_string}
 use Rattle.fx_terms.specs.Literals.{LiteralParts}
 use Rattle.fx_terms.specs.declared.terms.Term.{Term}
 use Rattle.fx_terms.specs.declared.terms.Term.TheVariants.{Iri, Literal}
@@ -38,13 +39,9 @@ tagged_data form tag = object_of ((codes "type", string (codes "literal")) ∷ (
 abbrev pub typed_data : List ℕ → List ℕ → Data
 typed_data form datatype = object_of ((codes "datatype", string datatype) ∷ (codes "type", string (codes "literal")) ∷ (codes "value", string form) ∷ [])
 
--- the datatype of plain literals
-abbrev pub string_datatype : List ℕ
-string_datatype = codes "http://www.w3.org/2001/XMLSchema#string"
-
--- a literal without a tag is plain where its datatype is that of plain literals
+-- a literal without a tag is plain where its datatype is xsd:string
 abbrev pub untagged_data : List ℕ → List ℕ → Data
-untagged_data form datatype = if bytes_eq datatype string_datatype then plain_data form else typed_data form datatype
+untagged_data form datatype = if bytes_eq datatype xsd_string then plain_data form else typed_data form datatype
 
 -- a literal without a tag has the empty tag
 abbrev pub literal_data : LiteralParts → Data

@@ -5,7 +5,8 @@ use Rattle.std.specs.List.{list_all}
 use Rattle.std.specs.Result.{is_ok}
 use Rattle.std.specs.Str.{IsUtf8, chars}
 use Rattle.fx_terms.specs.Iris.{read_iri}
-use Rattle.fx_terms.specs.Literals.{LiteralParts, lang_string, is_tag}
+use Rattle.fx_terms.specs.Datatypes.{lang_string}
+use Rattle.fx_terms.specs.Literals.{LiteralParts, is_tag}
 use Rattle.fx_terms.specs.Names.{is_name}
 use Rattle.fx_terms.specs.declared.terms.Term.{Term}
 use Rattle.fx_terms.specs.declared.terms.Term.TheVariants.{Iri, Literal}

@@ -8,7 +8,8 @@ use Rattle.serde_json.specs.Data.{Data, Items, no_items, item, Members, no_membe
 use Rattle.serde_json.specs.Find.{get, as_bool, as_str, as_array, as_object}
 use Rattle.serde_json.specs.Read.{read}
 use Rattle.fx_terms.specs.Iris.{read_iri}
-use Rattle.fx_terms.specs.Literals.{LiteralParts, plain, typed, tagged, lang_string}
+use Rattle.fx_terms.specs.Datatypes.{lang_string}
+use Rattle.fx_terms.specs.Literals.{LiteralParts, plain, typed, tagged}
 use Rattle.fx_terms.specs.Names.{read_name}
 use Rattle.fx_terms.specs.declared.terms.Term.{Term}
 use Rattle.fx_terms.specs.declared.terms.Term.TheVariants.{Iri, Literal}

@@ -6,12 +6,10 @@ ghost use Rattle.fx_terms.specs.Terms.{IsTerm};
 ghost use Rattle.fx_results.specs.Documents as spec;
 ghost use Rattle.fx_results.specs.Tokens.{data_tokens};
 
+use fx_terms::datatypes::XSD_STRING;
 use fx_terms::{Literal, Term};
 use json::Writer;
 use std::alloc::AllocError;
-
-// The datatype of plain literals.
-const STRING: &str = "http://www.w3.org/2001/XMLSchema#string";
 
 pub(crate) fn write_term(text: &mut Writer, term: &Term) -> Result<(), AllocError>
     ensures tokens { OnOk result (text.new.tokens ≡ text.old.tokens ++ data_tokens (spec.term_data term.now)) }
@@ -40,7 +38,7 @@ fn write_untagged(text: &mut Writer, form: &str, datatype: &str) -> Result<(), A
     ensures tokens { OnOk result (text.new.tokens ≡ text.old.tokens ++ data_tokens (spec.untagged_data form.now datatype.now)) }
     ensures before { OnOk result (text.new.before ≡ text.old.before) }
 {
-    if datatype == STRING {
+    if datatype == XSD_STRING {
         write_plain(text, form)
     } else {
         write_typed(text, form, datatype)

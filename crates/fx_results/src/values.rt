@@ -3,19 +3,17 @@ ghost use Rattle.std.specs.Prelude.{◌≡◌, Some, None, bytes_eq, codes, opti
 ghost use Rattle.std.specs.Option.{ok_or};
 ghost use Rattle.serde_json.specs.Find.{as_str};
 ghost use Rattle.serde_json.specs.View.{view};
-ghost use Rattle.fx_terms.specs.Literals.{lang_string};
+ghost use Rattle.fx_terms.specs.Datatypes.{lang_string};
 ghost use Rattle.fx_terms.specs.declared.terms.Term.TheVariants as term;
 ghost use Rattle.fx_results.specs.Answers.{AnswersResults};
 ghost use Rattle.fx_results.specs.Reading as spec;
 ghost use Rattle.fx_results.specs.declared.faults.ResultsError.TheVariants as error;
 
 use crate::faults::ResultsError;
+use fx_terms::datatypes::LANG_STRING;
 use fx_terms::{Iri, Literal, LiteralError, Term, TermError};
 use serde_json::Value;
 use std::alloc::Global;
-
-// The datatype of literals with a tag.
-const LANG_STRING: &str = "http://www.w3.org/1999/02/22-rdf-syntax-ns#langString";
 
 pub(crate) fn term_of(alloc: Global, value: &Value) -> Result<Term, ResultsError>
     ensures { AnswersResults result (spec.term_in (view value.now)) }

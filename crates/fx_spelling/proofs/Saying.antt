@@ -4,7 +4,8 @@ use Rattle.std.specs.Prelude.{◌==◌}
 use Rattle.std.specs.Str.{chars, bytes_eq}
 use Rattle.std.proofs.lemmas.Bool.{eqb-false}
 use Rattle.std.proofs.lemmas.List.Concat.{flat_map-append}
-use Rattle.fx_terms.specs.Literals.{LiteralParts, IsLiteral, xsd_string}
+use Rattle.fx_terms.specs.Datatypes.{xsd_string}
+use Rattle.fx_terms.specs.Literals.{LiteralParts, IsLiteral}
 use Rattle.fx_terms.specs.Terms.{IsTerm}
 use Rattle.fx_terms.specs.Writing.{written_form, written_iri, written_kind, written_term}
 use Rattle.fx_terms.specs.declared.terms.Term.{Term}

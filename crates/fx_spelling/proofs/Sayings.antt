@@ -1,7 +1,8 @@
 -- What tokens say: names are names, IRIs are IRIs, and texts are UTF-8.
 use Rattle.std.proofs.Common.{◌≡◌, ℕ, zero, suc, ◌+◌, ◌*◌, Bool, true, false, cond, List, [], ◌∷◌, length, map, drop, Option, Some, None, Ok, Err, Result, refl, ap, arith}
-use Rattle.std.specs.Prelude.{codes, ◌==◌, All, slice_range}
-use Rattle.std.specs.Char.{to_ascii_uppercase}
+use Rattle.std.specs.Prelude.{codes, ◌==◌, ◌||◌, All, slice_range}
+use Rattle.std.specs.Option.{unwrap_or}
+use Rattle.std.specs.Char.{digit_value, is_ascii_hexdigit, to_ascii_uppercase}
 use Rattle.std.specs.Str.{chars, IsUtf8, encode_utf8_all, bytes_eq}
 use Rattle.std.proofs.lemmas.Bool.{and_from, and_parts}
 use Rattle.std.proofs.lemmas.Bool.Decides.{nat_tests}
@@ -12,7 +13,6 @@ use Rattle.fx_terms.specs.Iris.{read_iri}
 use Rattle.fx_terms.specs.Names as names
 use Rattle.fx_terms.specs.declared.iris.TermError.{TermError}
 use Rattle.fx_tokens.specs.Classes as class
-use Rattle.fx_tokens.specs.Forms.{hex_value}
 use Rattle.fx_tokens.specs.Scan as scan
 use Rattle.fx_tokens.specs.Reads.{Reads, IsSlice}
 use Rattle.fx_tokens.specs.declared.Token as read
@@ -55,15 +55,16 @@ char_scalar n = go (class.is_scalar n) refl
     go false e = refl
 
 letter_scalar : (c : ℕ) → scalar c ≡ true → scalar (letter c) ≡ true
-letter_scalar c h = go (c == 116) (c == 98) (c == 110) (c == 114) (c == 102)
+letter_scalar c h = go (c == 116) (c == 98) (c == 110) (c == 114) (c == 102) (c == 34 || c == 39 || c == 92)
   where
-    go : (a b d e f : Bool) → scalar (cond a 9 (cond b 8 (cond d 10 (cond e 13 (cond f 12 c))))) ≡ true
-    go true b d e f = refl
-    go false true d e f = refl
-    go false false true e f = refl
-    go false false false true f = refl
-    go false false false false true = refl
-    go false false false false false = h
+    go : (a b d e f g : Bool) → scalar (unwrap_or (cond a (Some 9) (cond b (Some 8) (cond d (Some 10) (cond e (Some 13) (cond f (Some 12) (cond g (Some c) None)))))) c) ≡ true
+    go true b d e f g = refl
+    go false true d e f g = refl
+    go false false true e f g = refl
+    go false false false true f g = refl
+    go false false false false true g = refl
+    go false false false false false true = h
+    go false false false false false false = h
 
 abbrev RestScalars : Option (ℕ × List ℕ) → Type 0
 RestScalars None = Unit {0}
@@ -76,9 +77,9 @@ and_scalars (Some p) f h g = g p.0 p.1 h
 digit_scalars : (high : ℕ) (text : List ℕ) → scalars text ≡ true → RestScalars (scan.digit high text)
 unfolding scan.digit
 digit_scalars high [] h = tt
-digit_scalars high (c ∷ text) h = go (class.is_hex c)
+digit_scalars high (c ∷ text) h = go (is_ascii_hexdigit c)
   where
-    go : (b : Bool) → RestScalars (cond b (Some (high * 16 + hex_value c, text)) None)
+    go : (b : Bool) → RestScalars (cond b (Some (high * 16 + digit_value c, text)) None)
     go true = (and_parts (scalar c) (scalars text) h).1
     go false = tt
 

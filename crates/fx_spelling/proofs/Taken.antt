@@ -7,7 +7,8 @@ use Rattle.std.proofs.lemmas.Bool.{and_from}
 use Rattle.std.proofs.lemmas.Str.{IsUtf8-append, IsUtf8-from_ascii}
 use Rattle.fx_terms.specs.Names.{IsName}
 use Rattle.fx_terms.specs.Iris.{IsIri, read_iri, iri_after, iri_with_scheme, has_scheme}
-use Rattle.fx_terms.specs.Literals.{IsLiteral, plain, xsd_string, lang_string, is_tag}
+use Rattle.fx_terms.specs.Datatypes.{xsd_string, lang_string}
+use Rattle.fx_terms.specs.Literals.{IsLiteral, plain, is_tag}
 use Rattle.fx_terms.specs.Terms.{IsTerm}
 use Rattle.fx_terms.specs.declared.iris.TermError.{TermError}
 use Rattle.fx_terms.specs.declared.terms.Term.{Term}

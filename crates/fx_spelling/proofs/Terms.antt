@@ -7,7 +7,8 @@ use Rattle.std.specs.Char.{to_ascii_lowercase}
 use Rattle.std.specs.Cmp.Lexicographic.{same_text}
 use Rattle.std.proofs.lemmas.Bool.{eqb-true, eqb-false}
 use Rattle.std.proofs.lemmas.List.{nil_from_length}
-use Rattle.fx_terms.specs.Literals.{LiteralParts, IsLiteral, xsd_string, lang_string}
+use Rattle.fx_terms.specs.Datatypes.{xsd_string, lang_string}
+use Rattle.fx_terms.specs.Literals.{LiteralParts, IsLiteral}
 use Rattle.fx_terms.specs.declared.terms.Term.{Term}
 use Rattle.fx_terms.specs.declared.terms.Term.TheVariants.{Iri, Literal}
 use Rattle.fx_terms.specs.declared.patterns.Pattern.{Pattern}

@@ -5,7 +5,8 @@ use Rattle.std.specs.Str.{bytes_eq}
 use Rattle.std.specs.Fmt.{decimal}
 use Rattle.fx_terms.specs.Names.{IsName}
 use Rattle.fx_terms.specs.Terms.{IsTerm}
-use Rattle.fx_terms.specs.Literals.{LiteralParts, xsd_string}
+use Rattle.fx_terms.specs.Datatypes.{xsd_string}
+use Rattle.fx_terms.specs.Literals.{LiteralParts}
 use Rattle.fx_terms.specs.declared.terms.Term.{Term}
 use Rattle.fx_terms.specs.declared.terms.Term.TheVariants.{Iri, Literal}
 use Rattle.fx_terms.specs.Iris.{IsIri}

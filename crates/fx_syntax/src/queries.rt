@@ -7,13 +7,13 @@ ghost use Rattle.fx_readers.specs.Gives.{Gives};
 use crate::elements::Expressions;
 use crate::orders::modifiers;
 use fx_algebra::{Group, Query};
+use fx_blocks::opt_values;
 use fx_grammar::{Kind, Main, SyntaxKind, Token};
 use fx_groups::group;
 use fx_heads::{prologue, query_head};
 use fx_readers::{Fault, Prefixes, mark, refuse, sees};
 use fx_terms::Boxed;
 use fx_trees::queries::query_of;
-use fx_values::opt_values;
 use std::alloc::Global;
 
 #[tactic(auto, unfolding(fx_grammar::specs::Grammar::where_group, fx_grammar::specs::Grammar::whole_group))]

@@ -1,4 +1,6 @@
 pub mod Answers
+pub mod Datatypes
+pub mod Escapes
 pub mod Graphs
 pub mod Iris
 pub mod Literals

@@ -1,5 +1,5 @@
 -- Literals (RDF 1.1 Concepts 3.3), in this project's profile: a language tag is kept in lower case.
-use Rattle.std.specs.Prelude.{◌≡◌, ◌<◌, ℕ, Bool, true, false, List, [], ◌∷◌, map, length, not, codes, Result, Ok, Err, ◌&&◌, ◌||◌, ◌==◌, if◌then◌else◌}
+use Rattle.std.specs.Prelude.{◌≡◌, ◌<◌, ℕ, Bool, true, false, List, [], ◌∷◌, map, length, not, Result, Ok, Err, ◌&&◌, ◌||◌, ◌==◌, if◌then◌else◌}
 use Rattle.std.specs.List.{list_all, slice_split}
 use Rattle.std.specs.Str.{bytes_eq, IsUtf8}
 use Rattle.std.specs.Char.{to_ascii_lowercase}
@@ -7,6 +7,7 @@ use Rattle.std.specs.declared.cmp.Ordering.{Ordering}
 use Rattle.std.specs.Ordering.{on, then_cmp}
 use Rattle.std.specs.Cmp.{IsTotalOrder}
 use Rattle.std.proofs.lemmas.Cmp.{then_total, on_total}
+use Rattle.fx_terms.specs.Datatypes.{xsd_string, lang_string}
 use Rattle.fx_terms.specs.Texts.{text_cmp, texts_total}
 use Rattle.fx_terms.specs.Iris.{is_letter, is_digit, IsIri}
 use Rattle.fx_terms.specs.declared.literals.LiteralError.{LiteralError}
@@ -24,14 +25,6 @@ literal_cmp = then_cmp (on (λ l. l.form) text_cmp) (then_cmp (on (λ l. l.datat
 
 pub literals_total : IsTotalOrder literal_cmp
 literals_total = then_total (on_total (λ l. l.form) texts_total) (then_total (on_total (λ l. l.datatype) texts_total) (on_total (λ l. l.tag) texts_total))
-
--- the datatype of a literal that is written with neither a datatype nor a tag: xsd:string
-abbrev pub xsd_string : List ℕ
-xsd_string = codes "http://www.w3.org/2001/XMLSchema#string"
-
--- the datatype of a literal with a tag: rdf:langString
-abbrev pub lang_string : List ℕ
-lang_string = codes "http://www.w3.org/1999/02/22-rdf-syntax-ns#langString"
 
 abbrev pub is_dash : ℕ → Bool
 is_dash b = b == 45

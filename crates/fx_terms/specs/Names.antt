@@ -8,9 +8,23 @@ use Rattle.fx_terms.specs.declared.names.NameError.TheVariants.{BadName}
 abbrev pub is_between : ℕ → ℕ → ℕ → Bool
 is_between low high c = nat_le low c && nat_le c high
 
+-- PN_CHARS_BASE up to U+02FF: letters of Latin scripts
+abbrev pub is_latin : ℕ → Bool
+is_latin c = is_between 65 90 c || is_between 97 122 c || is_between 0xC0 0xD6 c || is_between 0xD8 0xF6 c || is_between 0xF8 0x2FF c
+
+-- PN_CHARS_BASE from U+0370 to the surrogates
+abbrev pub is_below_surrogates : ℕ → Bool
+is_below_surrogates c =
+    is_between 0x370 0x37D c || is_between 0x37F 0x1FFF c || is_between 0x200C 0x200D c
+    || is_between 0x2070 0x218F c || is_between 0x2C00 0x2FEF c || is_between 0x3001 0xD7FF c
+
+-- PN_CHARS_BASE above the surrogates
+abbrev pub is_above_surrogates : ℕ → Bool
+is_above_surrogates c = is_between 0xF900 0xFDCF c || is_between 0xFDF0 0xFFFD c || is_between 0x10000 0xEFFFF c
+
 -- PN_CHARS_BASE
 abbrev pub is_base_char : ℕ → Bool
-is_base_char c = is_between 65 90 c || is_between 97 122 c || is_between 0xC0 0xD6 c || is_between 0xD8 0xF6 c || is_between 0xF8 0x2FF c || is_between 0x370 0x37D c || is_between 0x37F 0x1FFF c || is_between 0x200C 0x200D c || is_between 0x2070 0x218F c || is_between 0x2C00 0x2FEF c || is_between 0x3001 0xD7FF c || is_between 0xF900 0xFDCF c || is_between 0xFDF0 0xFFFD c || is_between 0x10000 0xEFFFF c
+is_base_char c = is_latin c || is_below_surrogates c || is_above_surrogates c
 
 -- PN_CHARS_U or a digit
 abbrev pub is_name_start : ℕ → Bool

@@ -4,7 +4,8 @@ use Rattle.std.specs.List.{flat_map}
 use Rattle.std.specs.Str.{bytes_eq}
 use Rattle.fx_terms.specs.declared.terms.Term.{Term}
 use Rattle.fx_terms.specs.declared.terms.Term.TheVariants.{Iri, Literal}
-use Rattle.fx_terms.specs.Literals.{LiteralParts, xsd_string}
+use Rattle.fx_terms.specs.Datatypes.{xsd_string}
+use Rattle.fx_terms.specs.Literals.{LiteralParts}
 
 -- a byte of a form: " \ LF and CR as \" \\ \n and \r
 abbrev pub written_byte : ℕ → List ℕ

@@ -101,21 +101,18 @@ impl Iri {
     }
 }
 
-fn is_forbidden(b: u8) -> bool
-    ensures { result ≡ spec.is_forbidden b }
+/// Whether no IRI has the character of a code: one of `<>"{}|^`, backquote, backslash, and U+0000 to U+0020.
+pub fn is_forbidden(code: u32) -> bool
+    ensures { result ≡ spec.is_forbidden code }
 {
-    b <= b' '
-        || matches!(
-            b,
-            b'<' | b'>' | b'"' | b'{' | b'}' | b'|' | b'^' | b'`' | b'\\'
-        )
+    code <= 32 || matches!(code, 60 | 62 | 34 | 123 | 125 | 124 | 94 | 96 | 92)
 }
 
 fn first_forbidden(bytes: &[u8]) -> Option<usize>
     ensures first { result ≡ position spec.is_forbidden bytes.now }
     ensures small { IfSome result (λ place. place < 2 ^ 64) }
 {
-    bytes.iter().position(|b| is_forbidden(*b))
+    bytes.iter().position(|b| is_forbidden(*b as u32))
 }
 
 fn is_scheme_byte(b: u8) -> bool

@@ -4,6 +4,8 @@
 #![tactic(auto)]
 
 pub mod allocation;
+pub mod datatypes;
+pub mod escapes;
 pub mod graphs;
 pub mod iris;
 pub mod literals;

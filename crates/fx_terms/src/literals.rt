@@ -6,6 +6,7 @@ ghost use Rattle.fx_terms.specs.Answers.{AnswersLiteral};
 ghost use Rattle.fx_terms.specs.Literals as spec;
 
 use crate::allocation::Memory;
+use crate::datatypes::{LANG_STRING, XSD_STRING};
 use crate::iris::Iri;
 use std::alloc::{AllocError, Global};
 use std::cmp::Ordering;
@@ -44,12 +45,6 @@ impl From<Memory> for LiteralError {
         LiteralError::Memory
     }
 }
-
-/// The datatype of a literal that is written with neither a datatype nor a tag.
-const XSD_STRING: &str = "http://www.w3.org/2001/XMLSchema#string";
-
-/// The datatype of a literal with a language tag.
-const LANG_STRING: &str = "http://www.w3.org/1999/02/22-rdf-syntax-ns#langString";
 
 /// A literal (RDF 1.1 Concepts 3.3): a lexical form, a datatype, and a language tag exactly where the datatype is
 /// rdf:langString. Contracts see the bytes of these parts, and a literal without a tag as one with the empty tag.

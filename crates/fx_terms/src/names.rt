@@ -82,22 +82,41 @@ impl Name {
     }
 }
 
-fn is_base_char(c: char) -> bool
-    ensures { result ≡ spec.is_base_char c }
+fn is_latin(c: char) -> bool
+    ensures { result ≡ spec.is_latin c }
 {
-    matches!(c, 'A'..='Z' | 'a'..='z' | '\u{C0}'..='\u{D6}' | '\u{D8}'..='\u{F6}' | '\u{F8}'..='\u{2FF}'
-        | '\u{370}'..='\u{37D}' | '\u{37F}'..='\u{1FFF}' | '\u{200C}'..='\u{200D}' | '\u{2070}'..='\u{218F}'
-        | '\u{2C00}'..='\u{2FEF}' | '\u{3001}'..='\u{D7FF}' | '\u{F900}'..='\u{FDCF}' | '\u{FDF0}'..='\u{FFFD}'
-        | '\u{10000}'..='\u{EFFFF}')
+    matches!(c, 'A'..='Z' | 'a'..='z' | '\u{C0}'..='\u{D6}' | '\u{D8}'..='\u{F6}' | '\u{F8}'..='\u{2FF}')
 }
 
-fn is_name_start(c: char) -> bool
+fn is_below_surrogates(c: char) -> bool
+    ensures { result ≡ spec.is_below_surrogates c }
+{
+    matches!(c, '\u{370}'..='\u{37D}' | '\u{37F}'..='\u{1FFF}' | '\u{200C}'..='\u{200D}' | '\u{2070}'..='\u{218F}'
+        | '\u{2C00}'..='\u{2FEF}' | '\u{3001}'..='\u{D7FF}')
+}
+
+fn is_above_surrogates(c: char) -> bool
+    ensures { result ≡ spec.is_above_surrogates c }
+{
+    matches!(c, '\u{F900}'..='\u{FDCF}' | '\u{FDF0}'..='\u{FFFD}' | '\u{10000}'..='\u{EFFFF}')
+}
+
+/// Whether a character is of PN_CHARS_BASE (SPARQL 1.1 section 19.8).
+pub fn is_base_char(c: char) -> bool
+    ensures { result ≡ spec.is_base_char c }
+{
+    is_latin(c) || is_below_surrogates(c) || is_above_surrogates(c)
+}
+
+/// Whether a character is of PN_CHARS_U or a digit.
+pub fn is_name_start(c: char) -> bool
     ensures { result ≡ spec.is_name_start c }
 {
     is_base_char(c) || c == '_' || c.is_ascii_digit()
 }
 
-fn is_name_char(c: char) -> bool
+/// Whether a character may stand in a VARNAME behind its first.
+pub fn is_name_char(c: char) -> bool
     ensures { result ≡ spec.is_name_char c }
 {
     is_name_start(c)

@@ -5,15 +5,13 @@ ghost use Rattle.std.specs.List.{flat_map};
 ghost use Rattle.fx_terms.specs.Writing as spec;
 ghost use Rattle.fx_terms.specs.Answers.{Grows};
 ghost use Rattle.std.specs.Str.{bytes_eq};
-ghost use Rattle.fx_terms.specs.Literals.{xsd_string};
+ghost use Rattle.fx_terms.specs.Datatypes.{xsd_string};
 
 use crate::allocation::Memory;
+use crate::datatypes::XSD_STRING;
 use crate::iris::Iri;
 use crate::literals::Literal;
 use crate::terms::Term;
-
-/// The datatype that is not written.
-const XSD_STRING: &str = "http://www.w3.org/2001/XMLSchema#string";
 
 /// An IRI between `<` and `>` is written at the end of a text.
 pub fn write_iri(out: &mut String, iri: &Iri) -> Result<(), Memory>

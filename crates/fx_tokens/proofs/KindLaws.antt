@@ -1,15 +1,17 @@
 -- Each reader finds the longest token of its kind.
 use Rattle.std.proofs.Common.{◌≡◌, ℕ, zero, suc, ◌+◌, ◌*◌, ◌<◌, ◌≤◌, Bool, true, false, cond, ◌&&◌, ◌||◌, List, [], ◌∷◌, ◌++◌, length, Option, Some, None, refl, sym, ap, ◌∙◌, subst, arith, append_assoc, append-nil, length-append, inl, inr, ◌⊎◌}
 use Rattle.std.specs.Prelude.{◌==◌}
+use Rattle.std.specs.Char.{digit_value, is_ascii_hexdigit}
 use Rattle.std.specs.List.{list_all}
 use Rattle.std.proofs.lemmas.Bool.{eqb-true}
+use Rattle.fx_terms.specs.Escapes.{hex_value}
 use Rattle.fx_terms.specs.Names.{is_base_char, is_name_start, is_name_char}
 use Rattle.fx_tokens.specs.Answers.{width}
 use Rattle.fx_tokens.specs.Classes as class
-use Rattle.fx_tokens.specs.Forms.{One, Then, Repeat, none, more, Either, Maybe, AtLeastOne, Hex, hex_number, hex_value}
+use Rattle.fx_tokens.specs.Forms.{One, Then, Repeat, none, more, Either, Maybe, AtLeastOne, Hex}
 use Rattle.fx_tokens.specs.Kinds as kind
-use Rattle.fx_tokens.specs.declared.classes.Quote.{Quote}
-use Rattle.fx_tokens.specs.declared.classes.Quote.TheVariants.{Single, Double}
+use Rattle.fx_tokens.specs.declared.classes.QuoteMark.{QuoteMark}
+use Rattle.fx_tokens.specs.declared.classes.QuoteMark.TheVariants.{Single, Double}
 use Rattle.fx_tokens.specs.declared.TokenKind.{TokenKind}
 use Rattle.fx_tokens.specs.declared.TokenKind.TheVariants as token
 use Rattle.fx_tokens.specs.declared.kinds.Part.{Part}
@@ -65,38 +67,38 @@ and_true : (a b : Bool) → (a && b) ≡ true → (a ≡ true) × (b ≡ true)
 and_true true b e = (refl, e)
 and_true false b e = absurd (cc)
 
-hexes_whole : (n high : ℕ) (front back : List ℕ) → length front ≡ n → list_all class.is_hex front ≡ true → scan.hexes n high (front ++ back) ≡ Some (hex_number high front, back)
+hexes_whole : (n high : ℕ) (front back : List ℕ) → length front ≡ n → list_all is_ascii_hexdigit front ≡ true → scan.hexes n high (front ++ back) ≡ Some (hex_value high front, back)
 unfolding scan.hexes scan.digit
 hexes_whole zero high [] back long hex = refl
 hexes_whole zero high (c ∷ front) back long hex = absurd (omega (arith, long))
 hexes_whole (suc n) high [] back long hex = absurd (omega (arith, long))
 hexes_whole (suc n) high (c ∷ front) back long hex =
-    let h = and_true (class.is_hex c) (list_all class.is_hex front) hex in
-    ap (λ b. scan.and_number (cond b (Some (high * 16 + hex_value c, front ++ back)) None) (scan.hexes n)) h.0 ∙ hexes_whole n (high * 16 + hex_value c) front back (omega (arith, long)) h.1
+    let h = and_true (is_ascii_hexdigit c) (list_all is_ascii_hexdigit front) hex in
+    ap (λ b. scan.and_number (cond b (Some (high * 16 + digit_value c, front ++ back)) None) (scan.hexes n)) h.0 ∙ hexes_whole n (high * 16 + digit_value c) front back (omega (arith, long)) h.1
 
 abbrev FoundHex : ℕ → ℕ → List ℕ → Option (ℕ × List ℕ) → Type 0
 FoundHex n high text None = Unit {0}
-FoundHex n high text (Some p) = (front : List ℕ) × (text ≡ front ++ p.1) × (length front ≡ n) × (list_all class.is_hex front ≡ true) × (hex_number high front ≡ p.0)
+FoundHex n high text (Some p) = (front : List ℕ) × (text ≡ front ++ p.1) × (length front ≡ n) × (list_all is_ascii_hexdigit front ≡ true) × (hex_value high front ≡ p.0)
 
-hex_more : (n high c : ℕ) (text : List ℕ) (x : Option (ℕ × List ℕ)) → class.is_hex c ≡ true → FoundHex n (high * 16 + hex_value c) text x → FoundHex (suc n) high (c ∷ text) x
+hex_more : (n high c : ℕ) (text : List ℕ) (x : Option (ℕ × List ℕ)) → is_ascii_hexdigit c ≡ true → FoundHex n (high * 16 + digit_value c) text x → FoundHex (suc n) high (c ∷ text) x
 hex_more n high c text None h f = tt
 hex_more n high c text (Some p) h f = (c ∷ f.0, ap (λ v. c ∷ v) f.1, omega (arith, f.2), rw h f.3, f.4)
 
-hex_turn : (n high c : ℕ) (text : List ℕ) (b : Bool) → class.is_hex c ≡ b → FoundHex n (high * 16 + hex_value c) text (scan.hexes n (high * 16 + hex_value c) text)
-    → FoundHex (suc n) high (c ∷ text) (scan.and_number (cond b (Some (high * 16 + hex_value c, text)) None) (scan.hexes n))
-hex_turn n high c text true e f = hex_more n high c text (scan.hexes n (high * 16 + hex_value c) text) e f
+hex_turn : (n high c : ℕ) (text : List ℕ) (b : Bool) → is_ascii_hexdigit c ≡ b → FoundHex n (high * 16 + digit_value c) text (scan.hexes n (high * 16 + digit_value c) text)
+    → FoundHex (suc n) high (c ∷ text) (scan.and_number (cond b (Some (high * 16 + digit_value c, text)) None) (scan.hexes n))
+hex_turn n high c text true e f = hex_more n high c text (scan.hexes n (high * 16 + digit_value c) text) e f
 hex_turn n high c text false e f = tt
 
 hexes_found : (n high : ℕ) (text : List ℕ) → FoundHex n high text (scan.hexes n high text)
 unfolding scan.hexes scan.digit
 hexes_found zero high text = ([], refl, refl, refl, refl)
 hexes_found (suc n) high [] = tt
-hexes_found (suc n) high (c ∷ text) = hex_turn n high c text (class.is_hex c) refl (hexes_found n (high * 16 + hex_value c) text)
+hexes_found (suc n) high (c ∷ text) = hex_turn n high c text (is_ascii_hexdigit c) refl (hexes_found n (high * 16 + digit_value c) text)
 
 abbrev hex : (ℕ → Bool) → ℕ → List ℕ → Option (List ℕ)
 hex fits count text = scan.fitting fits (scan.hexes count 0 text)
 
-hex_fits : (fits : ℕ → Bool) (count : ℕ) (text front rest : List ℕ) (b : Bool) → fits (hex_number 0 front) ≡ b → text ≡ front ++ rest → length front ≡ count → list_all class.is_hex front ≡ true → Found (Hex fits count) text (cond b (Some rest) None)
+hex_fits : (fits : ℕ → Bool) (count : ℕ) (text front rest : List ℕ) (b : Bool) → fits (hex_value 0 front) ≡ b → text ≡ front ++ rest → length front ≡ count → list_all is_ascii_hexdigit front ≡ true → Found (Hex fits count) text (cond b (Some rest) None)
 hex_fits fits count text front rest true e f g h = (front, f, record { long = g; digits = h; passes = e })
 hex_fits fits count text front rest false e f g h = tt
 
@@ -257,10 +259,10 @@ blank_best text = best_then (unit_one (class.is 95)) (best_then (unit_one (class
 
 local_escape_unit : IsUnit kind.LocalEscape scan.local_escape
 unfolding scan.local_escape
-local_escape_unit = unit_or (class.is 37) (unit_then (unit_one class.is_hex) (unit_one class.is_hex)) (unit_then (unit_one (class.is 92)) (unit_one class.is_local_escape)) (apart_then (class.is 37) (class.is 92) (One class.is_local_escape) (char_apart (class.is 37) 92 refl))
+local_escape_unit = unit_or (class.is 37) (unit_then (unit_one is_ascii_hexdigit) (unit_one is_ascii_hexdigit)) (unit_then (unit_one (class.is 92)) (unit_one class.is_local_escape)) (apart_then (class.is 37) (class.is 92) (One class.is_local_escape) (char_apart (class.is 37) 92 refl))
 
 escape_apart : (p : ℕ → Bool) → p 37 ≡ false → p 92 ≡ false → (front back : List ℕ) → kind.LocalEscape front → scan.one p (front ++ back) ≡ None
-escape_apart p e f front back h = elim h [ inl x ↦ apart_then p (class.is 37) (Then (One class.is_hex) (One class.is_hex)) (char_apart p 37 e) front back x | inr y ↦ apart_then p (class.is 92) (One class.is_local_escape) (char_apart p 92 f) front back y ]
+escape_apart p e f front back h = elim h [ inl x ↦ apart_then p (class.is 37) (Then (One is_ascii_hexdigit) (One is_ascii_hexdigit)) (char_apart p 37 e) front back x | inr y ↦ apart_then p (class.is 92) (One class.is_local_escape) (char_apart p 92 f) front back y ]
 
 local_start_unit : IsUnit (Either (One class.is_local_start) kind.LocalEscape) scan.local_start
 unfolding scan.local_start
@@ -422,11 +424,11 @@ tag_best text = best_then (unit_one (class.is 64)) (best_then (unit_one class.is
 
 -- ---- the parts that the code repeats
 
-is_quote : (q : Quote) → IsQuote (class.quote q)
+is_quote : (q : QuoteMark) → IsQuote (class.quote q)
 is_quote Single = single
 is_quote Double = double
 
-pub text_unit : (q : Quote) → IsUnit (kind.TextPart (class.quote q)) (scan.text_part (class.quote q))
+pub text_unit : (q : QuoteMark) → IsUnit (kind.TextPart (class.quote q)) (scan.text_part (class.quote q))
 text_unit q = text_part_unit (class.quote q) (is_quote q).plain
 
 abbrev pub form_of : Part → List ℕ → Type 0

@@ -77,12 +77,12 @@ or_false : (a b : Bool) → (a || b) ≡ false → (a ≡ false) × (b ≡ false
 or_false true b e = absurd (cc)
 or_false false b e = (refl, e)
 
-begins_with : (text : List ℕ) (c : ℕ) (rest : List ℕ) → text ≡ c ∷ rest → BeginsToken text → (class.is_blank c ≡ false) × ((c == 35) ≡ false)
-begins_with text c rest e h = or_false (class.is_blank c) (c == 35) (subst BeginsToken e h)
+begins_with : (text : List ℕ) (c : ℕ) (rest : List ℕ) → text ≡ c ∷ rest → BeginsToken text → (class.is_white_space c ≡ false) × ((c == 35) ≡ false)
+begins_with text c rest e h = or_false (class.is_white_space c) (c == 35) (subst BeginsToken e h)
 
 -- ---- each way to read leaves no other
 
-no_blank : (text : List ℕ) (c : ℕ) (rest : List ℕ) → text ≡ c ∷ rest → class.is_blank c ≡ true → BeginsToken text → ⊥
+no_blank : (text : List ℕ) (c : ℕ) (rest : List ℕ) → text ≡ c ∷ rest → class.is_white_space c ≡ true → BeginsToken text → ⊥
 no_blank text c rest e h b = let f = (begins_with text c rest e b).0 in absurd (cc (h, f))
 
 no_comment : (text rest : List ℕ) → text ≡ 35 ∷ rest → BeginsToken text → ⊥
@@ -91,8 +91,8 @@ no_comment text rest e b = let f = (begins_with text 35 rest e b).1 in absurd (c
 nothing_begins : (text : List ℕ) → text ≡ [] → BeginsToken text → ⊥
 nothing_begins text e b = subst BeginsToken e b
 
-blank_comment : (text : List ℕ) (c : ℕ) (rest behind : List ℕ) → text ≡ c ∷ rest → class.is_blank c ≡ true → text ≡ 35 ∷ behind → ⊥
-blank_comment text c rest behind e h f = let same : c ≡ 35 = cc (e, f) in let g : class.is_blank c ≡ false = ap class.is_blank same in absurd (cc (h, g))
+blank_comment : (text : List ℕ) (c : ℕ) (rest behind : List ℕ) → text ≡ c ∷ rest → class.is_white_space c ≡ true → text ≡ 35 ∷ behind → ⊥
+blank_comment text c rest behind e h f = let same : c ≡ 35 = cc (e, f) in let g : class.is_white_space c ≡ false = ap class.is_white_space same in absurd (cc (h, g))
 
 only_ends : (at : ℕ) (text : List ℕ) (a b : Answer) → text ≡ [] → a ≡ Ok [] → Reads at text b → a ≡ b
 only_ends at text a b e f (ends g h) = f ∙ sym h
@@ -101,7 +101,7 @@ only_ends at text a b e f (comment body rest g h i r) = absurd (cc (e, g))
 only_ends at text a b e f (token k front rest further g h r i) = absurd (nothing_begins text e g)
 only_ends at text a b e f (fault error g h i j) = absurd (nothing_begins text e g)
 
-only_blank : (at : ℕ) (text : List ℕ) (a b : Answer) (c : ℕ) (rest : List ℕ) → text ≡ c ∷ rest → class.is_blank c ≡ true → ((b : Answer) → Reads (at + width (c ∷ [])) rest b → a ≡ b) → Reads at text b → a ≡ b
+only_blank : (at : ℕ) (text : List ℕ) (a b : Answer) (c : ℕ) (rest : List ℕ) → text ≡ c ∷ rest → class.is_white_space c ≡ true → ((b : Answer) → Reads (at + width (c ∷ [])) rest b → a ≡ b) → Reads at text b → a ≡ b
 only_blank at text a b c rest e f same (ends g h) = absurd (cc (e, g))
 only_blank at text a b c rest e f same (blank d behind g h r) =
     let first : d ≡ c = cc (e, g) in

@@ -11,7 +11,7 @@ use Rattle.fx_tokens.specs.declared.TokenKind.{TokenKind}
 use Rattle.fx_tokens.specs.declared.TokenError.{TokenError}
 use Rattle.fx_tokens.specs.declared.TokenError.TheVariants.{Bad, Memory}
 use Rattle.fx_tokens.specs.declared.TokenFault.TheVariants.{Character, Escape, Unclosed}
-use Rattle.fx_tokens.specs.declared.classes.Quote.{Quote}
+use Rattle.fx_tokens.specs.declared.classes.QuoteMark.{QuoteMark}
 use Rattle.fx_tokens.proofs.Readers.{unit_one, step, skip_found, skip_stops, width_append, width_behind}
 use Rattle.fx_tokens.proofs.KindLaws.{text_unit}
 use Rattle.fx_tokens.proofs.Longest.{longest_some, longest_none}
@@ -37,12 +37,12 @@ unfolding scan.one
 backslash_none [] e = refl
 backslash_none (c ∷ text) e = no_backslash (class.is 92) c text (class.is 92 c) refl e
 
-pub text_rest_within : (q : Quote) (place size : ℕ) (text rest : List ℕ) → place + width (class.quote q ∷ text) ≡ size → rest ≡ scan.skip (scan.text_part (class.quote q)) text → width rest ≤ size
+pub text_rest_within : (q : QuoteMark) (place size : ℕ) (text rest : List ℕ) → place + width (class.quote q ∷ text) ≡ size → rest ≡ scan.skip (scan.text_part (class.quote q)) text → width rest ≤ size
 text_rest_within q place size text rest e f =
     let g = skip_found (step (text_unit q)) text in
     omega (arith, e, ap width f, width_behind text g.0 (scan.skip (scan.text_part (class.quote q)) text) g.1, width_behind (class.quote q ∷ text) (class.quote q ∷ []) text refl)
 
-pub bad_text : (q : Quote) (place size : ℕ) (text rest : List ℕ) (error : TokenError) → place + width (class.quote q ∷ text) ≡ size → rest ≡ scan.skip (scan.text_part (class.quote q)) text
+pub bad_text : (q : QuoteMark) (place size : ℕ) (text rest : List ℕ) (error : TokenError) → place + width (class.quote q ∷ text) ≡ size → rest ≡ scan.skip (scan.text_part (class.quote q)) text
     → error ≡ cond (begins_backslash rest) (Bad (size - width rest) Escape) (Bad place Unclosed) → BadText place (class.quote q) text error
 bad_text q place size text rest error e f why =
     let read = scan.text_part (class.quote q) in
@@ -59,12 +59,12 @@ bad_text q place size text rest error e f why =
       why = why ∙ ap (λ (n : ℕ). cond (begins_backslash rest) (Bad n Escape) (Bad place Unclosed)) at;
     }
 
-pub bad_escape : (q : Quote) (place size n : ℕ) (text rest behind : List ℕ) → place + width (class.quote q ∷ text) ≡ size → rest ≡ scan.skip (scan.text_part (class.quote q)) text → n ≡ width rest → Some behind ≡ scan.one (class.is 92) rest
+pub bad_escape : (q : QuoteMark) (place size n : ℕ) (text rest behind : List ℕ) → place + width (class.quote q ∷ text) ≡ size → rest ≡ scan.skip (scan.text_part (class.quote q)) text → n ≡ width rest → Some behind ≡ scan.one (class.is 92) rest
     → BadText place (class.quote q) text (Bad (size - n) Escape)
 bad_escape q place size n text rest behind e f w b =
     bad_text q place size text rest (Bad (size - n) Escape) e f (ap (λ (m : ℕ). Bad (size - m) Escape) w ∙ ap (λ (t : Bool). cond t (Bad (size - width rest) Escape) (Bad place Unclosed)) (sym (backslash_some rest behind (sym b))))
 
-pub bad_unclosed : (q : Quote) (place size : ℕ) (text rest : List ℕ) → place + width (class.quote q ∷ text) ≡ size → rest ≡ scan.skip (scan.text_part (class.quote q)) text → None ≡ scan.one (class.is 92) rest
+pub bad_unclosed : (q : QuoteMark) (place size : ℕ) (text rest : List ℕ) → place + width (class.quote q ∷ text) ≡ size → rest ≡ scan.skip (scan.text_part (class.quote q)) text → None ≡ scan.one (class.is 92) rest
     → BadText place (class.quote q) text (Bad place Unclosed)
 bad_unclosed q place size text rest e f b =
     bad_text q place size text rest (Bad place Unclosed) e f (ap (λ (t : Bool). cond t (Bad (size - width rest) Escape) (Bad place Unclosed)) (sym (backslash_none rest (sym b))))
@@ -88,7 +88,7 @@ no_quote c f g = go (c == 39) (c == 34) refl refl
 place_behind : (size : ℕ) (text front rest : List ℕ) → text ≡ front ++ rest → width text ≤ size → size - width text + width front ≡ size - width rest
 place_behind size text front rest e h = omega (arith, h, ap width e, width_append front rest)
 
-pub blank_turn : (size : ℕ) (text : List ℕ) (c : ℕ) (rest : List ℕ) (answer : Result (List Token) TokenError) → text ≡ c ∷ rest → class.is_blank c ≡ true → width text ≤ size
+pub blank_turn : (size : ℕ) (text : List ℕ) (c : ℕ) (rest : List ℕ) (answer : Result (List Token) TokenError) → text ≡ c ∷ rest → class.is_white_space c ≡ true → width text ≤ size
     → Reads (size - width rest) rest answer → Reads (size - width text) text answer
 blank_turn size text c rest answer e h within reads =
     blank c rest e h (subst (λ (n : ℕ). Reads n rest answer) (sym (place_behind size text (c ∷ []) rest e within)) reads)
@@ -120,8 +120,8 @@ rest_smaller text behind rest c e f =
     let g = skip_found (step (unit_one class.is_in_line)) behind in
     omega (arith, ap (λ (v : List ℕ). length v) (g.1 ∙ ap (λ v. g.0 ++ v) (sym f)), length-append g.0 rest, ap (λ (v : List ℕ). length v) e)
 
-pub begins_token : (text : List ℕ) (c : ℕ) (rest : List ℕ) → text ≡ c ∷ rest → class.is_blank c ≡ false → (c ≡ 35 → ⊥) → BeginsToken text
-begins_token text c rest e f g = subst BeginsToken (sym e) (go (class.is_blank c) (c == 35) f refl)
+pub begins_token : (text : List ℕ) (c : ℕ) (rest : List ℕ) → text ≡ c ∷ rest → class.is_white_space c ≡ false → (c ≡ 35 → ⊥) → BeginsToken text
+begins_token text c rest e f g = subst BeginsToken (sym e) (go (class.is_white_space c) (c == 35) f refl)
   where
     go : (x y : Bool) → x ≡ false → (c == 35) ≡ y → (x || y) ≡ false
     go true y h k = absurd (cc)

@@ -11,8 +11,8 @@ abbrev pub width : List ℕ → ℕ
 width text = length (encode_utf8_all text)
 
 -- the characters of the text that is left
-abbrev pub left : Option (Bor (List ℕ)) → Option (List ℕ)
-left rest = option_map (λ text. chars text.now) rest
+abbrev pub chars_left : Option (Bor (List ℕ)) → Option (List ℕ)
+chars_left rest = option_map (λ text. chars text.now) rest
 
 -- a number, and the characters of the text behind it
 abbrev pub left_number : Option (ℕ × Bor (List ℕ)) → Option (ℕ × List ℕ)

@@ -1,27 +1,19 @@
 -- Classes of characters: the productions 139 to 173 of SPARQL 1.1 section 19.8 that are one character long.
-use Rattle.std.specs.Prelude.{ℕ, Bool, not, ◌&&◌, ◌||◌, ◌==◌, nat_le}
+use Rattle.std.specs.Prelude.{ℕ, Bool, not, ◌&&◌, ◌||◌, ◌==◌, nat_le, is_some}
+use Rattle.std.specs.Char.{is_ascii_hexdigit}
+use Rattle.fx_terms.specs.Escapes.{letter_escape}
+pub use Rattle.fx_terms.specs.Iris.{is_digit, is_letter}
+use Rattle.fx_terms.specs.Iris.{is_forbidden}
+pub use Rattle.fx_terms.specs.Literals.{is_letter_or_digit}
 use Rattle.fx_terms.specs.Names.{is_between, is_base_char, is_name_start, is_name_char}
 use Rattle.fx_tokens.specs.declared.classes.Class.{Class}
 use Rattle.fx_tokens.specs.declared.classes.Class.TheVariants as class
-use Rattle.fx_tokens.specs.declared.classes.Quote.{Quote}
-use Rattle.fx_tokens.specs.declared.classes.Quote.TheVariants.{Single, Double}
+use Rattle.fx_tokens.specs.declared.classes.QuoteMark.{QuoteMark}
+use Rattle.fx_tokens.specs.declared.classes.QuoteMark.TheVariants.{Single, Double}
 
 -- this character
 abbrev pub is : ℕ → ℕ → Bool
 is a c = c == a
-
-abbrev pub is_digit : ℕ → Bool
-is_digit c = is_between 48 57 c
-
--- HEX
-abbrev pub is_hex : ℕ → Bool
-is_hex c = is_digit c || (is_between 65 70 c || is_between 97 102 c)
-
-abbrev pub is_letter : ℕ → Bool
-is_letter c = is_between 65 90 c || is_between 97 122 c
-
-abbrev pub is_letter_or_digit : ℕ → Bool
-is_letter_or_digit c = is_letter c || is_digit c
 
 abbrev pub is_word_char : ℕ → Bool
 is_word_char c = is_letter_or_digit c || c == 95
@@ -56,12 +48,9 @@ is_exponent c = c == 101 || c == 69
 abbrev pub is_scalar : ℕ → Bool
 is_scalar c = nat_le c 0x10FFFF && not (is_between 0xD800 0xDFFF c)
 
--- < > " { } | ^ ` \ and U+0000 to U+0020 may not stand in an IRI
-abbrev pub is_forbidden_in_iri : ℕ → Bool
-is_forbidden_in_iri c = nat_le c 32 || (c == 60 || (c == 62 || (c == 34 || (c == 123 || (c == 125 || (c == 124 || (c == 94 || (c == 96 || c == 92))))))))
-
+-- what may stand in an IRI
 abbrev pub is_iri_char : ℕ → Bool
-is_iri_char c = not (is_forbidden_in_iri c)
+is_iri_char c = not (is_forbidden c)
 
 -- a character of the text that an IRI may hold
 abbrev pub is_iri_scalar : ℕ → Bool
@@ -69,7 +58,7 @@ is_iri_scalar c = is_scalar c && is_iri_char c
 
 -- ECHAR's character behind the backslash: t b n r f " ' \
 abbrev pub is_escape_letter : ℕ → Bool
-is_escape_letter c = c == 116 || (c == 98 || (c == 110 || (c == 114 || (c == 102 || (c == 34 || (c == 39 || c == 92))))))
+is_escape_letter c = is_some (letter_escape c)
 
 -- LF and CR
 abbrev pub is_line_end : ℕ → Bool
@@ -80,10 +69,10 @@ abbrev pub is_in_line : ℕ → Bool
 is_in_line c = not (is_line_end c)
 
 -- WS
-abbrev pub is_blank : ℕ → Bool
-is_blank c = c == 32 || (c == 9 || is_line_end c)
+abbrev pub is_white_space : ℕ → Bool
+is_white_space c = c == 32 || (c == 9 || is_line_end c)
 
-abbrev pub quote : Quote → ℕ
+abbrev pub quote : QuoteMark → ℕ
 quote Single = 39
 quote Double = 34
 
@@ -117,7 +106,7 @@ holds class.PartChar = is_part_char
 holds class.LocalStart = is_local_start
 holds class.LocalChar = is_local_char
 holds class.LocalEscape = is_local_escape
-holds class.HexDigit = is_hex
+holds class.HexDigit = is_ascii_hexdigit
 holds class.VariableMark = is_variable_mark
 holds class.Sign = is_sign
 holds class.Exponent = is_exponent

@@ -1,7 +1,8 @@
 -- Forms of texts, as a grammar writes them. A text is the list of its characters.
-use Rattle.std.specs.Prelude.{◌≡◌, ℕ, ◌+◌, ◌*◌, ◌-◌, Bool, true, List, [], ◌∷◌, ◌++◌, ◌⊎◌, length, nat_le, if◌then◌else◌}
+use Rattle.std.specs.Prelude.{◌≡◌, ℕ, Bool, true, List, [], ◌∷◌, ◌++◌, ◌⊎◌, length}
 use Rattle.std.specs.List.{list_all}
-use Rattle.fx_tokens.specs.Classes.{is_hex}
+use Rattle.std.specs.Char.{is_ascii_hexdigit}
+use Rattle.fx_terms.specs.Escapes.{hex_value}
 
 -- one character of a class
 pub record One (class : ℕ → Bool) (text : List ℕ) : Type 0 where
@@ -34,17 +35,8 @@ Maybe a text = (text ≡ []) ⊎ a text
 abbrev pub AtLeastOne : (List ℕ → Type 0) → List ℕ → Type 0
 AtLeastOne a = Then a (Repeat a)
 
--- the value of a hexadecimal digit
-abbrev pub hex_value : ℕ → ℕ
-hex_value c = if nat_le c 57 then c - 48 else (if nat_le c 70 then c - 55 else c - 87)
-
--- the number that hexadecimal digits spell, behind digits that spell another
-abbrev pub hex_number : ℕ → List ℕ → ℕ
-hex_number high [] = high
-hex_number high (c ∷ digits) = hex_number (high * 16 + hex_value c) digits
-
 -- so many hexadecimal digits, whose number passes a test
 pub record Hex (fits : ℕ → Bool) (count : ℕ) (text : List ℕ) : Type 0 where
   pub long : length text ≡ count
-  pub digits : list_all is_hex text ≡ true
-  pub passes : fits (hex_number 0 text) ≡ true
+  pub digits : list_all is_ascii_hexdigit text ≡ true
+  pub passes : fits (hex_value 0 text) ≡ true

@@ -1,5 +1,6 @@
 -- Which texts are tokens of a kind (SPARQL 1.1 section 19.8, and section 19.7 for escapes).
 use Rattle.std.specs.Prelude.{ℕ, Bool, List}
+use Rattle.std.specs.Char.{is_ascii_hexdigit}
 use Rattle.fx_terms.specs.Names.{is_base_char, is_name_start, is_name_char}
 use Rattle.fx_tokens.specs.Classes as class
 use Rattle.fx_tokens.specs.Forms.{One, Then, Repeat, Either, Maybe, AtLeastOne, Hex}
@@ -27,7 +28,7 @@ Dotted part = Repeat (Then (Repeat (Is 46)) part)
 
 -- PLX
 abbrev pub LocalEscape : List ℕ → Type 0
-LocalEscape = Either (Then (Is 37) (Then (One class.is_hex) (One class.is_hex))) (Then (Is 92) (One class.is_local_escape))
+LocalEscape = Either (Then (Is 37) (Then (One is_ascii_hexdigit) (One is_ascii_hexdigit))) (Then (Is 92) (One class.is_local_escape))
 
 -- PN_LOCAL
 abbrev pub Local : List ℕ → Type 0

@@ -3,7 +3,7 @@
 use Rattle.std.specs.Prelude.{◌≡◌, ℕ, ◌+◌, ◌<◌, ◌≤◌, slice_range, Bool, true, false, ◌||◌, ◌==◌, List, [], ◌∷◌, ◌++◌, length, Result, Ok, Err, if◌then◌else◌}
 use Rattle.std.specs.Str.{chars, IsCharBoundary}
 use Rattle.fx_tokens.specs.Answers.{width}
-use Rattle.fx_tokens.specs.Classes.{is_blank, is_in_line, is_line_end}
+use Rattle.fx_tokens.specs.Classes.{is_white_space, is_in_line, is_line_end}
 use Rattle.fx_tokens.specs.Forms.{One, Repeat}
 use Rattle.fx_tokens.specs.Kinds.{IsToken, TextPart}
 use Rattle.fx_tokens.specs.declared.Token.{Token}
@@ -46,7 +46,7 @@ EndsLine (c ∷ text) = is_line_end c ≡ true
 -- a token is looked for past white space and comments
 abbrev pub BeginsToken : List ℕ → Type 0
 BeginsToken [] = ⊥
-BeginsToken (c ∷ text) = (is_blank c || c == 35) ≡ false
+BeginsToken (c ∷ text) = (is_white_space c || c == 35) ≡ false
 
 abbrev pub begins_backslash : List ℕ → Bool
 begins_backslash [] = false
@@ -79,7 +79,7 @@ with_front token (Err error) = Err error
 -- a text at a place is read from left to right as tokens, or up to a fault
 pub data Reads : ℕ → List ℕ → Result (List Token) TokenError → Type 0 where
   ends : {at : ℕ} {text : List ℕ} {answer : Result (List Token) TokenError} → text ≡ [] → answer ≡ Ok [] → Reads at text answer
-  blank : {at : ℕ} {text : List ℕ} {answer : Result (List Token) TokenError} (c : ℕ) (rest : List ℕ) → text ≡ c ∷ rest → is_blank c ≡ true → Reads (at + width (c ∷ [])) rest answer → Reads at text answer
+  blank : {at : ℕ} {text : List ℕ} {answer : Result (List Token) TokenError} (c : ℕ) (rest : List ℕ) → text ≡ c ∷ rest → is_white_space c ≡ true → Reads (at + width (c ∷ [])) rest answer → Reads at text answer
   comment : {at : ℕ} {text : List ℕ} {answer : Result (List Token) TokenError} (body rest : List ℕ) → text ≡ 35 ∷ (body ++ rest) → Repeat (One is_in_line) body → EndsLine rest
       → Reads (at + width (35 ∷ body)) rest answer → Reads at text answer
   token : {at : ℕ} {text : List ℕ} {answer : Result (List Token) TokenError} (kind : TokenKind) (front rest : List ℕ) (more : Result (List Token) TokenError) → BeginsToken text → Longest kind front rest text

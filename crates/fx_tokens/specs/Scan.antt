@@ -1,8 +1,8 @@
 -- The same forms, read from left to right: the text behind the longest front that is of a form, where there is one.
 use Rattle.std.specs.Prelude.{◌≡◌, ◌<◌, ◌++◌, ℕ, ◌+◌, ◌*◌, Bool, true, false, List, [], ◌∷◌, length, Option, Some, None, if◌then◌else◌, suc, zero, nat_lt}
+use Rattle.std.specs.Char.{digit_value, is_ascii_hexdigit}
 use Rattle.fx_terms.specs.Names.{is_base_char, is_name_start, is_name_char}
 use Rattle.fx_tokens.specs.Classes as class
-use Rattle.fx_tokens.specs.Forms.{hex_value}
 use Rattle.fx_tokens.specs.Answers.{width}
 use Rattle.fx_tokens.specs.declared.TokenKind.{TokenKind}
 use Rattle.fx_tokens.specs.declared.TokenKind.TheVariants as kind
@@ -60,7 +60,7 @@ and_number (Some p) f = f p.0 p.1
 
 unfoldable pub digit : ℕ → List ℕ → Option (ℕ × List ℕ)
 digit high [] = None
-digit high (c ∷ text) = if class.is_hex c then Some (high * 16 + hex_value c, text) else None
+digit high (c ∷ text) = if is_ascii_hexdigit c then Some (high * 16 + digit_value c, text) else None
 
 unfoldable pub hexes : ℕ → ℕ → List ℕ → Option (ℕ × List ℕ)
 hexes zero high text = Some (high, text)
@@ -98,7 +98,7 @@ unfoldable pub name_part : List ℕ → Option (List ℕ)
 name_part text = one class.is_part_char (skip (is 46) text)
 
 unfoldable pub local_escape : List ℕ → Option (List ℕ)
-local_escape text = and_or (is 37 text) (λ rest. and_then (one class.is_hex rest) (one class.is_hex)) (and_then (is 92 text) (one class.is_local_escape))
+local_escape text = and_or (is 37 text) (λ rest. and_then (one is_ascii_hexdigit rest) (one is_ascii_hexdigit)) (and_then (is 92 text) (one class.is_local_escape))
 
 unfoldable pub local_start : List ℕ → Option (List ℕ)
 local_start text = or_else (one class.is_local_start text) (local_escape text)

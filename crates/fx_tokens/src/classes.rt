@@ -1,23 +1,26 @@
 //! Classes of characters.
 ghost use Rattle.std.specs.Prelude.{◌≡◌};
-ghost use Rattle.fx_terms.specs.Names.{is_base_char, is_name_start, is_name_char};
 ghost use Rattle.fx_tokens.specs.Classes as class;
+
+use fx_terms::escapes::letter_escape;
+use fx_terms::iris::is_forbidden;
+use fx_terms::names::{is_base_char, is_name_char, is_name_start};
 
 /// A quote.
 #[derive(Clone, Copy)]
-pub enum Quote {
+pub enum QuoteMark {
     Single,
     Double,
 }
 
-impl Quote {
+impl QuoteMark {
     /// The quote's character.
     pub fn char(self) -> char
         ensures { result ≡ class.quote self }
     {
         match self {
-            Quote::Single => '\'',
-            Quote::Double => '"',
+            QuoteMark::Single => '\'',
+            QuoteMark::Double => '"',
         }
     }
 }
@@ -57,9 +60,9 @@ pub enum Class {
     /// Not a line end.
     InLine,
     /// What a text between two of these quotes holds as it is.
-    Plain(Quote),
+    Plain(QuoteMark),
     /// What a text between three of these quotes holds as it is.
-    LongPlain(Quote),
+    LongPlain(QuoteMark),
     /// A mark of one character.
     OneMark,
     /// The first of a mark of two characters that ends in `=`.
@@ -84,12 +87,12 @@ impl Class {
             Class::LocalStart => is_name_start(c) || c == ':',
             Class::LocalChar => is_part_char(c) || c == ':',
             Class::LocalEscape => is_local_escape(c),
-            Class::HexDigit => is_hex(c),
+            Class::HexDigit => c.is_ascii_hexdigit(),
             Class::VariableMark => c == '?' || c == '$',
             Class::Sign => c == '+' || c == '-',
             Class::Exponent => c == 'e' || c == 'E',
-            Class::IriChar => is_iri_char(c),
-            Class::EscapeLetter => is_escape_letter(c),
+            Class::IriChar => !is_forbidden(c as u32),
+            Class::EscapeLetter => letter_escape(c).is_some(),
             Class::InLine => is_in_line(c),
             Class::Plain(quote) => is_long_plain(quote.char(), c) && is_in_line(c),
             Class::LongPlain(quote) => is_long_plain(quote.char(), c),
@@ -117,35 +120,6 @@ fn is_letter_or_digit(c: char) -> bool
     is_letter(c) || is_digit(c)
 }
 
-fn is_hex(c: char) -> bool
-    ensures { result ≡ class.is_hex c }
-{
-    is_digit(c) || matches!(c, 'A'..='F' | 'a'..='f')
-}
-
-fn is_base_char(c: char) -> bool
-    ensures { result ≡ is_base_char c }
-{
-    matches!(c, 'A'..='Z' | 'a'..='z' | '\u{C0}'..='\u{D6}' | '\u{D8}'..='\u{F6}' | '\u{F8}'..='\u{2FF}'
-        | '\u{370}'..='\u{37D}' | '\u{37F}'..='\u{1FFF}' | '\u{200C}'..='\u{200D}' | '\u{2070}'..='\u{218F}'
-        | '\u{2C00}'..='\u{2FEF}' | '\u{3001}'..='\u{D7FF}' | '\u{F900}'..='\u{FDCF}' | '\u{FDF0}'..='\u{FFFD}'
-        | '\u{10000}'..='\u{EFFFF}')
-}
-
-fn is_name_start(c: char) -> bool
-    ensures { result ≡ is_name_start c }
-{
-    is_base_char(c) || c == '_' || c.is_ascii_digit()
-}
-
-fn is_name_char(c: char) -> bool
-    ensures { result ≡ is_name_char c }
-{
-    is_name_start(c)
-        || c == '\u{B7}'
-        || matches!(c, '\u{300}'..='\u{36F}' | '\u{203F}'..='\u{2040}')
-}
-
 fn is_part_char(c: char) -> bool
     ensures { result ≡ class.is_part_char c }
 {
@@ -156,27 +130,6 @@ fn is_local_escape(c: char) -> bool
     ensures { result ≡ class.is_local_escape c }
 {
     matches!(c, '#'..='/' | '!' | ';' | '=' | '?' | '@' | '_' | '~')
-}
-
-fn is_forbidden_in_iri(c: char) -> bool
-    ensures { result ≡ class.is_forbidden_in_iri c }
-{
-    matches!(
-        c,
-        '\0'..=' ' | '<' | '>' | '"' | '{' | '}' | '|' | '^' | '`' | '\\'
-    )
-}
-
-fn is_iri_char(c: char) -> bool
-    ensures { result ≡ class.is_iri_char c }
-{
-    !is_forbidden_in_iri(c)
-}
-
-fn is_escape_letter(c: char) -> bool
-    ensures { result ≡ class.is_escape_letter c }
-{
-    matches!(c, 't' | 'b' | 'n' | 'r' | 'f' | '"' | '\'' | '\\')
 }
 
 fn is_line_end(c: char) -> bool
@@ -192,8 +145,8 @@ fn is_in_line(c: char) -> bool
 }
 
 /// Whether a character is white space: a space, a tab or a line end.
-pub fn is_blank(c: char) -> bool
-    ensures { result ≡ class.is_blank c }
+pub(crate) fn is_white_space(c: char) -> bool
+    ensures { result ≡ class.is_white_space c }
 {
     c == ' ' || c == '\t' || is_line_end(c)
 }

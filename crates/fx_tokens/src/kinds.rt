@@ -2,11 +2,11 @@
 //! there.
 ghost use Rattle.std.specs.Prelude.{◌≡◌};
 ghost use Rattle.std.specs.Str.{chars};
-ghost use Rattle.fx_tokens.specs.Answers.{left};
+ghost use Rattle.fx_tokens.specs.Answers.{chars_left};
 ghost use Rattle.fx_tokens.specs.Classes as class;
 ghost use Rattle.fx_tokens.specs.Scan as scan;
 
-use crate::classes::{Class, Quote};
+use crate::classes::{Class, QuoteMark};
 use crate::parts::{code, longer, one, skip, some, width};
 
 /// What is repeated within a token.
@@ -21,13 +21,13 @@ pub enum Part {
     /// A dash, and letters or digits.
     Tag,
     /// A character between two of these quotes, or an escape.
-    Text(Quote),
+    Text(QuoteMark),
     /// At most two of these quotes, and a character between three of them, or an escape.
-    Long(Quote),
+    Long(QuoteMark),
 }
 
 /// The text behind all the parts at the front.
-pub fn skip_parts(text: &str, part: Part) -> &str
+pub(crate) fn skip_parts(text: &str, part: Part) -> &str
     ensures { chars result.now ≡ scan.skip (scan.part_of part) (chars text.now) }
 {
     let mut rest = text;
@@ -38,8 +38,8 @@ pub fn skip_parts(text: &str, part: Part) -> &str
 }
 
 /// One part.
-pub fn one_part(text: &str, part: Part) -> Option<&str>
-    ensures { left result ≡ scan.part_of part (chars text.now) }
+pub(crate) fn one_part(text: &str, part: Part) -> Option<&str>
+    ensures { chars_left result ≡ scan.part_of part (chars text.now) }
 {
     match part {
         Part::Iri => iri_part(text),
@@ -53,7 +53,7 @@ pub fn one_part(text: &str, part: Part) -> Option<&str>
 
 #[tactic(auto, unfolding(crate::specs::Scan::iri_part))]
 fn iri_part(text: &str) -> Option<&str>
-    ensures { left result ≡ scan.iri_part (chars text.now) }
+    ensures { chars_left result ≡ scan.iri_part (chars text.now) }
 {
     match one(text, Class::IriChar) {
         Some(rest) => Some(rest),
@@ -63,21 +63,21 @@ fn iri_part(text: &str) -> Option<&str>
 
 #[tactic(auto, unfolding(crate::specs::Scan::name_part))]
 fn name_part(text: &str) -> Option<&str>
-    ensures { left result ≡ scan.name_part (chars text.now) }
+    ensures { chars_left result ≡ scan.name_part (chars text.now) }
 {
     one(skip(text, Class::Is('.')), Class::PartChar)
 }
 
 #[tactic(auto, unfolding(crate::specs::Scan::local_part))]
 fn local_part(text: &str) -> Option<&str>
-    ensures { left result ≡ scan.local_part (chars text.now) }
+    ensures { chars_left result ≡ scan.local_part (chars text.now) }
 {
     local_char(skip(text, Class::Is('.')))
 }
 
 #[tactic(auto, unfolding(crate::specs::Scan::local_char))]
 fn local_char(text: &str) -> Option<&str>
-    ensures { left result ≡ scan.local_char (chars text.now) }
+    ensures { chars_left result ≡ scan.local_char (chars text.now) }
 {
     match one(text, Class::LocalChar) {
         Some(rest) => Some(rest),
@@ -87,7 +87,7 @@ fn local_char(text: &str) -> Option<&str>
 
 #[tactic(auto, unfolding(crate::specs::Scan::local_start))]
 fn local_start(text: &str) -> Option<&str>
-    ensures { left result ≡ scan.local_start (chars text.now) }
+    ensures { chars_left result ≡ scan.local_start (chars text.now) }
 {
     match one(text, Class::LocalStart) {
         Some(rest) => Some(rest),
@@ -98,7 +98,7 @@ fn local_start(text: &str) -> Option<&str>
 /// PLX: `%` and two hexadecimal digits, or a backslash and a mark.
 #[tactic(auto, unfolding(crate::specs::Scan::local_escape))]
 fn local_escape(text: &str) -> Option<&str>
-    ensures { left result ≡ scan.local_escape (chars text.now) }
+    ensures { chars_left result ≡ scan.local_escape (chars text.now) }
 {
     match one(text, Class::Is('%')) {
         Some(rest) => one(one(rest, Class::HexDigit)?, Class::HexDigit),
@@ -108,14 +108,14 @@ fn local_escape(text: &str) -> Option<&str>
 
 #[tactic(auto, unfolding(crate::specs::Scan::tag_part))]
 fn tag_part(text: &str) -> Option<&str>
-    ensures { left result ≡ scan.tag_part (chars text.now) }
+    ensures { chars_left result ≡ scan.tag_part (chars text.now) }
 {
     some(one(text, Class::Is('-'))?, Class::LetterOrDigit)
 }
 
 #[tactic(auto, unfolding(crate::specs::Scan::text_part))]
-fn text_part(text: &str, quote: Quote) -> Option<&str>
-    ensures { left result ≡ scan.text_part (class.quote quote) (chars text.now) }
+fn text_part(text: &str, quote: QuoteMark) -> Option<&str>
+    ensures { chars_left result ≡ scan.text_part (class.quote quote) (chars text.now) }
 {
     match one(text, Class::Plain(quote)) {
         Some(rest) => Some(rest),
@@ -124,8 +124,8 @@ fn text_part(text: &str, quote: Quote) -> Option<&str>
 }
 
 #[tactic(auto, unfolding(crate::specs::Scan::long_part))]
-fn long_part(text: &str, quote: Quote) -> Option<&str>
-    ensures { left result ≡ scan.long_part (class.quote quote) (chars text.now) }
+fn long_part(text: &str, quote: QuoteMark) -> Option<&str>
+    ensures { chars_left result ≡ scan.long_part (class.quote quote) (chars text.now) }
 {
     match one(text, Class::LongPlain(quote)) {
         Some(rest) => Some(rest),
@@ -135,8 +135,8 @@ fn long_part(text: &str, quote: Quote) -> Option<&str>
 
 /// A part behind at most two quotes.
 #[tactic(auto, unfolding(crate::specs::Scan::quoted))]
-fn quoted(text: &str, quote: Quote) -> Option<&str>
-    ensures { left result ≡ scan.quoted (class.quote quote) (chars text.now) }
+fn quoted(text: &str, quote: QuoteMark) -> Option<&str>
+    ensures { chars_left result ≡ scan.quoted (class.quote quote) (chars text.now) }
 {
     match long_part(text, quote) {
         Some(rest) => Some(rest),
@@ -146,8 +146,8 @@ fn quoted(text: &str, quote: Quote) -> Option<&str>
 
 /// A part behind at most one quote.
 #[tactic(auto, unfolding(crate::specs::Scan::quoted_once))]
-fn quoted_once(text: &str, quote: Quote) -> Option<&str>
-    ensures { left result ≡ scan.quoted_once (class.quote quote) (chars text.now) }
+fn quoted_once(text: &str, quote: QuoteMark) -> Option<&str>
+    ensures { chars_left result ≡ scan.quoted_once (class.quote quote) (chars text.now) }
 {
     match long_part(text, quote) {
         Some(rest) => Some(rest),
@@ -158,7 +158,7 @@ fn quoted_once(text: &str, quote: Quote) -> Option<&str>
 /// A backslash, and a letter or a character's number.
 #[tactic(auto, unfolding(crate::specs::Scan::escape))]
 fn escape(text: &str) -> Option<&str>
-    ensures { left result ≡ scan.escape (chars text.now) }
+    ensures { chars_left result ≡ scan.escape (chars text.now) }
 {
     let rest = one(text, Class::Is('\\'))?;
     match one(rest, Class::EscapeLetter) {
@@ -169,8 +169,8 @@ fn escape(text: &str) -> Option<&str>
 
 /// IRIREF.
 #[tactic(auto, unfolding(crate::specs::Scan::iri))]
-pub fn iri(text: &str) -> Option<&str>
-    ensures { left result ≡ scan.iri (chars text.now) }
+pub(crate) fn iri(text: &str) -> Option<&str>
+    ensures { chars_left result ≡ scan.iri (chars text.now) }
 {
     let rest = one(text, Class::Is('<'))?;
     one(skip_parts(rest, Part::Iri), Class::Is('>'))
@@ -178,9 +178,9 @@ pub fn iri(text: &str) -> Option<&str>
 
 /// PNAME_NS or PNAME_LN, where it is known that no name with a prefix begins where more than `barren` bytes are left.
 #[tactic(auto, unfolding(crate::specs::Scan::prefix_name))]
-pub fn prefix_name(text: &str, barren: usize) -> Option<&str>
+pub(crate) fn prefix_name(text: &str, barren: usize) -> Option<&str>
     requires { scan.Barren barren (chars text.now) }
-    ensures { left result ≡ scan.prefix_name (chars text.now) }
+    ensures { chars_left result ≡ scan.prefix_name (chars text.now) }
 {
     if barren < width(text) {
         return colon_local(text);
@@ -190,7 +190,7 @@ pub fn prefix_name(text: &str, barren: usize) -> Option<&str>
 
 /// How many bytes are left behind the place up to which no name with a prefix begins, from where it is known that there are
 /// `barren`. A run of characters that no colon follows is so gone over once, wherever tokens begin in it.
-pub fn barren_behind(text: &str, barren: usize) -> usize
+pub(crate) fn barren_behind(text: &str, barren: usize) -> usize
     requires { scan.Barren barren (chars text.now) }
     ensures { scan.Barren result (chars text.now) }
 {
@@ -210,7 +210,7 @@ pub fn barren_behind(text: &str, barren: usize) -> usize
 /// A prefix of one character or more, and what stands behind it.
 #[tactic(auto, unfolding(crate::specs::Scan::long_prefix))]
 fn long_prefix(text: &str) -> Option<&str>
-    ensures { left result ≡ scan.long_prefix (chars text.now) }
+    ensures { chars_left result ≡ scan.long_prefix (chars text.now) }
 {
     let rest = one(text, Class::BaseChar)?;
     colon_local(skip_parts(rest, Part::Name))
@@ -219,7 +219,7 @@ fn long_prefix(text: &str) -> Option<&str>
 /// A colon, and PN_LOCAL or nothing.
 #[tactic(auto, unfolding(crate::specs::Scan::colon_local))]
 fn colon_local(text: &str) -> Option<&str>
-    ensures { left result ≡ scan.colon_local (chars text.now) }
+    ensures { chars_left result ≡ scan.colon_local (chars text.now) }
 {
     let rest = one(text, Class::Is(':'))?;
     match local(rest) {
@@ -231,7 +231,7 @@ fn colon_local(text: &str) -> Option<&str>
 /// PN_LOCAL.
 #[tactic(auto, unfolding(crate::specs::Scan::local))]
 fn local(text: &str) -> Option<&str>
-    ensures { left result ≡ scan.local (chars text.now) }
+    ensures { chars_left result ≡ scan.local (chars text.now) }
 {
     let rest = local_start(text)?;
     Some(skip_parts(rest, Part::Local))
@@ -239,8 +239,8 @@ fn local(text: &str) -> Option<&str>
 
 /// VAR1 or VAR2.
 #[tactic(auto, unfolding(crate::specs::Scan::variable))]
-pub fn variable(text: &str) -> Option<&str>
-    ensures { left result ≡ scan.variable (chars text.now) }
+pub(crate) fn variable(text: &str) -> Option<&str>
+    ensures { chars_left result ≡ scan.variable (chars text.now) }
 {
     let rest = one(text, Class::VariableMark)?;
     let rest = one(rest, Class::NameStart)?;
@@ -249,8 +249,8 @@ pub fn variable(text: &str) -> Option<&str>
 
 /// BLANK_NODE_LABEL.
 #[tactic(auto, unfolding(crate::specs::Scan::blank))]
-pub fn blank(text: &str) -> Option<&str>
-    ensures { left result ≡ scan.blank (chars text.now) }
+pub(crate) fn blank(text: &str) -> Option<&str>
+    ensures { chars_left result ≡ scan.blank (chars text.now) }
 {
     let rest = one(text, Class::Is('_'))?;
     let rest = one(rest, Class::Is(':'))?;
@@ -260,8 +260,8 @@ pub fn blank(text: &str) -> Option<&str>
 
 /// LANGTAG.
 #[tactic(auto, unfolding(crate::specs::Scan::tag))]
-pub fn tag(text: &str) -> Option<&str>
-    ensures { left result ≡ scan.tag (chars text.now) }
+pub(crate) fn tag(text: &str) -> Option<&str>
+    ensures { chars_left result ≡ scan.tag (chars text.now) }
 {
     let rest = one(text, Class::Is('@'))?;
     let rest = one(rest, Class::Letter)?;
@@ -269,24 +269,24 @@ pub fn tag(text: &str) -> Option<&str>
 }
 
 /// INTEGER.
-pub fn integer(text: &str) -> Option<&str>
-    ensures { left result ≡ scan.integer (chars text.now) }
+pub(crate) fn integer(text: &str) -> Option<&str>
+    ensures { chars_left result ≡ scan.integer (chars text.now) }
 {
     some(text, Class::Digit)
 }
 
 /// INTEGER_POSITIVE or INTEGER_NEGATIVE.
 #[tactic(auto, unfolding(crate::specs::Scan::signed))]
-pub fn signed(text: &str) -> Option<&str>
-    ensures { left result ≡ scan.signed (chars text.now) }
+pub(crate) fn signed(text: &str) -> Option<&str>
+    ensures { chars_left result ≡ scan.signed (chars text.now) }
 {
     integer(one(text, Class::Sign)?)
 }
 
 /// A decimal or a double, with a sign or without.
 #[tactic(auto, unfolding(crate::specs::Scan::decimal))]
-pub fn decimal(text: &str) -> Option<&str>
-    ensures { left result ≡ scan.decimal (chars text.now) }
+pub(crate) fn decimal(text: &str) -> Option<&str>
+    ensures { chars_left result ≡ scan.decimal (chars text.now) }
 {
     match one(text, Class::Sign) {
         Some(rest) => longer(unsigned(text), unsigned(rest)),
@@ -296,7 +296,7 @@ pub fn decimal(text: &str) -> Option<&str>
 
 #[tactic(auto, unfolding(crate::specs::Scan::unsigned))]
 fn unsigned(text: &str) -> Option<&str>
-    ensures { left result ≡ scan.unsigned (chars text.now) }
+    ensures { chars_left result ≡ scan.unsigned (chars text.now) }
 {
     longer(pointed(text), powered(text))
 }
@@ -304,7 +304,7 @@ fn unsigned(text: &str) -> Option<&str>
 /// Digits or none, a dot, digits, and maybe an exponent.
 #[tactic(auto, unfolding(crate::specs::Scan::pointed))]
 fn pointed(text: &str) -> Option<&str>
-    ensures { left result ≡ scan.pointed (chars text.now) }
+    ensures { chars_left result ≡ scan.pointed (chars text.now) }
 {
     let rest = one(skip(text, Class::Digit), Class::Is('.'))?;
     let rest = integer(rest)?;
@@ -317,7 +317,7 @@ fn pointed(text: &str) -> Option<&str>
 /// Digits, maybe a dot, and an exponent.
 #[tactic(auto, unfolding(crate::specs::Scan::powered))]
 fn powered(text: &str) -> Option<&str>
-    ensures { left result ≡ scan.powered (chars text.now) }
+    ensures { chars_left result ≡ scan.powered (chars text.now) }
 {
     let rest = integer(text)?;
     longer(exponent(rest), dot_exponent(rest))
@@ -325,7 +325,7 @@ fn powered(text: &str) -> Option<&str>
 
 #[tactic(auto, unfolding(crate::specs::Scan::dot_exponent))]
 fn dot_exponent(text: &str) -> Option<&str>
-    ensures { left result ≡ scan.dot_exponent (chars text.now) }
+    ensures { chars_left result ≡ scan.dot_exponent (chars text.now) }
 {
     exponent(one(text, Class::Is('.'))?)
 }
@@ -333,7 +333,7 @@ fn dot_exponent(text: &str) -> Option<&str>
 /// EXPONENT.
 #[tactic(auto, unfolding(crate::specs::Scan::exponent))]
 fn exponent(text: &str) -> Option<&str>
-    ensures { left result ≡ scan.exponent (chars text.now) }
+    ensures { chars_left result ≡ scan.exponent (chars text.now) }
 {
     let rest = one(text, Class::Exponent)?;
     longer(integer(rest), signed(rest))
@@ -341,19 +341,22 @@ fn exponent(text: &str) -> Option<&str>
 
 /// A text between quotes.
 #[tactic(auto, unfolding(crate::specs::Scan::string))]
-pub fn string(text: &str) -> Option<&str>
-    ensures { left result ≡ scan.string (chars text.now) }
+pub(crate) fn string(text: &str) -> Option<&str>
+    ensures { chars_left result ≡ scan.string (chars text.now) }
 {
     longer(
-        longer(short(text, Quote::Single), short(text, Quote::Double)),
-        longer(long(text, Quote::Single), long(text, Quote::Double)),
+        longer(
+            short(text, QuoteMark::Single),
+            short(text, QuoteMark::Double),
+        ),
+        longer(long(text, QuoteMark::Single), long(text, QuoteMark::Double)),
     )
 }
 
 /// A text between two quotes.
 #[tactic(auto, unfolding(crate::specs::Scan::short))]
-fn short(text: &str, quote: Quote) -> Option<&str>
-    ensures { left result ≡ scan.short (class.quote quote) (chars text.now) }
+fn short(text: &str, quote: QuoteMark) -> Option<&str>
+    ensures { chars_left result ≡ scan.short (class.quote quote) (chars text.now) }
 {
     let rest = one(text, Class::Is(quote.char()))?;
     one(skip_parts(rest, Part::Text(quote)), Class::Is(quote.char()))
@@ -361,16 +364,16 @@ fn short(text: &str, quote: Quote) -> Option<&str>
 
 /// A text between three quotes each.
 #[tactic(auto, unfolding(crate::specs::Scan::long))]
-fn long(text: &str, quote: Quote) -> Option<&str>
-    ensures { left result ≡ scan.long (class.quote quote) (chars text.now) }
+fn long(text: &str, quote: QuoteMark) -> Option<&str>
+    ensures { chars_left result ≡ scan.long (class.quote quote) (chars text.now) }
 {
     let rest = three(text, quote)?;
     three(skip_parts(rest, Part::Long(quote)), quote)
 }
 
 #[tactic(auto, unfolding(crate::specs::Scan::three))]
-fn three(text: &str, quote: Quote) -> Option<&str>
-    ensures { left result ≡ scan.three (class.quote quote) (chars text.now) }
+fn three(text: &str, quote: QuoteMark) -> Option<&str>
+    ensures { chars_left result ≡ scan.three (class.quote quote) (chars text.now) }
 {
     let quote = Class::Is(quote.char());
     one(one(one(text, quote)?, quote)?, quote)
@@ -378,8 +381,8 @@ fn three(text: &str, quote: Quote) -> Option<&str>
 
 /// A keyword.
 #[tactic(auto, unfolding(crate::specs::Scan::word))]
-pub fn word(text: &str) -> Option<&str>
-    ensures { left result ≡ scan.word (chars text.now) }
+pub(crate) fn word(text: &str) -> Option<&str>
+    ensures { chars_left result ≡ scan.word (chars text.now) }
 {
     let rest = one(text, Class::Letter)?;
     Some(skip(rest, Class::WordChar))
@@ -387,8 +390,8 @@ pub fn word(text: &str) -> Option<&str>
 
 /// A mark.
 #[tactic(auto, unfolding(crate::specs::Scan::mark))]
-pub fn mark(text: &str) -> Option<&str>
-    ensures { left result ≡ scan.mark (chars text.now) }
+pub(crate) fn mark(text: &str) -> Option<&str>
+    ensures { chars_left result ≡ scan.mark (chars text.now) }
 {
     let single = one(text, Class::OneMark);
     let equal = pair(text, Class::BeforeEqual, '=');
@@ -401,7 +404,7 @@ pub fn mark(text: &str) -> Option<&str>
 /// A character of a class, and then this one.
 #[tactic(auto, unfolding(crate::specs::Scan::pair))]
 fn pair(text: &str, first: Class, second: char) -> Option<&str>
-    ensures { left result ≡ scan.pair (class.holds first) second (chars text.now) }
+    ensures { chars_left result ≡ scan.pair (class.holds first) second (chars text.now) }
 {
     one(one(text, first)?, Class::Is(second))
 }

@@ -15,7 +15,7 @@ ghost use Rattle.std.specs.Str.{chars};
 ghost use Rattle.fx_tokens.specs.Answers.{UnlessMemory, width};
 ghost use Rattle.fx_tokens.specs.Reads.{Reads, IsSlice, RiseFrom};
 
-use crate::classes::{Class, is_blank};
+use crate::classes::{Class, is_white_space};
 use crate::kinds::barren_behind;
 use crate::parts::{skip, width};
 use crate::reading::{fault, longest};
@@ -134,7 +134,7 @@ fn read(alloc: Global, text: &str) -> Result<Vec<Token>, TokenError>
     let mut rest = text;
     let mut barren = size;
     'each: while let Some((first, behind)) = split_first(rest) {
-        if is_blank(first) {
+        if is_white_space(first) {
             rest = behind;
         } else if first == '#' {
             rest = skip(behind, Class::InLine);

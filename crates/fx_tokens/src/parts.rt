@@ -1,13 +1,13 @@
 //! The parts that tokens are made of. Each call gives the text behind the longest part at the front, or none where none
 //! stands there.
-ghost use Rattle.std.specs.Prelude.{◌≡◌, ◌∷◌, ◌<◌, ◌+◌, ◌*◌, ◌^◌, [], true, MatchOption, IfSome};
+ghost use Rattle.std.specs.Prelude.{◌≡◌, ◌∷◌, ◌<◌, ◌+◌, ◌*◌, ◌^◌, [], MatchOption, IfSome};
 ghost use Rattle.std.specs.Str.{chars};
-ghost use Rattle.fx_tokens.specs.Answers.{left, left_number, width};
-ghost use Rattle.fx_tokens.specs.Classes.{holds, is_hex};
-ghost use Rattle.fx_tokens.specs.Forms.{hex_value};
+ghost use Rattle.fx_tokens.specs.Answers.{chars_left, left_number, width};
+ghost use Rattle.fx_tokens.specs.Classes.{holds};
 ghost use Rattle.fx_tokens.specs.Scan as scan;
 
 use crate::classes::Class;
+use fx_terms::escapes::digit_value;
 
 /// The first character, and the text behind it.
 pub fn split_first(text: &str) -> Option<(char, &str)>
@@ -20,15 +20,15 @@ pub fn split_first(text: &str) -> Option<(char, &str)>
 
 /// One character of a class.
 #[tactic(auto, unfolding(crate::specs::Scan::one))]
-pub fn one(text: &str, class: Class) -> Option<&str>
-    ensures { left result ≡ scan.one (holds class) (chars text.now) }
+pub(crate) fn one(text: &str, class: Class) -> Option<&str>
+    ensures { chars_left result ≡ scan.one (holds class) (chars text.now) }
 {
     let (first, rest) = split_first(text)?;
     if class.holds(first) { Some(rest) } else { None }
 }
 
 /// The text behind all the characters of a class at the front.
-pub fn skip(text: &str, class: Class) -> &str
+pub(crate) fn skip(text: &str, class: Class) -> &str
     ensures { chars result.now ≡ scan.skip (scan.one (holds class)) (chars text.now) }
 {
     let mut rest = text;
@@ -39,16 +39,16 @@ pub fn skip(text: &str, class: Class) -> &str
 }
 
 /// One or more characters of a class.
-pub fn some(text: &str, class: Class) -> Option<&str>
-    ensures { left result ≡ scan.some (holds class) (chars text.now) }
+pub(crate) fn some(text: &str, class: Class) -> Option<&str>
+    ensures { chars_left result ≡ scan.some (holds class) (chars text.now) }
 {
     let rest = one(text, class)?;
     Some(skip(rest, class))
 }
 
 /// The one of two texts that leaves less, the first of two that leave as much.
-pub fn longer<'a>(rest: Option<&'a str>, other: Option<&'a str>) -> Option<&'a str>
-    ensures { left result ≡ scan.longer (left rest.entry) (left other.entry) }
+pub(crate) fn longer<'a>(rest: Option<&'a str>, other: Option<&'a str>) -> Option<&'a str>
+    ensures { chars_left result ≡ scan.longer (chars_left rest.entry) (chars_left other.entry) }
 {
     match (rest, other) {
         (None, _) => other,
@@ -64,7 +64,7 @@ pub fn longer<'a>(rest: Option<&'a str>, other: Option<&'a str>) -> Option<&'a s
 }
 
 /// How many bytes a text has.
-pub fn width(text: &str) -> usize
+pub(crate) fn width(text: &str) -> usize
     ensures { result ≡ width (chars text.now) }
 {
     text.len()
@@ -72,8 +72,8 @@ pub fn width(text: &str) -> usize
 
 /// A text that `\uXXXX` or `\UXXXXXXXX` writes, behind its backslash: one that an IRI may hold, where it stands in one.
 #[tactic(auto, unfolding(crate::specs::Scan::code))]
-pub fn code(text: &str, in_iri: bool) -> Option<&str>
-    ensures { left result ≡ scan.code (scan.fits in_iri) (chars text.now) }
+pub(crate) fn code(text: &str, in_iri: bool) -> Option<&str>
+    ensures { chars_left result ≡ scan.code (scan.fits in_iri) (chars text.now) }
 {
     match one(text, Class::Is('u')) {
         Some(rest) => short_code(rest, in_iri),
@@ -84,7 +84,7 @@ pub fn code(text: &str, in_iri: bool) -> Option<&str>
 /// Four hexadecimal digits that name a character.
 #[tactic(auto, unfolding(crate::specs::Scan::short_code))]
 fn short_code(text: &str, in_iri: bool) -> Option<&str>
-    ensures { left result ≡ scan.short_code (scan.fits in_iri) (chars text.now) }
+    ensures { chars_left result ≡ scan.short_code (scan.fits in_iri) (chars text.now) }
 {
     let (number, rest) = four(text, 0)?;
     if fits(number, in_iri) {
@@ -97,7 +97,7 @@ fn short_code(text: &str, in_iri: bool) -> Option<&str>
 /// Eight hexadecimal digits that name a character.
 #[tactic(auto, unfolding(crate::specs::Scan::long_code))]
 fn long_code(text: &str, in_iri: bool) -> Option<&str>
-    ensures { left result ≡ scan.long_code (scan.fits in_iri) (chars text.now) }
+    ensures { chars_left result ≡ scan.long_code (scan.fits in_iri) (chars text.now) }
 {
     let (high, rest) = four(text, 0)?;
     let (number, rest) = four(rest, high)?;
@@ -140,24 +140,8 @@ fn digit(text: &str, high: u32) -> Option<(u32, &str)>
 {
     let (first, rest) = split_first(text)?;
     if Class::HexDigit.holds(first) {
-        Some((high * 16 + hex_value(first), rest))
+        Some((high * 16 + digit_value(first), rest))
     } else {
         None
-    }
-}
-
-/// The value of a hexadecimal digit.
-fn hex_value(digit: char) -> u32
-    requires { is_hex digit ≡ true }
-    ensures value { result ≡ hex_value digit }
-    ensures bound { result < 16 }
-{
-    let code = digit as u32;
-    if digit <= '9' {
-        code - 48
-    } else if digit <= 'F' {
-        code - 55
-    } else {
-        code - 87
     }
 }

@@ -1,12 +1,12 @@
 //! The longest token at the front of a text, and why there is none.
 ghost use Rattle.std.specs.Prelude.{◌≡◌, ◌+◌, ◌-◌, ◌<◌, ◌≤◌, ◌∷◌, length};
 ghost use Rattle.std.specs.Str.{chars};
-ghost use Rattle.fx_tokens.specs.Answers.{left, left_kind, width};
+ghost use Rattle.fx_tokens.specs.Answers.{chars_left, left_kind, width};
 ghost use Rattle.fx_tokens.specs.Classes.{quote as quote_char};
 ghost use Rattle.fx_tokens.specs.Reads.{Faulty, BadText};
 ghost use Rattle.fx_tokens.specs.Scan as scan;
 
-use crate::classes::{Class, Quote};
+use crate::classes::{Class, QuoteMark};
 use crate::kinds::{
     Part, blank, decimal, integer, iri, mark, prefix_name, signed, skip_parts, string, tag,
     variable, word,
@@ -17,7 +17,7 @@ use crate::{TokenError, TokenFault, TokenKind};
 /// The kind of the longest token at the front, and the text behind it, where it is known that no name with a prefix begins
 /// where more than `barren` bytes are left.
 #[tactic(auto, unfolding(crate::specs::Scan::longest))]
-pub fn longest(text: &str, barren: usize) -> Option<(TokenKind, &str)>
+pub(crate) fn longest(text: &str, barren: usize) -> Option<(TokenKind, &str)>
     requires { scan.Barren barren (chars text.now) }
     ensures { left_kind result ≡ scan.longest (chars text.now) }
 {
@@ -49,7 +49,7 @@ fn better<'a>(
     kind: TokenKind,
     rest: Option<&'a str>,
 ) -> Option<(TokenKind, &'a str)>
-    ensures { left_kind result ≡ scan.better (left_kind best.entry) kind (left rest.entry) }
+    ensures { left_kind result ≡ scan.better (left_kind best.entry) kind (chars_left rest.entry) }
 {
     match (best, rest) {
         (_, None) => best,
@@ -65,7 +65,7 @@ fn better<'a>(
 }
 
 /// Why no token stands at the front of a text that isn't empty, where everything has `size` bytes and the text is the end of it.
-pub fn fault(text: &str, size: usize) -> TokenError
+pub(crate) fn fault(text: &str, size: usize) -> TokenError
     requires some { 0 < length (chars text.now) }
     requires within { width (chars text.now) ≤ size }
     ensures { Faulty (size - width (chars text.now)) (chars text.now) result }
@@ -78,10 +78,10 @@ pub fn fault(text: &str, size: usize) -> TokenError
         };
     };
     if first == '\'' {
-        return text_fault(rest, Quote::Single, place, size);
+        return text_fault(rest, QuoteMark::Single, place, size);
     }
     if first == '"' {
-        return text_fault(rest, Quote::Double, place, size);
+        return text_fault(rest, QuoteMark::Double, place, size);
     }
     TokenError::Bad {
         place,
@@ -90,7 +90,7 @@ pub fn fault(text: &str, size: usize) -> TokenError
 }
 
 /// Why a text between quotes has no end: `text` is what stands behind its quote, which is at `place`.
-fn text_fault(text: &str, quote: Quote, place: u64, size: usize) -> TokenError
+fn text_fault(text: &str, quote: QuoteMark, place: u64, size: usize) -> TokenError
     requires { place + width (quote_char quote ∷ chars text.now) ≡ size }
     ensures { BadText place (quote_char quote) (chars text.now) result }
 {

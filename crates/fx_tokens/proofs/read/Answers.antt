@@ -16,12 +16,12 @@ each-init c = record {
   barren = barren_whole (chars c.args.text.now) c.width-size.result (omega (arith, c.width-size.ensures));
 }
 
-pub each-preserved-then-is_blank : goal.each-preserved-then-is_blank
-each-preserved-then-is_blank c = record {
+pub each-preserved-then-is_white_space : goal.each-preserved-then-is_white_space
+each-preserved-then-is_white_space c = record {
   utf8 = search rules;
   so_far = so_far_on c.width-size.result (chars c.args.text.now) (chars c.each.rest.now) (chars c.in-Some.behind.now) c.each.tokens.items c.each.invariant.so_far
       (width_behind (chars c.each.rest.now) (c.in-Some.first ∷ []) (chars c.in-Some.behind.now) c.in-Some.ensures)
-      (λ answer r. blank_turn c.width-size.result (chars c.each.rest.now) c.in-Some.first (chars c.in-Some.behind.now) answer c.in-Some.ensures (sym c.is_blank.ensures ∙ c.if-is_blank.true) c.each.invariant.so_far.within r);
+      (λ answer r. blank_turn c.width-size.result (chars c.each.rest.now) c.in-Some.first (chars c.in-Some.behind.now) answer c.in-Some.ensures (sym c.is_white_space.ensures ∙ c.if-is_white_space.true) c.each.invariant.so_far.within r);
   barren = barren_back (chars c.each.rest.now) (c.in-Some.first ∷ []) (chars c.in-Some.behind.now) c.each.barren c.in-Some.ensures c.each.invariant.barren;
 }
 
@@ -50,7 +50,7 @@ each-preserved c =
     let start = c.width.ensures in
     let end = c.width-in-Some-longest.ensures in
     let found = sym c.in-Some-longest.ensures in
-    let begins = begins_token (chars c.each.rest.now) c.in-Some.first (chars c.in-Some.behind.now) c.in-Some.ensures (sym c.is_blank.ensures ∙ c.if-is_blank.false) c.if-first-eq35.false in
+    let begins = begins_token (chars c.each.rest.now) c.in-Some.first (chars c.in-Some.behind.now) c.in-Some.ensures (sym c.is_white_space.ensures ∙ c.if-is_white_space.false) c.if-first-eq35.false in
     let next : Token = record { kind = c.in-Some-longest.kind; start = c.width-size.result - width (chars c.each.rest.now); end = c.width-size.result - width (chars c.in-Some-longest.after.now) } in
     let items : c.push.new.self.items ≡ c.each.tokens.items ++ next ∷ [] =
     c.in_ok-push.ensures.items ∙ ap (λ (n : ℕ). c.each.tokens.items ++ record { kind = c.in-Some-longest.kind; start = c.width-size.result - n; end = c.width-size.result - c.width-in-Some-longest.result } ∷ []) start
@@ -67,7 +67,7 @@ each-preserved c =
 
 pub returns-in_default-longest-clause-refused : goal.returns-in_default-longest-clause-refused
 returns-in_default-longest-clause-refused c =
-    let begins = begins_token (chars c.each.rest.now) c.in-Some.first (chars c.in-Some.behind.now) c.in-Some.ensures (sym c.is_blank.ensures ∙ c.if-is_blank.false) c.if-first-eq35.false in
+    let begins = begins_token (chars c.each.rest.now) c.in-Some.first (chars c.in-Some.behind.now) c.in-Some.ensures (sym c.is_white_space.ensures ∙ c.if-is_white_space.false) c.if-first-eq35.false in
     unless c.fault.result _ (c.each.invariant.so_far.reads (Err c.fault.result) (fault_turn c.width-size.result (chars c.each.rest.now) c.fault.result begins (sym c.in_default-longest.ensures) c.fault.ensures))
 
 pub returns-clause-found : goal.returns-clause-found

@@ -1,5 +1,5 @@
+use Rattle.fx_terms.specs.Datatypes.{xsd}
 use Rattle.fx_expr.proofs.WordLemmas.{behind_front}
-use Rattle.fx_algebra.specs.Worths.{xsd}
 use Rattle.fx_expr.proofs.integers.schema_name.Goals as goal
 
 pub returns : goal.returns

@@ -6,7 +6,7 @@ use Rattle.fx_ntriples.proofs.Complete.{document_reads}
 use Rattle.fx_ntriples.proofs.Sound.{document_spelled}
 use Rattle.fx_ntriples.proofs.Placed.{bad_stands, blank_stands, relative_stands, bad_only, blank_only, relative_only, told_bad, told_blank, told_relative}
 use Rattle.fx_ntriples.proofs.Answered.{answers_only, answers_found}
-use Rattle.fx_ntriples.proofs.Utf8Stops.{stops_utf8, only_there, told_utf8}
+use Rattle.fx_ntriples.proofs.Utf8Refused.{stops_utf8, only_there, told_utf8}
 use Rattle.fx_ntriples.proofs.reading.read_graph.Goals as goal
 
 pub returns-clause-only : goal.returns-clause-only

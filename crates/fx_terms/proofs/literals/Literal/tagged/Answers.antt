@@ -1,7 +1,8 @@
 use Rattle.std.proofs.Common.{◌≡◌, ◌∙◌, ap, rules, sym, subst, true, not, List, ℕ, length, map, ◌==◌}
 use Rattle.std.specs.Char.{to_ascii_lowercase}
 use Rattle.std.specs.Str.{bytes_eq}
-use Rattle.fx_terms.specs.Literals.{IsTag, is_tag, lang_string}
+use Rattle.fx_terms.specs.Datatypes.{lang_string}
+use Rattle.fx_terms.specs.Literals.{IsTag, is_tag}
 use Rattle.fx_terms.proofs.TagLemmas.{tag_in_lower_case, tag_is_some}
 use Rattle.fx_terms.proofs.literals.Literal.tagged.Goals as goal
 

@@ -2,8 +2,8 @@ use Rattle.std.proofs.Common.{sym, ap, ◌∙◌}
 use Rattle.std.proofs.lemmas.Result.{err_from_is_err_and}
 use Rattle.std.proofs.Common.{Ok}
 use Rattle.fx_readers.proofs.Loops.{hands_on}
-use Rattle.fx_values.proofs.ValueLaws.{columns_turn, columns_fail, columns_end, columns_smaller, columns_are, is_new}
-use Rattle.fx_values.proofs.values.columns.Goals as goal
+use Rattle.fx_blocks.proofs.ValueLaws.{columns_turn, columns_fail, columns_end, columns_smaller, columns_are, is_new}
+use Rattle.fx_blocks.proofs.values.columns.Goals as goal
 
 pub returns-in_err-name : goal.returns-in_err-name
 returns-in_err-name c =

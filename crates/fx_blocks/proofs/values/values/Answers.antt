@@ -3,7 +3,7 @@ use Rattle.std.proofs.lemmas.Result.{err_from_is_err_and}
 use Rattle.fx_grammar.specs.Grammar.{value}
 use Rattle.fx_grammar.proofs.GrammarLaws.{value_law, value_takes}
 use Rattle.fx_readers.proofs.Loops.{hands_on, any_turn, any_fails, any_ends, any_smaller, no_front}
-use Rattle.fx_values.proofs.values.values.Goals as goal
+use Rattle.fx_blocks.proofs.values.values.Goals as goal
 
 pub returns-in_err-next : goal.returns-in_err-next
 returns-in_err-next c =

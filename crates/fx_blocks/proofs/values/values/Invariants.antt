@@ -1,7 +1,7 @@
 use Rattle.std.proofs.Common.{◌≡◌, length}
 use Rattle.fx_grammar.specs.Rule.{with_front, any_number}
 use Rattle.fx_grammar.specs.Grammar.{value}
-use Rattle.fx_values.proofs.values.values.Given as goal
+use Rattle.fx_blocks.proofs.values.values.Given as goal
 
 abbrev pub invariant-more : goal.invariant-more
 invariant-more l = with_front l.parts (any_number (value l.prefixes) l.rest) ≡ any_number (value l.prefixes) l.tokens

@@ -3,9 +3,9 @@ use Rattle.std.proofs.lemmas.Result.{err_from_is_err_and}
 use Rattle.std.proofs.Common.{true, false}
 use Rattle.fx_grammar.specs.Grammar.{row}
 use Rattle.fx_grammar.proofs.GrammarLaws.{row_law, row_takes}
-use Rattle.fx_values.proofs.ValueLaws.{row_sees}
+use Rattle.fx_blocks.proofs.ValueLaws.{row_sees}
 use Rattle.fx_readers.proofs.Loops.{hands_on, any_turn, any_fails, any_ends, any_smaller, no_front}
-use Rattle.fx_values.proofs.values.any_rows.Goals as goal
+use Rattle.fx_blocks.proofs.values.any_rows.Goals as goal
 
 pub returns-in_err-next : goal.returns-in_err-next
 returns-in_err-next c =
