@@ -4,7 +4,7 @@ use Rattle.fx_algebra.specs.Scopes.{is_among, with_name}
 use Rattle.fx_grammar.specs.Kinds.{is}
 use Rattle.fx_grammar.specs.declared.kinds.Kind.TheVariants as k
 use Rattle.fx_grammar.specs.declared.kinds.Token.{Token}
-use Rattle.fx_grammar.specs.Rule.{Outcome, Refusal, sees, shape_of, with_front, number_from}
+use Rattle.fx_grammar.specs.Rule.{Outcome, Refusal, sees, shape_of, with_front, any_number_from}
 use Rattle.fx_grammar.specs.Grammar.{Prefixes, row, new_column, columns}
 use Rattle.fx_grammar.proofs.GrammarLaws.{new_column_law, new_column_fits, new_column_takes}
 use Rattle.fx_readers.proofs.Loops.{from_turn, from_fails, from_ends, from_smaller, no_front, sees-alone}
@@ -17,7 +17,7 @@ module _ (ps : Prefixes) where
 -- ---- columns, each once
 
 unfoldable pub columns_from : List (List ℕ) → List Token → Outcome (List (List ℕ))
-columns_from names ts = with_front names (number_from (shape_of (new_column [])) new_column (λ names name. names ++ name ∷ []) names ts)
+columns_from names ts = with_front names (any_number_from (shape_of (new_column [])) new_column (λ names name. names ++ name ∷ []) names ts)
 
 column_sees : (ts : List Token) (b : Bool) → sees (is k.Variable) ts ≡ b → sees (shape_of (new_column [])).begins ts ≡ b
 unfolding new_column
@@ -39,7 +39,7 @@ pub columns_smaller : (names : List (List ℕ)) (ts next : List Token) (x : List
 columns_smaller names ts next x e = from_smaller (shape_of (new_column [])) new_column (λ names name. names ++ name ∷ []) new_column_law new_column_fits new_column_takes names ts next x e
 
 pub columns_are : (ts : List Token) → columns_from [] ts ≡ (columns []).read ts
-unfolding columns_from columns number_from
+unfolding columns_from columns any_number_from
 columns_are ts = no_front ((columns []).read ts)
 
 -- a name that the names lack

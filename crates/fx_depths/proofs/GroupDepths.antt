@@ -34,7 +34,7 @@ module _ (ps : Prefixes) where
   of_graph_term =
       of_either (of_any Variable of_variable)
       (of_either (of_any grammar.iri_part (of_iri_name ps))
-      (of_either (of_refusing BlankNode grammar.is_blank)
+      (of_either (of_refusing BlankNode grammar.begins_blank_node)
       (of_either (of_refusing Unsupported (is k.LeftParen))
       (of_any Constant (of_literal (grammar.datatype_in false ps) (of_datatype_in ps false))))))
 

@@ -1,16 +1,14 @@
 -- The grammar is read exactly as it is spelled, and refused exactly where it stops: each choice in it is decided by the next token.
 use Rattle.std.proofs.Common.{◌≡◌, ℕ, Bool, true, false, List, [], length, Option, refl}
 use Rattle.fx_grammar.specs.Kinds.{is}
-use Rattle.fx_grammar.specs.Rule.{Rule, shape_of, Shaped, Depth, with_depth, nothing, token, after, opt, depth, Apart, ReadAsSpelled, RefusedAsStopped, SpelledOrStopped, EndsAsSpelled, RefusedForGood, RefusedTheSame, RefusedFitly}
+use Rattle.fx_grammar.specs.Rule.{alphabet, Rule, shape_of, Shaped, Depth, with_depth, nothing, token, after, opt, depth, Apart, ReadAsSpelled, RefusedAsStopped, SpelledOrStopped, EndsAsSpelled, RefusedForGood, RefusedTheSame, RefusedFitly}
 use Rattle.fx_grammar.specs.Grammar.{Prefixes, parens, braces, body, block, single_block, wide_block, rows, row, row_end, columns, new_column, value, literal, text_suffix, datatype, iri_name, variable, main, query_head, select_head, distinct, selected, column, where_group, whole_group, group, braced, inside, items, first_triples, item, behind_other, other, union, service, service_name, binding, unbound, constraint, whole_expression, expression, disjunction, conjunction, relation, compared, among, sum, addend, signed_product, signed_literal, product, factor, no_quotient, unary, primary, primary_iri, primary_literal, no_call, call, bound_call, coalesce_call, if_call, one_call, two_call, two_args, list, triples, more_triples, dot_triples, same_subject, properties, more_properties, property, objects, verb, verb_iri, no_path, graph_term, part_literal, modifiers, order, condition, limits, limit, offset, number, query, prologue, prefix, with_elements, tag_of, text_of, is_plain_literal, literal_of, one_of, two_of, signed_of, comparison_of, namespace_of, iri_of, dot}
 use Rattle.fx_grammar.specs.declared.kinds.Kind.TheVariants as k
 use Rattle.fx_algebra.specs.declared.expressions.Expr.{Expr}
 use Rattle.fx_algebra.specs.declared.queries.Group.{Group}
 use Rattle.fx_terms.specs.declared.terms.Term.{Term}
 use Rattle.fx_grammar.proofs.KindLaws.{apart_by}
-use Rattle.fx_grammar.proofs.RuleKept.{Kept, kept_one, kept_token, kept_made, kept_then_by, kept_seq, kept_after, kept_before, kept_either, kept_opt, kept_many_from, kept_many, kept_chain, kept_some, kept_refusing, kept_nested}
-use Rattle.fx_grammar.proofs.RuleLaws.{Lawful}
-use Rattle.fx_grammar.proofs.RuleWhole.{read_as_spelled, refused_as_stopped, spelled_or_stopped, ends_as_spelled, refused_for_good, refused_the_same, refused_fitly}
+use Rattle.fx_grammar.proofs.RuleLaws.{Lawful, Kept, kept_one, kept_token, kept_made, kept_then_by, kept_seq, kept_after, kept_before, kept_either, kept_opt, kept_many_from, kept_many, kept_chain, kept_some, kept_refusing, kept_nested, read_as_spelled, refused_as_stopped, spelled_or_stopped, ends_as_spelled, refused_for_good, refused_the_same, refused_fitly}
 
 -- brackets round a rule that doesn't go on with their end
 pub kept_parens : {A : Type 0} {a : Rule A} → Kept a → Apart (is k.RightParen) (after (token k.LeftParen) a).goes_on → Kept (parens a)
@@ -192,7 +190,7 @@ module _ (ps : Prefixes) where
   unfolding constraint whole_expression expression disjunction conjunction relation compared among sum addend signed_product signed_literal product factor no_quotient unary primary primary_iri primary_literal no_call call bound_call coalesce_call if_call one_call two_call two_args list literal text_suffix datatype iri_name variable
   kept_constraint =
       kept_either (kept_parens kept_whole_expression (apart_by _ _ refl))
-      (kept_either (kept_call ps (depth (disjunction ps) 64) kept_whole_expression) (kept_refusing _ _ _) refl refl (apart_by _ _ refl)) refl refl (apart_by _ _ refl)
+      (kept_either (kept_call ps (depth alphabet (disjunction ps) 64) kept_whole_expression) (kept_refusing _ _ _) refl refl (apart_by _ _ refl)) refl refl (apart_by _ _ refl)
 
   -- ---- triples
 
@@ -503,7 +501,7 @@ module _ (ps : Prefixes) where
 
     pub item_law : (names : List (List ℕ)) → Lawful (item ps (group ps n) names)
     unfolding group
-    item_law names = (kept_item ps (depth (braced ps) n) (kept_group ps n) names).law
+    item_law names = (kept_item ps (depth alphabet (braced ps) n) (kept_group ps n) names).law
 
     pub item_fits : (names : List (List ℕ)) → Shaped (shape_of (item ps (group ps n) [])) (item ps (group ps n) names)
     unfolding group braced inside items first_triples item behind_other other union service service_name binding unbound block single_block wide_block rows row row_end columns new_column value literal text_suffix datatype iri_name variable constraint whole_expression expression disjunction conjunction relation compared among sum addend signed_product signed_literal product factor no_quotient unary primary primary_iri primary_literal no_call call bound_call coalesce_call if_call one_call two_call two_args list triples more_triples dot_triples same_subject properties more_properties property objects verb verb_iri no_path graph_term part_literal
@@ -544,11 +542,11 @@ module _ (ps : Prefixes) (n : ℕ) where
 
   pub law_factor : Lawful (factor ps (expression ps n))
   unfolding expression
-  law_factor = (kept_factor ps (depth (disjunction ps) n) (kept_expression ps n)).law
+  law_factor = (kept_factor ps (depth alphabet (disjunction ps) n) (kept_expression ps n)).law
 
   pub law_addend : Lawful (addend ps (expression ps n))
   unfolding expression
-  law_addend = (kept_addend ps (depth (disjunction ps) n) (kept_expression ps n)).law
+  law_addend = (kept_addend ps (depth alphabet (disjunction ps) n) (kept_expression ps n)).law
 
   pub addend_takes : (addend ps (expression ps n)).empty ≡ false
   unfolding expression disjunction conjunction relation compared among sum addend signed_product signed_literal product factor no_quotient unary primary primary_iri primary_literal no_call call bound_call coalesce_call if_call one_call two_call two_args list literal text_suffix datatype iri_name variable
@@ -556,29 +554,29 @@ module _ (ps : Prefixes) (n : ℕ) where
 
   pub law_relation : Lawful (relation ps (expression ps n))
   unfolding expression
-  law_relation = (kept_relation ps (depth (disjunction ps) n) (kept_expression ps n)).law
+  law_relation = (kept_relation ps (depth alphabet (disjunction ps) n) (kept_expression ps n)).law
 
   pub law_conjunction : Lawful (conjunction ps (expression ps n))
   unfolding expression
-  law_conjunction = (kept_conjunction ps (depth (disjunction ps) n) (kept_expression ps n)).law
+  law_conjunction = (kept_conjunction ps (depth alphabet (disjunction ps) n) (kept_expression ps n)).law
 
 pub query_read_as_spelled : ReadAsSpelled query
-query_read_as_spelled = read_as_spelled query kept_query.law
+query_read_as_spelled = read_as_spelled query kept_query
 
 pub query_refused_as_stopped : RefusedAsStopped query
-query_refused_as_stopped = refused_as_stopped query kept_query.law kept_query.exact
+query_refused_as_stopped = refused_as_stopped query kept_query
 
 pub query_spelled_or_stopped : SpelledOrStopped query
-query_spelled_or_stopped = spelled_or_stopped query kept_query.law kept_query.exact
+query_spelled_or_stopped = spelled_or_stopped query kept_query
 
 pub query_ends_as_spelled : EndsAsSpelled query
-query_ends_as_spelled = ends_as_spelled query kept_query.law kept_query.local kept_query.exact
+query_ends_as_spelled = ends_as_spelled query kept_query
 
 pub query_refused_for_good : RefusedForGood query
-query_refused_for_good = refused_for_good query kept_query.law kept_query.local kept_query.exact
+query_refused_for_good = refused_for_good query kept_query
 
 pub query_refused_the_same : RefusedTheSame query
-query_refused_the_same = refused_the_same query kept_query.law kept_query.local kept_query.exact
+query_refused_the_same = refused_the_same query kept_query
 
 pub query_refused_fitly : RefusedFitly query
-query_refused_fitly = refused_fitly query kept_query.law kept_query.local kept_query.exact
+query_refused_fitly = refused_fitly query kept_query

@@ -1,8 +1,4 @@
 pub mod GrammarLaws
 pub mod KindLaws
 pub mod OneQuery
-pub mod RuleKept
 pub mod RuleLaws
-pub mod RuleLocal
-pub mod RuleStops
-pub mod RuleWhole

@@ -31,11 +31,11 @@ use Rattle.fx_algebra.specs.declared.queries.Form.TheVariants as form
 use Rattle.fx_algebra.specs.declared.queries.Order.{Order}
 use Rattle.fx_algebra.specs.declared.queries.Query.{Query}
 use Rattle.fx_grammar.specs.Kinds.{is}
-use Rattle.fx_grammar.specs.Rule.{Rule, Outcome, number_from as items_of, shape_of, one, token, refusing, made, then_by, seq, after, before, either, opt, many_from, many, chain, some, nested}
+use Rattle.fx_grammar.specs.Rule.{Rule, Outcome, any_number_from, shape_of, one, token, refusing, made, then_by, seq, after, before, either, opt, many_from, many, chain, some, nested}
 use Rattle.fx_grammar.specs.declared.kinds.Kind.{Kind}
 use Rattle.fx_grammar.specs.declared.kinds.Kind.TheVariants as k
 use Rattle.fx_grammar.specs.declared.kinds.Token.{Token}
-use Rattle.fx_grammar.specs.declared.kinds.Token.TheVariants as token_of
+use Rattle.fx_grammar.specs.declared.kinds.Token.TheVariants as symbol
 use Rattle.fx_grammar.specs.declared.refusals.SyntaxKind.{SyntaxKind}
 use Rattle.fx_grammar.specs.declared.refusals.SyntaxKind.TheVariants.{UnknownPrefix, RelativeIri, BlankNode, Decimal, BadLiteral, BindInScope, ValuesWidth, RepeatedName, NumberTooWide, Unsupported, Unexpected}
 use Rattle.fx_grammar.specs.declared.parts.Annotation.{Annotation}
@@ -51,57 +51,57 @@ use Rattle.fx_grammar.specs.declared.parts.Main.{Main}
 -- ---- what a token says
 
 abbrev pub name_of : Token → Result (List ℕ) SyntaxKind
-name_of (token_of.Variable name) = Ok name
+name_of (symbol.Variable name) = Ok name
 name_of _ = Err Unexpected
 
 -- the predicate that is written `a`: rdf:type
 abbrev pub rdf_type : List ℕ
 rdf_type = codes "http://www.w3.org/1999/02/22-rdf-syntax-ns#type"
 
-abbrev pub typed : List ℕ → List ℕ → LiteralParts
-typed form datatype = record { form = form; datatype = datatype; tag = [] }
+abbrev pub typed_parts : List ℕ → List ℕ → LiteralParts
+typed_parts form datatype = record { form = form; datatype = datatype; tag = [] }
 
-abbrev pub tagged : List ℕ → List ℕ → LiteralParts
-tagged form tag = record { form = form; datatype = lang_string; tag = map to_ascii_lowercase tag }
+abbrev pub tagged_parts : List ℕ → List ℕ → LiteralParts
+tagged_parts form tag = record { form = form; datatype = lang_string; tag = map to_ascii_lowercase tag }
 
 abbrev pub integer : List ℕ → Term
-integer digits = term.Literal (typed digits xsd_integer)
+integer digits = term.Literal (typed_parts digits xsd_integer)
 
 abbrev pub text_of : Token → Result (List ℕ) SyntaxKind
-text_of (token_of.Text text) = Ok text
+text_of (symbol.Text text) = Ok text
 text_of _ = Err Unexpected
 
 abbrev pub tag_of : Token → Result (List ℕ) SyntaxKind
-tag_of (token_of.Tag tag) = if is_tag tag then Ok tag else Err Unexpected
+tag_of (symbol.Tag tag) = if is_tag tag then Ok tag else Err Unexpected
 tag_of _ = Err Unexpected
 
 abbrev pub signed_of : Token → Result Term SyntaxKind
-signed_of (token_of.Signed digits) = Ok (integer digits)
+signed_of (symbol.Signed digits) = Ok (integer digits)
 signed_of _ = Err Unexpected
 
 abbrev pub plain_literal : Kind → Result Term SyntaxKind
-plain_literal k.True = Ok (term.Literal (typed (codes "true") xsd_boolean))
-plain_literal k.False = Ok (term.Literal (typed (codes "false") xsd_boolean))
+plain_literal k.True = Ok (term.Literal (typed_parts (codes "true") xsd_boolean))
+plain_literal k.False = Ok (term.Literal (typed_parts (codes "false") xsd_boolean))
 plain_literal k.Decimal = Err Decimal
 plain_literal _ = Err Unexpected
 
 -- a number or a truth value; a decimal is refused
 abbrev pub literal_of : Token → Result Term SyntaxKind
-literal_of (token_of.Integer digits) = Ok (integer digits)
-literal_of (token_of.Signed digits) = Ok (integer digits)
-literal_of (token_of.Plain kind) = plain_literal kind
+literal_of (symbol.Integer digits) = Ok (integer digits)
+literal_of (symbol.Signed digits) = Ok (integer digits)
+literal_of (symbol.Plain kind) = plain_literal kind
 literal_of _ = Err Unexpected
 
 abbrev pub comparison_of : Token → Result Compare SyntaxKind
-comparison_of (token_of.Comparison op) = Ok op
+comparison_of (symbol.Comparison op) = Ok op
 comparison_of _ = Err Unexpected
 
 abbrev pub one_of : Token → Result Function SyntaxKind
-one_of (token_of.One function) = Ok function
+one_of (symbol.One function) = Ok function
 one_of _ = Err Unexpected
 
 abbrev pub two_of : Token → Result Function SyntaxKind
-two_of (token_of.Two function) = Ok function
+two_of (symbol.Two function) = Ok function
 two_of _ = Err Unexpected
 
 -- the number that digits write, behind those that write v
@@ -119,16 +119,16 @@ within None = Err NumberTooWide
 
 -- a number of LIMIT or OFFSET
 abbrev pub number_of : Token → Result ℕ SyntaxKind
-number_of (token_of.Integer digits) = within (number_in digits)
+number_of (symbol.Integer digits) = within (number_in digits)
 number_of _ = Err Unexpected
 
 -- the name that PREFIX declares: nothing stands behind its colon
 abbrev pub namespace_of : Token → Result (List ℕ) SyntaxKind
-namespace_of (token_of.PrefixName prefix []) = Ok prefix
+namespace_of (symbol.PrefixName prefix []) = Ok prefix
 namespace_of _ = Err Unexpected
 
 abbrev pub iri_of : Token → Result (List ℕ) SyntaxKind
-iri_of (token_of.Iri iri) = Ok iri
+iri_of (symbol.Iri iri) = Ok iri
 iri_of _ = Err Unexpected
 
 -- ---- names with prefixes
@@ -156,8 +156,8 @@ expanded None local = Err UnknownPrefix
 
 -- the IRI that a token names
 abbrev pub named_by : Prefixes → Token → Result (List ℕ) SyntaxKind
-named_by ps (token_of.Iri iri) = Ok iri
-named_by ps (token_of.PrefixName prefix local) = expanded (declared ps prefix) local
+named_by ps (symbol.Iri iri) = Ok iri
+named_by ps (symbol.PrefixName prefix local) = expanded (declared ps prefix) local
 named_by ps _ = Err Unexpected
 
 abbrev pub not_lang_string : Result (List ℕ) SyntaxKind → Result (List ℕ) SyntaxKind
@@ -175,8 +175,8 @@ is_plain_literal kind = is k.Integer kind || is k.Signed kind || is k.True kind 
 abbrev pub begins_literal : Kind → Bool
 begins_literal kind = is k.Text kind || is_plain_literal kind
 
-abbrev pub is_blank : Kind → Bool
-is_blank kind = is k.Blank kind || is k.LeftBracket kind
+abbrev pub begins_blank_node : Kind → Bool
+begins_blank_node kind = is k.Blank kind || is k.LeftBracket kind
 
 -- the marks of paths that may stand where a verb may begin, and behind one
 abbrev pub begins_path : Kind → Bool
@@ -220,8 +220,8 @@ datatype_in true ps = before (datatype ps) no_call
 
 abbrev pub annotated : List ℕ → Option Annotation → Term
 annotated text None = term.Literal (plain text)
-annotated text (Some (annotation.Tag tag)) = term.Literal (tagged text tag)
-annotated text (Some (annotation.Datatype iri)) = term.Literal (typed text iri)
+annotated text (Some (annotation.Tag tag)) = term.Literal (tagged_parts text tag)
+annotated text (Some (annotation.Datatype iri)) = term.Literal (typed_parts text iri)
 
 -- a tag is one, and a datatype isn't rdf:langString
 abbrev pub IsAnnotation : Option Annotation → Type 0
@@ -252,9 +252,9 @@ summed first [] = first
 summed first (e ∷ es) = expr.Sum first (e ∷ es)
 
 abbrev pub related : Expr → Option Relative → Expr
-related left None = left
-related left (Some (relative.Compared op right)) = expr.Compare op left right
-related left (Some (relative.Among negated list)) = expr.Among negated left list
+related e None = e
+related e (Some (relative.Compared op second)) = expr.Compare op e second
+related e (Some (relative.Among negated list)) = expr.Among negated e list
 
 -- '(' and what a rule spells and ')'
 abbrev pub parens : {A : Type 0} → Rule A → Rule A
@@ -408,7 +408,7 @@ module _ (ps : Prefixes) where
   graph_term =
       either (made part.Variable variable)
       (either (made iri_part (iri_name ps))
-      (either (refusing BlankNode is_blank)
+      (either (refusing BlankNode begins_blank_node)
       (either (refusing Unsupported (is k.LeftParen))
       (made part.Constant part_literal))))
 
@@ -444,7 +444,7 @@ module _ (ps : Prefixes) where
   more_triples = many_from (shape_of (dot_triples true)) dot_triples (λ behind ts. is_some ts)
 
   unfoldable pub more_triples_from : Bool → List Token → Outcome (List (Option (List Pattern)))
-  more_triples_from behind ts = items_of (shape_of (dot_triples true)) dot_triples (λ behind ts. is_some ts) behind ts
+  more_triples_from behind ts = any_number_from (shape_of (dot_triples true)) dot_triples (λ behind ts. is_some ts) behind ts
 
   unfoldable pub triples : Rule (List Pattern)
   triples = made (λ p. p.0 ++ flat_map option_items p.1) (seq same_subject (more_triples true))
@@ -551,7 +551,7 @@ module _ (ps : Prefixes) where
   items inner = many_from (shape_of (item inner [])) (item inner) with_elements
 
   unfoldable pub items_from : Rule Group → List (List ℕ) → List Token → Outcome (List (List Element))
-  items_from inner names ts = items_of (shape_of (item inner [])) (item inner) with_elements names ts
+  items_from inner names ts = any_number_from (shape_of (item inner [])) (item inner) with_elements names ts
 
   unfoldable pub first_triples : Rule (List Element)
   first_triples = made triple_elements (opt (either (triples ps) (refusing Unsupported (is k.Select))))

@@ -4,7 +4,7 @@ use Rattle.fx_algebra.specs.declared.queries.Element.{Element}
 use Rattle.fx_algebra.specs.declared.queries.Group.{roll-Group}
 use Rattle.fx_grammar.specs.declared.kinds.Token.{Token}
 use Rattle.std.specs.List.{flat_map}
-use Rattle.fx_grammar.specs.Rule.{Outcome, Refusal, and_then, sees, shape_of, with_each, number_from}
+use Rattle.fx_grammar.specs.Rule.{Outcome, Refusal, and_then, sees, shape_of, with_each, any_number_from}
 use Rattle.fx_grammar.specs.Grammar.{Prefixes, item, items, items_from, with_elements, group, group_of, inside, first_triples}
 use Rattle.fx_grammar.proofs.GrammarLaws.{item_law, item_fits, item_takes}
 use Rattle.fx_readers.proofs.Loops.{from_each_turn, from_each_fails, from_each_ends, from_smaller}
@@ -29,7 +29,7 @@ module _ (ps : Prefixes) (n : ℕ) where
   -- the inside of a group, by its elements
   inside_is : (ts mid : List Token) (first : List Element) (names : List (List ℕ)) → (first_triples ps).read ts ≡ Ok (first, mid) → names ≡ with_elements [] first
       → (inside ps (group ps n)).read ts ≡ and_then (with_each (λ es. es) first (items_from ps (group ps n) names mid)) (λ es rest. Ok (roll-Group (record { elements = es }), rest))
-  unfolding inside with_each items items_from number_from
+  unfolding inside with_each items items_from any_number_from
   inside_is ts mid first names e f = rw (e, f) (go ((items ps (group ps n) (with_elements [] first)).read mid))
     where
       go : (o : Outcome (List (List Element)))

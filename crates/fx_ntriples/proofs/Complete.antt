@@ -12,7 +12,8 @@ use Rattle.fx_terms.specs.declared.triples.Triple.{Triple}
 use Rattle.fx_terms.specs.Literals.{LiteralParts, typed, tagged, is_tag, is_dash, are_tag_parts, is_letters, is_letters_or_digits, is_letter_or_digit}
 use Rattle.fx_ntriples.specs.declared.quotes.Quote.{Quote}
 use Rattle.fx_ntriples.specs.declared.quotes.Quote.TheVariants.{Iri, Text}
-use Rattle.fx_ntriples.specs.Quotes.{got, and_then, in_front, names, escape_at, body, is_plain, closing, hex_value, numbered, naming, short, may_name, IsEscape, letter, four, eight, IsBody, nothing, itself, escape}
+use Rattle.fx_rules.specs.Rule.{and_then}
+use Rattle.fx_ntriples.specs.Quotes.{got, in_front, names, escape_at, body, is_plain, closing, hex_value, numbered, naming, short, may_name, IsEscape, letter, four, eight, IsBody, nothing, itself, escape}
 use Rattle.fx_ntriples.specs.Reading.{is_blank, is_line_end, unblanked, iri, in_part, tag_len, if_literal, with_tag, untagged, literal, object, triple, ended, said, line, all, also, read_lines, read_document}
 use Rattle.fx_ntriples.specs.Forms as form
 use Rattle.fx_ntriples.proofs.Steps.{passed_over, whole_number}

@@ -1,15 +1,16 @@
 -- A line is refused with Bad exactly where Bad stands.
-use Rattle.std.proofs.Common.{◌≡◌, ◌≢◌, ℕ, ◌<◌, ◌⊎◌, inl, inr, Option, List, [], ◌∷◌, ◌++◌, length, refl, sym, ap, ◌∙◌, subst, arith, append_assoc, append-nil, length-append}
+use Rattle.std.proofs.Common.{◌≡◌, ◌≢◌, ℕ, ◌<◌, ◌⊎◌, inl, inr, Option, Ok, Err, List, [], ◌∷◌, ◌++◌, length, refl, sym, ap, ◌∙◌, subst, arith, append_assoc, append-nil, length-append}
 use Rattle.fx_terms.specs.declared.triples.Triple.{Triple}
 use Rattle.fx_ntriples.specs.declared.faults.Fault.{Fault}
 use Rattle.fx_ntriples.specs.declared.faults.Fault.TheVariants.{Bad, Blank, Relative}
 use Rattle.fx_ntriples.specs.declared.quotes.Quote.{Quote}
 use Rattle.fx_ntriples.specs.declared.quotes.Quote.TheVariants.{Iri, Text}
-use Rattle.fx_ntriples.specs.Quotes.{Got, got, stop}
+use Rattle.fx_ntriples.specs.Quotes.{Got, stop}
 use Rattle.fx_ntriples.specs.Reading.{line}
 use Rattle.fx_ntriples.specs.Forms as form
 use Rattle.fx_ntriples.specs.Loose as loose
 use Rattle.fx_ntriples.specs.Refusals as what
+use Rattle.fx_ntriples.proofs.Outcomes.{same_fault, same_place}
 use Rattle.fx_ntriples.proofs.Sound.{line_spelled}
 use Rattle.fx_ntriples.proofs.Stops.{Ends, Stands, line_stop}
 use Rattle.fx_ntriples.proofs.States as state
@@ -42,9 +43,6 @@ lang_some p _ (what.as_datatype {s} r h i) = omega (arith, length-append s r, ir
 abbrev stopped : {A : Type 0} → Fault → List ℕ → Got A
 stopped k r = stop k r
 
-same_rest : {A : Type 0} (k j : Fault) (r s : List ℕ) → stopped {A = A} k r ≡ stopped j s → r ≡ s
-same_rest k j r s h = cc
-
 too_long : (r y : List ℕ) → 0 < length r → r ++ y ≡ y → ⊥
 too_long r y some e = omega (arith, some, ap length e, length-append r y)
 
@@ -52,18 +50,19 @@ complete_before : (front rest p r : List ℕ) → line (front ++ rest) ≡ stop 
 complete_before front rest p r h e (what.relative k) =
     let there : line (p ++ (r ++ rest)) ≡ stop Relative (r ++ rest) = relative_refused p (r ++ rest) (relative_longer p r rest k) in
     let same : line (p ++ (r ++ rest)) ≡ stop Bad rest = ap line (sym (append_assoc p r rest) ∙ ap (λ z. z ++ rest) e) ∙ h in
+    let other : Relative ≡ Bad = same_fault (sym there ∙ same) in
     cc
 complete_before front rest p r h e (what.misnaming k) =
     let there : line (p ++ (r ++ rest)) ≡ stop Bad (r ++ rest) = misnamed_refused p (r ++ rest) (misnamed_longer p r rest k) in
     let same : line (p ++ (r ++ rest)) ≡ stop Bad rest = ap line (sym (append_assoc p r rest) ∙ ap (λ z. z ++ rest) e) ∙ h in
-    too_long r rest (misnamed_some p r k) (same_rest Bad Bad (r ++ rest) rest (sym there ∙ same))
+    too_long r rest (misnamed_some p r k) (same_place (sym there ∙ same))
 complete_before front rest p r h e (what.tagless k) =
     let there : line (p ++ (r ++ rest)) ≡ stop Bad (r ++ rest) = lang_refused p (r ++ rest) (lang_longer p r rest k) in
     let same : line (p ++ (r ++ rest)) ≡ stop Bad rest = ap line (sym (append_assoc p r rest) ∙ ap (λ z. z ++ rest) e) ∙ h in
-    too_long r rest (lang_some p r k) (same_rest Bad Bad (r ++ rest) rest (sym there ∙ same))
+    too_long r rest (lang_some p r k) (same_place (sym there ∙ same))
 
 no_blank : (front rest : List ℕ) → line (front ++ rest) ≡ stop Bad rest → what.BlankStands front rest → ⊥
-no_blank front rest h b = let there = blank_refused front rest b in cc
+no_blank front rest h b = let there = blank_refused front rest b in let other : Blank ≡ Bad = same_fault (sym there ∙ h) in cc
 
 pub record Refusal (l r : List ℕ) : Type 0 where
   pub front : List ℕ
@@ -216,8 +215,8 @@ stop_same front rest r Relative h e =
     elim (line_stop (front ++ rest) r Relative e) [ inl b ↦ absurd (cc) | inr x ↦ absurd (other_fault front rest x.front r Relative (λ b. cc) h (sym x.is) x.stands) ]
 
 otherwise_refused : (front rest : List ℕ) (g : Got (Option Triple)) → what.OtherwiseStands front rest → line (front ++ rest) ≡ g → g ≡ stop Bad rest
-otherwise_refused front rest (got t s) h e = absurd (not_read front rest h.stops (loose_line (front ++ rest) t (line_spelled (front ++ rest) t s e)))
-otherwise_refused front rest (stop k s) h e = stop_same front rest s k h e
+otherwise_refused front rest (Ok p) h e = absurd (not_read front rest h.stops (loose_line (front ++ rest) p.0 (line_spelled (front ++ rest) p.0 p.1 e)))
+otherwise_refused front rest (Err f) h e = stop_same front rest f.1 f.0 h e
 
 -- where Bad stands, the reading stops at Bad
 pub bad_refused : (front rest : List ℕ) → what.BadStands front rest → line (front ++ rest) ≡ stop Bad rest

@@ -15,11 +15,12 @@ use Rattle.fx_terms.specs.declared.literals.LiteralError.{LiteralError}
 use Rattle.fx_terms.specs.Iris.{read_iri}
 use Rattle.fx_terms.specs.Datatypes.{lang_string as rdf_lang_string}
 use Rattle.fx_terms.specs.Literals.{LiteralParts, plain, typed, tagged, is_tag, is_dash}
-use Rattle.fx_ntriples.specs.declared.faults.Fault.TheVariants.{Bad, Blank}
+use Rattle.fx_ntriples.specs.declared.faults.Fault.TheVariants.{Bad, Blank, Relative}
 use Rattle.fx_ntriples.specs.declared.quotes.Quote.{Quote}
 use Rattle.fx_ntriples.specs.declared.quotes.Quote.TheVariants.{Iri, Text}
 use Rattle.fx_ntriples.specs.Quotes as strict
-use Rattle.fx_ntriples.specs.Quotes.{Got, got, stop, and_then, in_front, Escape, names, misnames, breaks, escaped, escape_at, lettered, naming, numbered, short, may_name, hex_value, body, is_plain, closing}
+use Rattle.fx_rules.specs.Rule.{and_then}
+use Rattle.fx_ntriples.specs.Quotes.{Got, got, stop, in_front, Escape, names, misnames, breaks, escaped, escape_at, lettered, naming, numbered, short, may_name, hex_value, body, is_plain, closing}
 use Rattle.fx_ntriples.specs.Reading.{is_blank, unblanked, iri, tag_len, if_absolute, if_literal, with_tag, with_datatype, untagged, literal, subject, object, dotted, triple, ended, said, line}
 use Rattle.fx_ntriples.specs.Forms as form
 use Rattle.fx_ntriples.specs.Loose as loose
@@ -27,6 +28,7 @@ use Rattle.fx_ntriples.specs.Refusals as what
 use Rattle.fx_ntriples.proofs.Sound.{passes_all, escape_is, body_spelled, subject_spelled, iri_spelled, blanks_spelled, triple_spelled, and_then_got}
 use Rattle.fx_ntriples.proofs.Complete.{both}
 use Rattle.fx_ntriples.proofs.Stops.{in_front_stop, and_then_stop}
+use Rattle.fx_ntriples.proofs.Outcomes.{same_rest, same_fault, same_place}
 use Rattle.fx_ntriples.proofs.States as state
 use Rattle.fx_ntriples.proofs.States.{State, inside, slash, digits, step, go, accepts, final, Goes, goes_nothing, goes_first, goes_one, goes_then, goes_blanks, at, leads, opens_at, blank_at, escape_goes, slash_step, plain_step, string_goes, scan, is_tag_test, parts_test, closed_hat, line_accepted}
 use Rattle.fx_ntriples.proofs.Viable.{loose_escape, loose_iri, loose_string, loose_object, line_from, empty_iri, rest_of, before_goes}
@@ -271,10 +273,10 @@ escape_in q s r (names c n) e ih h =
     subst (λ z. BodyHalt q (92 ∷ z) r) (take-append-drop n s) (escape_more q (take n s) c (drop n s) r x.0 (ih n (in_front_stop c (body q n s) Bad r h)))
 escape_in q s r misnames e ih h =
     let m = misnamed_is q s e in
-    let same : 92 ∷ s ≡ r = cc in
+    let same : 92 ∷ s ≡ r = same_place h in
     wrong [] [] m.0 m.1 strict.nothing m.2 (ap (λ z. 92 ∷ z) m.3) (ap (λ z. 92 ∷ z) (sym m.3) ∙ same)
 escape_in q s r (breaks y) e ih h =
-    let same : y ≡ r = cc in
+    let same : y ≡ r = same_place h in
     let b = broken q s y e in
     halts (92 ∷ b.raw) b.c b.to (λ n. goes_first (inside q n) (slash q n) (b.to n) 92 b.raw (slash_step q n) (b.goes n)) (λ n. subst (Stuck (b.to n)) same (b.stuck n))
     (subst (λ z. loose.IsBody q (92 ∷ z)) (append-nil (b.raw ++ b.c)) (loose.escape b.whole loose.nothing))
@@ -288,7 +290,7 @@ body_test q b s r false false true e f g ih h =
     let back : b ≡ 92 = eqb-true b 92 g in
     subst (λ (y : ℕ). BodyHalt q (y ∷ s) r) (sym back) (escape_in q s r (escape_at q s) refl ih (subst (λ (y : ℕ). escaped (escape_at q s) (y ∷ s) (λ n. body q n s) ≡ stop Bad r) back h))
 body_test q b s r false false false e f g ih h =
-    let same : b ∷ s ≡ r = cc in
+    let same : b ∷ s ≡ r = same_place h in
     subst (BodyHalt q (b ∷ s)) same (halts [] [] (inside q) (λ k. goes_nothing (inside q k)) (λ k. rw (e, f, g) refl) loose.nothing refl)
 
 body_halt : (q : Quote) (n : ℕ) (s r : List ℕ) → body q n s ≡ stop Bad r → BodyHalt q (drop n s) r
@@ -296,8 +298,8 @@ unfolding body
 body_halt q n [] r h = nil_halt n
   where
     nil_halt : (m : ℕ) → BodyHalt q (drop m []) r
-    nil_halt zero = let same : [] ≡ r = cc in subst (BodyHalt q []) same (halts [] [] (inside q) (λ k. goes_nothing (inside q k)) (λ k. refl) loose.nothing refl)
-    nil_halt (suc m) = let same : [] ≡ r = cc in subst (BodyHalt q []) same (halts [] [] (inside q) (λ k. goes_nothing (inside q k)) (λ k. refl) loose.nothing refl)
+    nil_halt zero = let same : [] ≡ r = same_place h in subst (BodyHalt q []) same (halts [] [] (inside q) (λ k. goes_nothing (inside q k)) (λ k. refl) loose.nothing refl)
+    nil_halt (suc m) = let same : [] ≡ r = same_place h in subst (BodyHalt q []) same (halts [] [] (inside q) (λ k. goes_nothing (inside q k)) (λ k. refl) loose.nothing refl)
 body_halt q zero (b ∷ s) r h = body_test q b s r (is_plain q b) (b == closing q) (b == 92) refl refl refl (λ n k. body_halt q n s r k) h
 body_halt q (suc n) (b ∷ s) r h = body_halt q n s r h
 
@@ -322,7 +324,7 @@ iri_body x p s r h (halts raw c to g k l f) =
 
 relative_halt : (here y r u : List ℕ) (a : Result (List ℕ) TermError) → if_absolute here y a ≡ stop Bad r → ⊥
 relative_halt here y r u (Ok t) h = cc
-relative_halt here y r u (Err e) h = cc
+relative_halt here y r u (Err e) h = let other : Relative ≡ Bad = same_fault h in cc
 
 part_missing : (x : what.Part) (p r : List ℕ) → what.Before x p → Stuck (at x) r → Halt (p ++ r) r
 part_missing x p r h k = let more = rest_of x (60 ∷ 62 ∷ []) empty_iri in nothing_on p r (60 ∷ 62 ∷ more.0) (at x) (before_goes x p h) k (line_from x p (60 ∷ 62 ∷ more.0) h more.1)
@@ -335,7 +337,7 @@ iri_test x p b s r true h other e g =
       | inr y ↦ absurd (relative_halt (b ∷ s) y.1 r y.0 (read_iri y.0) y.3)
     ]
 iri_test x p b s r false h other e g =
-    let same : b ∷ s ≡ r = cc in
+    let same : b ∷ s ≡ r = same_place g in
     subst (Halt (p ++ b ∷ s)) same (part_missing x p (b ∷ s) h (other e))
 
 iri_halt : (x : what.Part) (p : List ℕ) (b : ℕ) (s r : List ℕ) → what.Before x p → ((b == 60) ≡ false → step (at x) b ≡ None) → iri (b ∷ s) ≡ stop Bad r → Halt (p ++ b ∷ s) r
@@ -352,7 +354,7 @@ unblanked_head (b ∷ s) u c h = unblanked_test b s u c (is_blank b) refl h (λ 
 
 -- a predicate and a datatype
 iri_due : (x : what.Part) (p z l r : List ℕ) → ((b : ℕ) → is_blank b ≡ false → (b == 60) ≡ false → step (at x) b ≡ None) → accepts (at x) ≡ false → what.Before x p → unblanked z ≡ l → iri l ≡ stop Bad r → Halt (p ++ l) r
-iri_due x p z [] r other last h e g = let same : [] ≡ r = cc in subst (Halt (p ++ [])) same (part_missing x p [] h last)
+iri_due x p z [] r other last h e g = let same : [] ≡ r = same_place g in subst (Halt (p ++ [])) same (part_missing x p [] h last)
 iri_due x p z (b ∷ s) r other last h e g = iri_halt x p b s r h (other b (unblanked_head z s b e)) g
 
 predicate_other : (b : ℕ) → is_blank b ≡ false → (b == 60) ≡ false → step (state.next what.predicate) b ≡ None
@@ -391,7 +393,7 @@ object_line p o d h k e = line_from what.object p (o ++ (d ++ 46 ∷ [])) h (o, 
 
 made_halt : (here x r : List ℕ) (a : Result LiteralParts LiteralError) → if_literal here x a ≡ stop Bad r → (e : LiteralError) × (a ≡ Err e) × (here ≡ r)
 made_halt here x r (Ok l) h = absurd (cc)
-made_halt here x r (Err e) h = (e, refl, cc)
+made_halt here x r (Err e) h = (e, refl, same_place h)
 
 refused : {A B : Type 0} (v : Bool) (a : A) (b e : B) → cond v (Ok a) (Err b) ≡ Err e → v ≡ false
 refused true a b e h = absurd (cc)
@@ -477,11 +479,11 @@ datatype_test p str f a z r d true e h k ha g =
       | inr x ↦ lang_halt p str f a b.raw z x.0 x.1 r before x.2 x.3
     ])
 datatype_test p str f a z r d false e h k ha g =
-    let same : d ∷ z ≡ r = cc in
+    let same : d ∷ z ≡ r = same_place g in
     subst (Halt (p ++ (str ++ (a ++ 94 ∷ d ∷ z)))) same (hat_halt p str f a (d ∷ z) h k ha (rw e refl))
 
 datatype_halt : (p str f a y r : List ℕ) → what.Before what.object p → form.IsString str f → form.AreBlanks a → with_datatype f y ≡ stop Bad r → Halt (p ++ (str ++ (a ++ 94 ∷ y))) r
-datatype_halt p str f a [] r h k ha g = let same : [] ≡ r = cc in subst (Halt (p ++ (str ++ (a ++ 94 ∷ [])))) same (hat_halt p str f a [] h k ha refl)
+datatype_halt p str f a [] r h k ha g = let same : [] ≡ r = same_place g in subst (Halt (p ++ (str ++ (a ++ 94 ∷ [])))) same (hat_halt p str f a [] h k ha refl)
 datatype_halt p str f a (d ∷ z) r h k ha g = datatype_test p str f a z r d (d == 94) refl h k ha g
 
 untagged_test : (p str f a y r : List ℕ) (c : ℕ) (v : Bool) → (c == 94) ≡ v → what.Before what.object p → form.IsString str f → form.AreBlanks a →
@@ -512,7 +514,7 @@ abbrev bad_at : {A : Type 0} → List ℕ → Got A
 bad_at s = stop Bad s
 
 blank_not_bad : {A : Type 0} (s r : List ℕ) → blanked {A = A} s ≡ bad_at r → ⊥
-blank_not_bad s r h = cc
+blank_not_bad s r h = let other : Blank ≡ Bad = same_fault h in cc
 
 object_test : (p s r : List ℕ) (b : ℕ) (v w : Bool) → (b == 95) ≡ v → (b == 34) ≡ w → is_blank b ≡ false → what.Before what.object p →
     cond v (stop Blank (b ∷ s)) (cond w (and_then (body Text 0 s) literal) (and_then (iri (b ∷ s)) (λ t r. got (term.Iri t) r))) ≡ stop Bad r → Halt (p ++ b ∷ s) r
@@ -533,7 +535,7 @@ object_test p s r b false false e f n h g =
     ]
 
 object_halt : (p z l r : List ℕ) → what.Before what.object p → unblanked z ≡ l → object l ≡ stop Bad r → Halt (p ++ l) r
-object_halt p z [] r h e g = let same : [] ≡ r = cc in subst (Halt (p ++ [])) same (part_missing what.object p [] h refl)
+object_halt p z [] r h e g = let same : [] ≡ r = same_place g in subst (Halt (p ++ [])) same (part_missing what.object p [] h refl)
 object_halt p z (b ∷ s) r h e g = object_test p s r b (b == 95) (b == 34) refl refl (unblanked_head z s b e) h g
 
 -- ---- behind an object
@@ -585,7 +587,7 @@ exit_tag_by o r (c ∷ a) f h g t k e =
     exit_with o r (c ∷ a) (state.tag f false) state.after h g k (goes_first (state.tag f false) state.after state.after c a (state.blank_tag f c x.0) (goes_blanks state.after a (λ b j. rw j refl) x.1)) e (stuck_after r (unblanked r) refl)
 
 made_of : (here x r : List ℕ) (obj : Term) (a : Result LiteralParts LiteralError) → if_literal here x a ≡ got obj r → (l : LiteralParts) × (a ≡ Ok l) × (x ≡ r)
-made_of here x r obj (Ok l) h = (l, refl, cc)
+made_of here x r obj (Ok l) h = (l, refl, same_rest h)
 made_of here x r obj (Err e) h = absurd (cc)
 
 accepted : {A B : Type 0} (v : Bool) (a x : A) (b : B) → cond v (Ok a) (Err b) ≡ Ok x → v ≡ true
@@ -676,10 +678,10 @@ datatype_exit str f a (d ∷ y) r obj h k g = datatype_exit_test str f a y r d o
 untagged_exit_test : (str f a y r : List ℕ) (c : ℕ) (obj : Term) (v : Bool) → (c == 94) ≡ v → form.IsString str f → form.AreBlanks a → unblanked (c ∷ y) ≡ c ∷ y → (a ≡ [] → Begins 64 (c ∷ y) ≡ false) →
     cond v (with_datatype f y) (got (term.Literal (plain f)) (c ∷ y)) ≡ got obj r → Exit (str ++ (a ++ c ∷ y)) r
 untagged_exit_test str f a y r c obj true e h k u j g = subst (λ (z : ℕ). Exit (str ++ (a ++ z ∷ y)) r) (sym (eqb-true c 94 e)) (datatype_exit str f a y r obj h k g)
-untagged_exit_test str f a y r c obj false e h k u j g = let same : c ∷ y ≡ r = cc in subst (Exit (str ++ (a ++ c ∷ y))) same (alone_exit str f a (c ∷ y) h k u e j)
+untagged_exit_test str f a y r c obj false e h k u j g = let same : c ∷ y ≡ r = same_rest g in subst (Exit (str ++ (a ++ c ∷ y))) same (alone_exit str f a (c ∷ y) h k u e j)
 
 untagged_exit : (str f a u r : List ℕ) (obj : Term) → form.IsString str f → form.AreBlanks a → unblanked u ≡ u → (a ≡ [] → Begins 64 u ≡ false) → untagged f u ≡ got obj r → Exit (str ++ (a ++ u)) r
-untagged_exit str f a [] r obj h k u j g = let same : [] ≡ r = cc in subst (Exit (str ++ (a ++ []))) same (alone_exit str f a [] h k u refl j)
+untagged_exit str f a [] r obj h k u j g = let same : [] ≡ r = same_rest g in subst (Exit (str ++ (a ++ []))) same (alone_exit str f a [] h k u refl j)
 untagged_exit str f a (c ∷ y) r obj h k u j g = untagged_exit_test str f a y r c obj (c == 94) refl h k u j g
 
 unblanked_twice : (s : List ℕ) → unblanked (unblanked s) ≡ unblanked s
@@ -698,7 +700,7 @@ literal_exit_test str f y r b obj false e h g =
     (untagged_exit str f m.raw (unblanked (b ∷ y)) r obj h m.blanks (unblanked_twice (b ∷ y)) (λ n. subst (λ (z : List ℕ). Begins 64 z ≡ false) (m.is ∙ ap (λ z. z ++ unblanked (b ∷ y)) n) e) g)
 
 literal_exit : (str f x r : List ℕ) (obj : Term) → form.IsString str f → literal f x ≡ got obj r → Exit (str ++ x) r
-literal_exit str f [] r obj h g = let same : [] ≡ r = cc in subst (Exit (str ++ [])) same (alone_exit str f [] [] h refl refl refl (λ n. refl))
+literal_exit str f [] r obj h g = let same : [] ≡ r = same_rest g in subst (Exit (str ++ [])) same (alone_exit str f [] [] h refl refl refl (λ n. refl))
 literal_exit str f (b ∷ y) r obj h g = literal_exit_test str f y r b obj (b == 64) refl h g
 
 object_exit_test : (b : ℕ) (s r : List ℕ) (obj : Term) (v w : Bool) → (b == 95) ≡ v → (b == 34) ≡ w →
@@ -712,7 +714,7 @@ object_exit_test b s r obj false true e f h =
 object_exit_test b s r obj false false e f h =
     let p = and_then_got (iri (b ∷ s)) (λ t r. got (term.Iri t) r) obj r h in
     let m = iri_spelled (b ∷ s) p.0 p.1 p.2 in
-    let rest : p.1 ≡ r = (let g = p.3 in cc) in
+    let rest : p.1 ≡ r = same_rest p.3 in
     let ref = loose_iri m.raw p.0 m.ref in
     subst (λ z. Exit z r) (ap (λ y. m.raw ++ y) (sym rest) ∙ sym m.is) (exit_after m.raw r (loose.reference ref) (state.iri_goes what.object m.raw ref))
 
@@ -730,11 +732,11 @@ exit_halt p s e r x h u k =
 dot_test : (p s e r u : List ℕ) (b : ℕ) (t : Triple) (v : Bool) (x : Exit s e) → what.Before what.object p → unblanked e ≡ b ∷ u → (b == 46) ≡ v → cond v (got t u) (stop Bad (b ∷ u)) ≡ stop Bad r → Halt (p ++ s) r
 dot_test p s e r u b t true x h j i g = absurd (cc)
 dot_test p s e r u b t false x h j i g =
-    let same : b ∷ u ≡ r = cc in
+    let same : b ∷ u ≡ r = same_place g in
     subst (Halt (p ++ s)) same (exit_halt p s e (b ∷ u) x h j (subst (StuckButDot x.to) j x.stuck i))
 
 dot_halt : (p s e l r : List ℕ) (t : Triple) (x : Exit s e) → what.Before what.object p → unblanked e ≡ l → dotted t l ≡ stop Bad r → Halt (p ++ s) r
-dot_halt p s e [] r t x h j g = let same : [] ≡ r = cc in subst (Halt (p ++ s)) same (exit_halt p s e [] x h j (subst (StuckButDot x.to) j x.stuck))
+dot_halt p s e [] r t x h j g = let same : [] ≡ r = same_place g in subst (Halt (p ++ s)) same (exit_halt p s e [] x h j (subst (StuckButDot x.to) j x.stuck))
 dot_halt p s e (b ∷ u) r t x h j g = dot_test p s e r u b t (b == 46) x h j refl g
 
 -- ---- lines
@@ -806,7 +808,7 @@ ended_halt a l u t z c ha h e n =
 
 end_test : (a l u r : List ℕ) (t : Triple) (z : List ℕ) (c : ℕ) (v : Bool) → form.AreBlanks a → triple l ≡ got t z → unblanked z ≡ c ∷ u → (c == 35) ≡ v → cond v (got (Some t) []) (stop Bad (c ∷ u)) ≡ stop Bad r → Halt (a ++ l) r
 end_test a l u r t z c true ha h e n g = absurd (cc)
-end_test a l u r t z c false ha h e n g = let same : c ∷ u ≡ r = cc in subst (Halt (a ++ l)) same (ended_halt a l u t z c ha h e n)
+end_test a l u r t z c false ha h e n g = let same : c ∷ u ≡ r = same_place g in subst (Halt (a ++ l)) same (ended_halt a l u t z c ha h e n)
 
 end_halt : (a l y r : List ℕ) (t : Triple) (z : List ℕ) → form.AreBlanks a → triple l ≡ got t z → unblanked z ≡ y → ended (Some t) y ≡ stop Bad r → Halt (a ++ l) r
 end_halt a l [] r t z ha h e g = absurd (cc)

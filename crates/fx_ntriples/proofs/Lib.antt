@@ -4,6 +4,7 @@ pub mod Complete
 pub mod Exact
 pub mod Halts
 pub mod LineSteps
+pub mod Outcomes
 pub mod Placed
 pub mod Refused
 pub mod Sound

@@ -86,39 +86,42 @@ also_fault t (fault j s p) k at place h = h
 
 line_then : (start : ℕ) (l : List ℕ) (ls : List (List ℕ)) (k : Fault) (at place : ℕ) (g : Got (Option Triple)) (more : Lines) → line l ≡ g → followed start (length l) g more ≡ fault k at place →
     (more ≡ fault k at place → StopsIn (start + length l + 1) ls k at place) → StopsIn start (l ∷ ls) k at place
-line_then start l ls k at place (got None s) more e h ih =
-    let m = ih h in
-    record {
-      before = l ∷ m.before;
-      triples = m.triples;
-      read = form.silent (line_spelled l None s e) m.read;
-      text = m.text;
-      rest = m.rest;
-      after = m.after;
-      lines = ap (λ z. l ∷ z) m.lines;
-      stops = m.stops;
-      at_is = omega (arith, m.at_is);
-      place_is = m.place_is;
-    }
-line_then start l ls k at place (got (Some t) s) more e h ih =
-    let m = ih (also_fault t more k at place h) in
-    record {
-      before = l ∷ m.before;
-      triples = t ∷ m.triples;
-      read = form.more (line_spelled l (Some t) s e) m.read;
-      text = m.text;
-      rest = m.rest;
-      after = m.after;
-      lines = ap (λ z. l ∷ z) m.lines;
-      stops = m.stops;
-      at_is = omega (arith, m.at_is);
-      place_is = m.place_is;
-    }
-line_then start l ls k at place (stop j s) more e h ih =
-    let kind : j ≡ k = cc in
+line_then start l ls k at place (Ok p) more e h ih = go p.0 p.1 e h
+  where
+    go : (o : Option Triple) (s : List ℕ) → line l ≡ got o s → also o more ≡ fault k at place → StopsIn start (l ∷ ls) k at place
+    go None s e h =
+        let m = ih h in
+        record {
+          before = l ∷ m.before;
+          triples = m.triples;
+          read = form.silent (line_spelled l None s e) m.read;
+          text = m.text;
+          rest = m.rest;
+          after = m.after;
+          lines = ap (λ z. l ∷ z) m.lines;
+          stops = m.stops;
+          at_is = omega (arith, m.at_is);
+          place_is = m.place_is;
+        }
+    go (Some t) s e h =
+        let m = ih (also_fault t more k at place h) in
+        record {
+          before = l ∷ m.before;
+          triples = t ∷ m.triples;
+          read = form.more (line_spelled l (Some t) s e) m.read;
+          text = m.text;
+          rest = m.rest;
+          after = m.after;
+          lines = ap (λ z. l ∷ z) m.lines;
+          stops = m.stops;
+          at_is = omega (arith, m.at_is);
+          place_is = m.place_is;
+        }
+line_then start l ls k at place (Err f) more e h ih =
+    let kind : f.0 ≡ k = cc in
     let begin : start ≡ at = cc in
-    let here : length l - length s ≡ place = cc in
-    record { before = []; triples = []; read = form.none; text = l; rest = s; after = ls; lines = refl; stops = e ∙ ap (λ z. stop z s) kind; at_is = omega arith; place_is = sym here }
+    let here : length l - length f.1 ≡ place = cc in
+    record { before = []; triples = []; read = form.none; text = l; rest = f.1; after = ls; lines = refl; stops = e ∙ ap (λ z. stop z f.1) kind; at_is = omega arith; place_is = sym here }
 
 lines_stop : (start : ℕ) (ls : List (List ℕ)) (k : Fault) (at place : ℕ) → read_lines start ls ≡ fault k at place → StopsIn start ls k at place
 lines_stop start [] k at place h = absurd (cc)

@@ -13,7 +13,8 @@ use Rattle.fx_ntriples.specs.declared.faults.Fault.TheVariants.{Bad, Blank, Rela
 use Rattle.fx_ntriples.specs.declared.quotes.Quote.{Quote}
 use Rattle.fx_ntriples.specs.declared.quotes.Quote.TheVariants.{Iri, Text}
 use Rattle.fx_ntriples.specs.Quotes as strict
-use Rattle.fx_ntriples.specs.Quotes.{Got, got, stop, and_then, in_front, names, misnames, escape_at, body, is_plain, closing, hex_value, numbered, naming}
+use Rattle.fx_rules.specs.Rule.{and_then}
+use Rattle.fx_ntriples.specs.Quotes.{Got, got, stop, in_front, names, misnames, escape_at, body, is_plain, closing, hex_value, numbered, naming}
 use Rattle.fx_ntriples.specs.Reading.{is_blank, unblanked, iri, if_absolute, if_literal, literal, subject, object, dotted, triple, ended, said, line}
 use Rattle.fx_ntriples.specs.Forms as form
 use Rattle.fx_ntriples.specs.Refusals as what

@@ -20,17 +20,19 @@ use Rattle.fx_ntriples.specs.declared.faults.Fault.TheVariants.{Bad, Blank}
 use Rattle.fx_ntriples.specs.declared.faults.NtError.{NtError}
 use Rattle.fx_ntriples.specs.declared.quotes.Quote.{Quote}
 use Rattle.fx_ntriples.specs.declared.quotes.Quote.TheVariants.{Iri, Text}
-use Rattle.fx_ntriples.specs.Quotes.{Got, got, stop, and_then, in_front, Escape, names, misnames, breaks, escaped, escape_at, lettered, body, is_plain, closing, hex_value, numbered, naming, short, may_name, IsEscape, letter, four, eight, IsBody, nothing, itself, escape}
+use Rattle.fx_rules.specs.Rule.{and_then}
+use Rattle.fx_ntriples.specs.Quotes.{Got, got, stop, in_front, Escape, names, misnames, breaks, escaped, escape_at, lettered, body, is_plain, closing, hex_value, numbered, naming, short, may_name, IsEscape, letter, four, eight, IsBody, nothing, itself, escape}
 use Rattle.fx_ntriples.specs.Reading.{is_blank, is_line_end, unblanked, iri, tag_len, if_absolute, if_literal, with_tag, with_datatype, untagged, literal, subject, object, dotted, triple, ended, said, line, Lines, all, fault, also, followed, read_lines, answered, read_document}
 use Rattle.fx_ntriples.specs.Forms as form
+use Rattle.fx_ntriples.proofs.Outcomes.{same_value, same_rest}
 
 pub and_then_got : {A B : Type 0} (g : Got A) (f : A → List ℕ → Got B) (b : B) (r : List ℕ) → and_then g f ≡ got b r → (a : A) × (s : List ℕ) × (g ≡ got a s) × (f a s ≡ got b r)
-and_then_got (got a s) f b r h = (a, s, refl, h)
-and_then_got (stop k s) f b r h = absurd (cc)
+and_then_got (Ok p) f b r h = (p.0, p.1, refl, h)
+and_then_got (Err k) f b r h = absurd (cc)
 
 in_front_got : (c : List ℕ) (g : Got (List ℕ)) (t r : List ℕ) → in_front c g ≡ got t r → (u : List ℕ) × (g ≡ got u r) × (c ++ u ≡ t)
-in_front_got c (got u s) t r h = (u, (let e : s ≡ r = cc in ap (got u) e), cc)
-in_front_got c (stop k s) t r h = absurd (cc)
+in_front_got c (Ok p) t r h = (p.0, ap (got p.0) (same_rest h), same_value h)
+in_front_got c (Err k) t r h = absurd (cc)
 
 -- ---- what stands between signs
 
@@ -127,8 +129,8 @@ body_test q b s t r true w x e f g ih h =
     let m = ih 0 p.0 p.1 in
     record { raw = b ∷ m.raw; spelled = subst (IsBody q (b ∷ m.raw)) p.2 (itself e m.spelled); is = ap (λ y. b ∷ y) m.is }
 body_test q b s t r false true x e f g ih h =
-    let none : [] ≡ t = cc in
-    let rest : s ≡ r = cc in
+    let none : [] ≡ t = same_value h in
+    let rest : s ≡ r = same_rest h in
     record { raw = []; spelled = subst (IsBody q []) none nothing; is = ap (λ y. y ∷ s) (eqb-true b (closing q) f) ∙ ap (λ y. closing q ∷ y) rest }
 body_test q b s t r false false true e f g ih h =
     let back : b ≡ 92 = eqb-true b 92 g in
@@ -161,8 +163,8 @@ same_text text t h = after_same text t (position is_forbidden text) h
 
 iri_is : (here x t r u : List ℕ) (a : Result (List ℕ) TermError) → read_iri u ≡ a → if_absolute here x a ≡ got t r → (read_iri u ≡ Ok t) × (u ≡ t) × (x ≡ r)
 iri_is here x t r u (Ok w) e h =
-    let same : w ≡ t = cc in
-    (e ∙ ap (λ y. Ok y) same, after_same u w (position is_forbidden u) e ∙ same, cc)
+    let same : w ≡ t = same_value h in
+    (e ∙ ap (λ y. Ok y) same, after_same u w (position is_forbidden u) e ∙ same, same_rest h)
 iri_is here x t r u (Err y) e h = absurd (cc)
 
 iri_test : (b : ℕ) (s t r : List ℕ) (v : Bool) → (b == 60) ≡ v → cond v (and_then (body Iri 0 s) (λ t r. if_absolute (b ∷ s) r (read_iri t))) (stop Bad (b ∷ s)) ≡ got t r → SpellsIri (b ∷ s) t r
@@ -202,14 +204,14 @@ record SpellsObject (s : List ℕ) (obj : Term) (r : List ℕ) : Type 0 where
   pub is : s ≡ raw ++ (blanks ++ r)
 
 made_of : (here x r : List ℕ) (obj : Term) (a : Result LiteralParts LiteralError) → if_literal here x a ≡ got obj r → (l : LiteralParts) × (a ≡ Ok l) × (term.Literal l ≡ obj) × (x ≡ r)
-made_of here x r obj (Ok l) h = (l, refl, cc, cc)
+made_of here x r obj (Ok l) h = (l, refl, same_value h, same_rest h)
 made_of here x r obj (Err e) h = absurd (cc)
 
 -- a string alone, and then blanks
 alone_spelled : (str f a x r : List ℕ) (obj : Term) → form.IsString str f → form.AreBlanks a → got (term.Literal (plain f)) x ≡ got obj r → SpellsObject (str ++ (a ++ x)) obj r
 alone_spelled str f a x r obj h k e =
-    let same : term.Literal (plain f) ≡ obj = cc in
-    let rest : x ≡ r = cc in
+    let same : term.Literal (plain f) ≡ obj = same_value e in
+    let rest : x ≡ r = same_rest e in
     record { raw = str; blanks = a; object = subst (form.IsObject str) same (form.alone h); are = k; is = ap (λ y. str ++ (a ++ y)) rest }
 
 tag_spelled : (str f y r : List ℕ) (obj : Term) → form.IsString str f → with_tag f y ≡ got obj r → SpellsObject (str ++ (64 ∷ y)) obj r
@@ -275,8 +277,8 @@ object_test b s r obj false true e f h =
 object_test b s r obj false false e f h =
     let p = and_then_got (iri (b ∷ s)) (λ t r. got (term.Iri t) r) obj r h in
     let m = iri_spelled (b ∷ s) p.0 p.1 p.2 in
-    let same : term.Iri p.0 ≡ obj = (let g = p.3 in cc) in
-    let rest : p.1 ≡ r = (let g = p.3 in cc) in
+    let same : term.Iri p.0 ≡ obj = same_value p.3 in
+    let rest : p.1 ≡ r = same_rest p.3 in
     record { raw = m.raw; blanks = []; object = subst (form.IsObject m.raw) same (form.reference m.ref); are = refl; is = m.is ∙ ap (λ y. m.raw ++ y) rest }
 
 object_spelled : (s r : List ℕ) (obj : Term) → object s ≡ got obj r → SpellsObject s obj r
@@ -294,7 +296,7 @@ subject_spelled (b ∷ s) t r h = subject_test b s t r (b == 95) refl h
 -- ---- lines
 
 dotted_test : (t u : Triple) (b : ℕ) (s r : List ℕ) (v : Bool) → (b == 46) ≡ v → cond v (got t s) (stop Bad (b ∷ s)) ≡ got u r → (t ≡ u) × (b ∷ s ≡ 46 ∷ r)
-dotted_test t u b s r true e h = let rest : s ≡ r = cc in (cc, ap (λ y. y ∷ s) (eqb-true b 46 e) ∙ ap (λ y. 46 ∷ y) rest)
+dotted_test t u b s r true e h = let rest : s ≡ r = same_rest h in (same_value h, ap (λ y. y ∷ s) (eqb-true b 46 e) ∙ ap (λ y. 46 ∷ y) rest)
 dotted_test t u b s r false e h = absurd (cc)
 
 dotted_spelled : (t u : Triple) (s r : List ℕ) → dotted t s ≡ got u r → (t ≡ u) × (s ≡ 46 ∷ r)
@@ -350,11 +352,11 @@ triple_spelled l t r h =
     }
 
 ended_test : (t u : Option Triple) (b : ℕ) (s r : List ℕ) (v : Bool) → (b == 35) ≡ v → cond v (got t []) (stop Bad (b ∷ s)) ≡ got u r → (t ≡ u) × form.IsComment (b ∷ s)
-ended_test t u b s r true e h = (cc, eqb-true b 35 e)
+ended_test t u b s r true e h = (same_value h, eqb-true b 35 e)
 ended_test t u b s r false e h = absurd (cc)
 
 ended_spelled : (t u : Option Triple) (s r : List ℕ) → ended t s ≡ got u r → (t ≡ u) × form.IsComment s
-ended_spelled t u [] r h = (cc, tt)
+ended_spelled t u [] r h = (same_value h, tt)
 ended_spelled t u (b ∷ s) r h = ended_test t u b s r (b == 35) refl h
 
 triple_line : (a l : List ℕ) (u : Option Triple) (r : List ℕ) → form.AreBlanks a → and_then (triple l) (λ t r. ended (Some t) (unblanked r)) ≡ got u r → form.IsLine (a ++ l) u
@@ -369,11 +371,11 @@ triple_line a l u r k h =
     (form.says a m.b m.c m.d e.raw (unblanked x.1) m.s m.p m.o k m.hb m.hc m.hd e.blanks w.1 m.hs m.hp m.ho))
 
 said_test : (a : List ℕ) (b : ℕ) (s : List ℕ) (u : Option Triple) (r : List ℕ) (v : Bool) → (b == 35) ≡ v → form.AreBlanks a → cond v (got None []) (and_then (triple (b ∷ s)) (λ t r. ended (Some t) (unblanked r))) ≡ got u r → form.IsLine (a ++ b ∷ s) u
-said_test a b s u r true e k h = let same : None ≡ u = cc in subst (form.IsLine (a ++ b ∷ s)) same (form.empty a (b ∷ s) k (eqb-true b 35 e))
+said_test a b s u r true e k h = let same : None ≡ u = same_value h in subst (form.IsLine (a ++ b ∷ s)) same (form.empty a (b ∷ s) k (eqb-true b 35 e))
 said_test a b s u r false e k h = triple_line a (b ∷ s) u r k h
 
 said_spelled : (a s : List ℕ) (u : Option Triple) (r : List ℕ) → form.AreBlanks a → said s ≡ got u r → form.IsLine (a ++ s) u
-said_spelled a [] u r k h = let same : None ≡ u = cc in subst (form.IsLine (a ++ [])) same (form.empty a [] k tt)
+said_spelled a [] u r k h = let same : None ≡ u = same_value h in subst (form.IsLine (a ++ [])) same (form.empty a [] k tt)
 said_spelled a (b ∷ s) u r k h = said_test a b s u r (b == 35) refl k h
 
 pub line_spelled : (l : List ℕ) (u : Option Triple) (r : List ℕ) → line l ≡ got u r → form.IsLine l u
@@ -388,11 +390,14 @@ also_all t (fault k start place) ts h = absurd (cc)
 
 line_then : (start : ℕ) (l : List ℕ) (ls : List (List ℕ)) (ts : List Triple) (g : Got (Option Triple)) (more : Lines) → line l ≡ g → followed start (length l) g more ≡ all ts →
     ((us : List Triple) → more ≡ all us → form.AreLines ls us) → form.AreLines (l ∷ ls) ts
-line_then start l ls ts (got None s) more e h ih = form.silent (line_spelled l None s e) (ih ts h)
-line_then start l ls ts (got (Some t) s) more e h ih =
-    let p = also_all t more ts h in
-    subst (form.AreLines (l ∷ ls)) p.2 (form.more (line_spelled l (Some t) s e) (ih p.0 p.1))
-line_then start l ls ts (stop k s) more e h ih = absurd (cc)
+line_then start l ls ts (Ok p) more e h ih = go p.0 p.1 e h
+  where
+    go : (o : Option Triple) (s : List ℕ) → line l ≡ got o s → also o more ≡ all ts → form.AreLines (l ∷ ls) ts
+    go None s e h = form.silent (line_spelled l None s e) (ih ts h)
+    go (Some t) s e h =
+        let q = also_all t more ts h in
+        subst (form.AreLines (l ∷ ls)) q.2 (form.more (line_spelled l (Some t) s e) (ih q.0 q.1))
+line_then start l ls ts (Err f) more e h ih = absurd (cc)
 
 lines_spelled : (start : ℕ) (ls : List (List ℕ)) (ts : List Triple) → read_lines start ls ≡ all ts → form.AreLines ls ts
 lines_spelled start [] ts h = let none : [] ≡ ts = cc in subst (form.AreLines []) none form.none

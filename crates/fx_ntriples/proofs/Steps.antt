@@ -1,5 +1,5 @@
 -- The steps along what stands between signs.
-use Rattle.std.proofs.Common.{◌≡◌, ℕ, zero, suc, ◌+◌, ◌*◌, ◌^◌, ◌-◌, ◌<◌, ◌≤◌, ◌==◌, Bool, true, false, cond, List, [], ◌∷◌, ◌++◌, Some, None, Err, length, take, drop, get_or, refl, sym, ap, ◌∙◌, arith, add-one, drop-cons, append_assoc, append-nil, length-drop}
+use Rattle.std.proofs.Common.{◌≡◌, ℕ, zero, suc, ◌+◌, ◌*◌, ◌^◌, ◌-◌, ◌<◌, ◌≤◌, ◌==◌, Bool, true, false, cond, List, [], ◌∷◌, ◌++◌, Some, None, Ok, Err, length, take, drop, get_or, refl, sym, ap, ◌∙◌, arith, add-one, drop-cons, append_assoc, append-nil, length-drop}
 use Rattle.std.proofs.lemmas.List.{get_or-drop, get_or-take, drop-drop, drop_all}
 use Rattle.std.proofs.lemmas.List.Sums.{prefix_len_stops, prefix_len_passes}
 use Rattle.std.specs.List.{list_all, prefix_len}
@@ -23,12 +23,12 @@ sixteen_fits v i n h l m =
     omega arith
 
 pub in_front-nil : (g : Got (List ℕ)) → in_front [] g ≡ g
-in_front-nil (got t s) = refl
-in_front-nil (stop k s) = refl
+in_front-nil (Ok p) = refl
+in_front-nil (Err f) = refl
 
 pub in_front-in_front : (a b : List ℕ) (g : Got (List ℕ)) → in_front a (in_front b g) ≡ in_front (a ++ b) g
-in_front-in_front a b (got t s) = ap (λ x. got x s) (sym (append_assoc a b t))
-in_front-in_front a b (stop k s) = refl
+in_front-in_front a b (Ok p) = ap (λ x. got x p.1) (sym (append_assoc a b p.0))
+in_front-in_front a b (Err f) = refl
 
 -- what stands for itself is read as it is
 plain_test : (q : Quote) (b : ℕ) (s : List ℕ) (v : Bool) → is_plain q b ≡ v → body q 0 s ≡ in_front (take (prefix_len (is_plain q) s) s) (body q 0 (drop (prefix_len (is_plain q) s) s)) →

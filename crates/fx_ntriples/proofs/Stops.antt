@@ -11,38 +11,40 @@ use Rattle.fx_ntriples.specs.declared.faults.Fault.{Fault}
 use Rattle.fx_ntriples.specs.declared.faults.Fault.TheVariants.{Bad, Blank, Relative}
 use Rattle.fx_ntriples.specs.declared.quotes.Quote.{Quote}
 use Rattle.fx_ntriples.specs.declared.quotes.Quote.TheVariants.{Iri, Text}
-use Rattle.fx_ntriples.specs.Quotes.{Got, got, stop, and_then, in_front, Escape, names, misnames, breaks, escaped, escape_at, body, is_plain, closing}
+use Rattle.fx_rules.specs.Rule.{and_then}
+use Rattle.fx_ntriples.specs.Quotes.{Got, got, stop, in_front, Escape, names, misnames, breaks, escaped, escape_at, body, is_plain, closing}
 use Rattle.fx_ntriples.specs.Reading.{unblanked, iri, tag_len, if_absolute, if_literal, with_tag, with_datatype, untagged, literal, subject, object, dotted, triple, ended, said, line}
 use Rattle.fx_ntriples.specs.Forms as form
 use Rattle.fx_ntriples.specs.Refusals as what
+use Rattle.fx_ntriples.proofs.Outcomes.{same_fault, same_place}
 use Rattle.fx_ntriples.proofs.Sound.{body_spelled, subject_spelled, iri_spelled, blanks_spelled}
 
 pub in_front_stop : (c : List ℕ) (g : Got (List ℕ)) (k : Fault) (r : List ℕ) → in_front c g ≡ stop k r → g ≡ stop k r
-in_front_stop c (got t s) k r h = absurd (cc)
-in_front_stop c (stop j s) k r h = h
+in_front_stop c (Ok p) k r h = absurd (cc)
+in_front_stop c (Err f) k r h = h
 
 -- a reading after another stops: the first stops, or it gives something behind which the other stops
 pub and_then_stop : {A B : Type 0} (g : Got A) (f : A → List ℕ → Got B) (k : Fault) (r : List ℕ) → and_then g f ≡ stop k r → (g ≡ stop k r) ⊎ ((a : A) × (s : List ℕ) × (g ≡ got a s) × (f a s ≡ stop k r))
-and_then_stop (got a s) f k r h = inr (a, s, refl, h)
-and_then_stop (stop j s) f k r h = inl (let e : j ≡ k = cc in let d : s ≡ r = cc in ap (λ x. stop x s) e ∙ ap (stop k) d)
+and_then_stop (Ok p) f k r h = inr (p.0, p.1, refl, h)
+and_then_stop (Err j) f k r h = inl (let same : j ≡ (k, r) = cc in ap Err same)
 
 -- ---- between signs nothing but Bad stands
 
 escape_stop : (q : Quote) (s r : List ℕ) (here : List ℕ) (k : Fault) (e : Escape) → ((n : ℕ) → body q n s ≡ stop k r → k ≡ Bad) → escaped e here (λ n. body q n s) ≡ stop k r → k ≡ Bad
 escape_stop q s r here k (names c n) ih h = ih n (in_front_stop c (body q n s) k r h)
-escape_stop q s r here k misnames ih h = cc
-escape_stop q s r here k (breaks x) ih h = cc
+escape_stop q s r here k misnames ih h = sym (same_fault h)
+escape_stop q s r here k (breaks x) ih h = sym (same_fault h)
 
 body_test : (q : Quote) (b : ℕ) (s r : List ℕ) (k : Fault) (v w x : Bool) → ((n : ℕ) → body q n s ≡ stop k r → k ≡ Bad) →
     cond v (in_front (b ∷ []) (body q 0 s)) (cond w (got [] s) (cond x (escaped (escape_at q s) (b ∷ s) (λ n. body q n s)) (stop Bad (b ∷ s)))) ≡ stop k r → k ≡ Bad
 body_test q b s r k true w x ih h = ih 0 (in_front_stop (b ∷ []) (body q 0 s) k r h)
 body_test q b s r k false true x ih h = absurd (cc)
 body_test q b s r k false false true ih h = escape_stop q s r (b ∷ s) k (escape_at q s) ih h
-body_test q b s r k false false false ih h = cc
+body_test q b s r k false false false ih h = sym (same_fault h)
 
 body_stop : (q : Quote) (n : ℕ) (s r : List ℕ) (k : Fault) → body q n s ≡ stop k r → k ≡ Bad
 unfolding body
-body_stop q n [] r k h = cc
+body_stop q n [] r k h = sym (same_fault h)
 body_stop q zero (b ∷ s) r k h = body_test q b s r k (is_plain q b) (b == closing q) (b == 92) (λ n g. body_stop q n s r k g) h
 body_stop q (suc n) (b ∷ s) r k h = body_stop q n s r k h
 
@@ -64,7 +66,7 @@ Ends k l r = (k ≡ Bad) ⊎ Stopped k l r
 
 absolute_stop : (here x r u : List ℕ) (k : Fault) (a : Result (List ℕ) TermError) → read_iri u ≡ a → if_absolute here x a ≡ stop k r → (k ≡ Relative) × (here ≡ r) × (read_iri u ≢ Ok u)
 absolute_stop here x r u k (Ok t) e h = absurd (cc)
-absolute_stop here x r u k (Err y) e h = (cc, cc, λ f. absurd (cc))
+absolute_stop here x r u k (Err y) e h = (sym (same_fault h), same_place h, λ f. absurd (cc))
 
 iri_test : (y : what.Part) (p : List ℕ) (b : ℕ) (s r : List ℕ) (k : Fault) (v : Bool) → what.Before y p → (b == 60) ≡ v →
     cond v (and_then (body Iri 0 s) (λ t r. if_absolute (b ∷ s) r (read_iri t))) (stop Bad (b ∷ s)) ≡ stop k r → Ends k (p ++ b ∷ s) r
@@ -79,11 +81,11 @@ iri_test y p b s r k true at e h =
           let there : what.RelativeStands p r = subst (what.RelativeStands p) shape (what.as_part g.1 at m.spelled a.2) in
           subst (λ (j : Fault). Stopped j (p ++ b ∷ s) r) (sym a.0) (record { front = p; is = ap (λ z. p ++ z) a.1; stands = there }))
     ]
-iri_test y p b s r k false at e h = inl (cc)
+iri_test y p b s r k false at e h = inl (sym (same_fault h))
 
 iri_stop : (y : what.Part) (p s r : List ℕ) (k : Fault) → what.Before y p → iri s ≡ stop k r → Ends k (p ++ s) r
 unfolding Ends
-iri_stop y p [] r k at h = inl (cc)
+iri_stop y p [] r k at h = inl (sym (same_fault h))
 iri_stop y p (b ∷ s) r k at h = iri_test y p b s r k (b == 60) at refl h
 
 abbrev halted : {A : Type 0} → Fault → List ℕ → Got A
@@ -92,8 +94,8 @@ halted k r = stop k r
 blank_stop : {A : Type 0} (p s r : List ℕ) (b : ℕ) (k : Fault) → ((x : List ℕ) → what.BlankStands p (95 ∷ x)) → (b == 95) ≡ true → halted {A = A} Blank (b ∷ s) ≡ stop k r → Ends k (p ++ b ∷ s) r
 unfolding Ends Stands
 blank_stop p s r b k at e h =
-    let kind : Blank ≡ k = cc in
-    let rest : b ∷ s ≡ r = cc in
+    let kind : Blank ≡ k = same_fault h in
+    let rest : b ∷ s ≡ r = same_place h in
     inr (subst (λ (j : Fault). Stopped j (p ++ b ∷ s) r) kind (record { front = p; is = ap (λ z. p ++ z) rest; stands = subst (what.BlankStands p) (ap (λ z. z ∷ s) (sym (eqb-true b 95 e)) ∙ rest) (at s) }))
 
 subject_test : (p s r : List ℕ) (b : ℕ) (k : Fault) (v : Bool) → what.Before what.subject p → (b == 95) ≡ v → cond v (stop Blank (b ∷ s)) (iri (b ∷ s)) ≡ stop k r → Ends k (p ++ b ∷ s) r
@@ -102,12 +104,12 @@ subject_test p s r b k false at e h = iri_stop what.subject p (b ∷ s) r k at h
 
 subject_stop : (p s r : List ℕ) (k : Fault) → what.Before what.subject p → subject s ≡ stop k r → Ends k (p ++ s) r
 unfolding Ends
-subject_stop p [] r k at h = inl (cc)
+subject_stop p [] r k at h = inl (sym (same_fault h))
 subject_stop p (b ∷ s) r k at h = subject_test p s r b k (b == 95) at refl h
 
 made_stop : (here x r : List ℕ) (k : Fault) (a : Result LiteralParts LiteralError) → if_literal here x a ≡ stop k r → k ≡ Bad
 made_stop here x r k (Ok l) h = absurd (cc)
-made_stop here x r k (Err e) h = cc
+made_stop here x r k (Err e) h = sym (same_fault h)
 
 datatype_test : (p str f a z r : List ℕ) (d : ℕ) (k : Fault) (v : Bool) → (d == 94) ≡ v → what.Before what.object p → form.IsString str f → form.AreBlanks a →
     cond v (and_then (iri (unblanked z)) (λ datatype r. if_literal (unblanked z) r (typed f datatype))) (stop Bad (d ∷ z)) ≡ stop k r → Ends k (p ++ (str ++ (a ++ 94 ∷ d ∷ z))) r
@@ -121,11 +123,11 @@ datatype_test p str f a z r d k true e at h ha g =
       | inl x ↦ subst (λ (l : List ℕ). Ends k l r) whole (iri_stop what.datatype start (unblanked z) r k (what.fourth p str a b.raw at h ha b.blanks) x)
       | inr x ↦ inl (made_stop (unblanked z) x.1 r k (typed f x.0) x.3)
     ]
-datatype_test p str f a z r d k false e at h ha g = inl (cc)
+datatype_test p str f a z r d k false e at h ha g = inl (sym (same_fault g))
 
 datatype_stop : (p str f a y r : List ℕ) (k : Fault) → what.Before what.object p → form.IsString str f → form.AreBlanks a → with_datatype f y ≡ stop k r → Ends k (p ++ (str ++ (a ++ 94 ∷ y))) r
 unfolding Ends
-datatype_stop p str f a [] r k at h ha g = inl (cc)
+datatype_stop p str f a [] r k at h ha g = inl (sym (same_fault g))
 datatype_stop p str f a (d ∷ z) r k at h ha g = datatype_test p str f a z r d k (d == 94) refl at h ha g
 
 untagged_test : (p str f a y r : List ℕ) (c : ℕ) (k : Fault) (v : Bool) → (c == 94) ≡ v → what.Before what.object p → form.IsString str f → form.AreBlanks a →
@@ -168,17 +170,17 @@ object_test p s r b k false false e f at h =
 
 object_stop : (p s r : List ℕ) (k : Fault) → what.Before what.object p → object s ≡ stop k r → Ends k (p ++ s) r
 unfolding Ends
-object_stop p [] r k at h = inl (cc)
+object_stop p [] r k at h = inl (sym (same_fault h))
 object_stop p (b ∷ s) r k at h = object_test p s r b k (b == 95) (b == 34) refl refl at h
 
 -- ---- lines
 
 dotted_test : (t : Triple) (b : ℕ) (s r : List ℕ) (k : Fault) (v : Bool) → cond v (got t s) (stop Bad (b ∷ s)) ≡ stop k r → k ≡ Bad
 dotted_test t b s r k true h = absurd (cc)
-dotted_test t b s r k false h = cc
+dotted_test t b s r k false h = sym (same_fault h)
 
 dotted_stop : (t : Triple) (s r : List ℕ) (k : Fault) → dotted t s ≡ stop k r → k ≡ Bad
-dotted_stop t [] r k h = cc
+dotted_stop t [] r k h = sym (same_fault h)
 dotted_stop t (b ∷ s) r k h = dotted_test t b s r k (b == 46) h
 
 -- a part and its blanks are behind us
@@ -215,7 +217,7 @@ triple_stop a l r k ha h =
 
 ended_test : (t : Option Triple) (b : ℕ) (s r : List ℕ) (k : Fault) (v : Bool) → cond v (got t []) (stop Bad (b ∷ s)) ≡ stop k r → k ≡ Bad
 ended_test t b s r k true h = absurd (cc)
-ended_test t b s r k false h = cc
+ended_test t b s r k false h = sym (same_fault h)
 
 ended_stop : (t : Option Triple) (s r : List ℕ) (k : Fault) → ended t s ≡ stop k r → k ≡ Bad
 ended_stop t [] r k h = absurd (cc)

@@ -1,9 +1,10 @@
 -- What stands between the signs of an IRIREF or of a string (RDF 1.1 N-Triples, section 7, IRIREF, STRING_LITERAL_QUOTE, UCHAR and
 -- ECHAR), by bytes: each character that the rules name is ASCII.
-use Rattle.std.specs.Prelude.{◌≡◌, ℕ, zero, suc, ◌+◌, Bool, true, not, ◌&&◌, ◌||◌, ◌==◌, if◌then◌else◌, List, [], ◌∷◌, ◌++◌, length, take, drop, Option, Some, None}
+use Rattle.std.specs.Prelude.{◌≡◌, ℕ, zero, suc, ◌+◌, Bool, true, not, ◌&&◌, ◌||◌, ◌==◌, if◌then◌else◌, List, [], ◌∷◌, ◌++◌, length, take, drop, Option, Some, None, Result, Ok, Err}
 use Rattle.std.specs.List.{list_all, prefix_len}
 use Rattle.std.specs.Char.{encode_utf8, is_ascii_hexdigit}
 use lib.Utf8.{scalar}
+use Rattle.fx_rules.specs.Rule.{and_then}
 pub use Rattle.fx_terms.specs.Escapes.{hex_value}
 use Rattle.fx_terms.specs.Escapes.{letter_escape}
 use Rattle.fx_terms.specs.Iris.{is_forbidden}
@@ -47,19 +48,18 @@ pub data IsBody : Quote → List ℕ → List ℕ → Type 0 where
 -- ---- the same, as it is read from the front of a text
 
 -- what is read from the front of a text, and what follows it; or a fault, and the text from it on
-pub data Got (A : Type 0) : Type 0 where
-  got : A → List ℕ → Got A
-  stop : Fault → List ℕ → Got A
+abbrev pub Got : Type 0 → Type 0
+Got A = Result (A × List ℕ) (Fault × List ℕ)
 
--- one reading after another
-abbrev pub and_then : {A B : Type 0} → Got A → (A → List ℕ → Got B) → Got B
-and_then (got a s) f = f a s
-and_then (stop k s) f = stop k s
+abbrev pub got : {A : Type 0} → A → List ℕ → Got A
+got a s = Ok (a, s)
+
+abbrev pub stop : {A : Type 0} → Fault → List ℕ → Got A
+stop k s = Err (k, s)
 
 -- what is read, with a text in front
 abbrev pub in_front : List ℕ → Got (List ℕ) → Got (List ℕ)
-in_front c (got t s) = got (c ++ t) s
-in_front c (stop k s) = stop k s
+in_front c g = and_then g (λ t s. got (c ++ t) s)
 
 -- how a text goes on behind a backslash: an escape of so many bytes; a whole one whose character isn't allowed; or none, which
 -- shows where the text given begins

@@ -15,7 +15,8 @@ use Rattle.fx_ntriples.specs.declared.faults.Fault.TheVariants.{Bad, Blank, Rela
 use Rattle.fx_ntriples.specs.declared.faults.NtError.{NtError}
 use Rattle.fx_ntriples.specs.declared.faults.NtError.TheVariants.{BadUtf8}
 use Rattle.fx_ntriples.specs.declared.quotes.Quote.TheVariants.{Iri, Text}
-use Rattle.fx_ntriples.specs.Quotes.{Got, got, stop, and_then, body}
+use Rattle.fx_rules.specs.Rule.{and_then}
+use Rattle.fx_ntriples.specs.Quotes.{Got, got, stop, body}
 use Rattle.fx_terms.specs.Utf8.{utf8_fault}
 use Rattle.fx_ntriples.specs.Places.{at_place}
 
@@ -130,8 +131,8 @@ also (Some t) (all ts) = all (t ∷ ts)
 also (Some t) (fault k start place) = fault k start place
 
 abbrev pub followed : ℕ → ℕ → Got (Option Triple) → Lines → Lines
-followed start size (got t s) more = also t more
-followed start size (stop k s) more = fault k start (size - length s)
+followed start size (Ok p) more = also p.0 more
+followed start size (Err f) more = fault f.0 start (size - length f.1)
 
 -- the lines one after another, of which the first begins at a place
 abbrev pub read_lines : ℕ → List (List ℕ) → Lines

@@ -7,9 +7,9 @@ use Rattle.fx_grammar.specs.declared.refusals.SyntaxKind.TheVariants.{Unexpected
 use Rattle.fx_readers.specs.declared.faults.Fault.{Fault}
 use Rattle.fx_readers.specs.declared.faults.Fault.TheVariants.{Refused, Memory}
 use Rattle.std.specs.List.{flat_map}
-use Rattle.fx_grammar.specs.Rule.{any_number, number_from, refuse, made, with_front, more, Refusal, Outcome, and_then, Rule, Shape, shape_of, Shaped, chain, many, after, token, sees, depth, nested, seq, either, with_each, some, opt}
+use Rattle.fx_grammar.specs.Rule.{any_number, any_number_from, refuse, made, with_front, more, Refusal, Outcome, and_then, Rule, Shape, shape_of, Shaped, chain, many, after, token, sees, depth, nested, seq, either, with_each, some, opt}
 use Rattle.fx_readers.specs.Gives.{IsRefusal}
-use Rattle.fx_grammar.proofs.RuleLaws.{Lawful, lawful_item, same_shape, turn_of, turn_is, shortens, shortens_from, Shortens}
+use Rattle.fx_grammar.proofs.RuleLaws.{Lawful, lawful_item, same_shape, turn_is, shortens, shortens_from, Shortens}
 
 -- a refusal that is handed on, from what refuses to what then refuses too
 pub hands_on : {A B : Type 0} (fault : Fault) (o : Outcome A) (w : Outcome B) → IsRefusal fault o → ((r : Refusal) → o ≡ Err r → w ≡ Err r) → IsRefusal fault w
@@ -21,21 +21,21 @@ in_front front x (Ok p) = rw append_assoc refl
 in_front front x (Err r) = refl
 
 module _ {S A : Type 0} (shape : Shape) (rule : S → Rule A) (step : S → A → S) (l : (s : S) → Lawful (rule s)) (fits : (s : S) → Shaped shape (rule s)) (na : shape.empty ≡ false) where
-  turn : (s : S) (ts : List Token) → number_from shape rule step s ts
-      ≡ cond (sees shape.begins ts) (and_then ((rule s).read ts) (λ x mid. and_then (number_from shape rule step (step s x) mid) (λ xs rest. Ok (x ∷ xs, rest)))) (Ok ([], ts))
-  unfolding number_from turn_of
+  turn : (s : S) (ts : List Token) → any_number_from shape rule step s ts
+      ≡ cond (sees shape.begins ts) (and_then ((rule s).read ts) (λ x mid. and_then (any_number_from shape rule step (step s x) mid) (λ xs rest. Ok (x ∷ xs, rest)))) (Ok ([], ts))
+  unfolding any_number_from
   turn s ts = turn_is shape rule step l fits na s ts
 
   pub from_turn : (s : S) (front : List A) (ts next : List Token) (x : A) → sees shape.begins ts ≡ true → (rule s).read ts ≡ Ok (x, next)
-      → with_front (front ++ x ∷ []) (number_from shape rule step (step s x) next) ≡ with_front front (number_from shape rule step s ts)
+      → with_front (front ++ x ∷ []) (any_number_from shape rule step (step s x) next) ≡ with_front front (any_number_from shape rule step s ts)
   unfolding with_front
-  from_turn s front ts next x b e = sym (rw (turn s ts, b, e) (in_front front x (number_from shape rule step (step s x) next)))
+  from_turn s front ts next x b e = sym (rw (turn s ts, b, e) (in_front front x (any_number_from shape rule step (step s x) next)))
 
-  pub from_fails : (s : S) (front : List A) (ts : List Token) (r : Refusal) → sees shape.begins ts ≡ true → (rule s).read ts ≡ Err r → with_front front (number_from shape rule step s ts) ≡ Err r
+  pub from_fails : (s : S) (front : List A) (ts : List Token) (r : Refusal) → sees shape.begins ts ≡ true → (rule s).read ts ≡ Err r → with_front front (any_number_from shape rule step s ts) ≡ Err r
   unfolding with_front
   from_fails s front ts r b e = rw (turn s ts, b, e) refl
 
-  pub from_ends : (s : S) (front : List A) (ts : List Token) → sees shape.begins ts ≡ false → with_front front (number_from shape rule step s ts) ≡ Ok (front, ts)
+  pub from_ends : (s : S) (front : List A) (ts : List Token) → sees shape.begins ts ≡ false → with_front front (any_number_from shape rule step s ts) ≡ Ok (front, ts)
   unfolding with_front
   from_ends s front ts b = rw (turn s ts, b) (ap (λ (v : List A). Ok (v, ts)) (append-nil front))
 
@@ -44,15 +44,15 @@ module _ {S A : Type 0} (shape : Shape) (rule : S → Rule A) (step : S → A �
 
 module _ {A : Type 0} (a : Rule A) (l : Lawful a) (na : a.empty ≡ false) where
   pub any_turn : (front : List A) (ts next : List Token) (x : A) → sees a.begins ts ≡ true → a.read ts ≡ Ok (x, next) → with_front (front ++ x ∷ []) (any_number a next) ≡ with_front front (any_number a ts)
-  unfolding any_number number_from
+  unfolding any_number any_number_from
   any_turn front ts next x b e = from_turn {S = Unit {0}} (shape_of a) (λ s. a) (λ s x. s) (λ s. l) (λ s. same_shape a) na tt front ts next x b e
 
   pub any_fails : (front : List A) (ts : List Token) (r : Refusal) → sees a.begins ts ≡ true → a.read ts ≡ Err r → with_front front (any_number a ts) ≡ Err r
-  unfolding any_number number_from
+  unfolding any_number any_number_from
   any_fails front ts r b e = from_fails {S = Unit {0}} (shape_of a) (λ s. a) (λ s x. s) (λ s. l) (λ s. same_shape a) na tt front ts r b e
 
   pub any_ends : (front : List A) (ts : List Token) → sees a.begins ts ≡ false → with_front front (any_number a ts) ≡ Ok (front, ts)
-  unfolding any_number number_from
+  unfolding any_number any_number_from
   any_ends front ts b = from_ends {S = Unit {0}} (shape_of a) (λ s. a) (λ s x. s) (λ s. l) (λ s. same_shape a) na tt front ts b
 
   pub any_smaller : (ts next : List Token) (x : A) → a.read ts ≡ Ok (x, next) → length next < length ts
@@ -67,15 +67,15 @@ in_each parts front x (Err r) = refl
 
 module _ {S A B : Type 0} (shape : Shape) (rule : S → Rule A) (step : S → A → S) (l : (s : S) → Lawful (rule s)) (fits : (s : S) → Shaped shape (rule s)) (na : shape.empty ≡ false) (parts : A → List B) where
   pub from_each_turn : (s : S) (front : List B) (ts next : List Token) (x : A) → sees shape.begins ts ≡ true → (rule s).read ts ≡ Ok (x, next)
-      → with_each parts (front ++ parts x) (number_from shape rule step (step s x) next) ≡ with_each parts front (number_from shape rule step s ts)
+      → with_each parts (front ++ parts x) (any_number_from shape rule step (step s x) next) ≡ with_each parts front (any_number_from shape rule step s ts)
   unfolding with_each
-  from_each_turn s front ts next x b e = sym (rw (turn shape rule step l fits na s ts, b, e) (in_each parts front x (number_from shape rule step (step s x) next)))
+  from_each_turn s front ts next x b e = sym (rw (turn shape rule step l fits na s ts, b, e) (in_each parts front x (any_number_from shape rule step (step s x) next)))
 
-  pub from_each_fails : (s : S) (front : List B) (ts : List Token) (r : Refusal) → sees shape.begins ts ≡ true → (rule s).read ts ≡ Err r → with_each parts front (number_from shape rule step s ts) ≡ Err r
+  pub from_each_fails : (s : S) (front : List B) (ts : List Token) (r : Refusal) → sees shape.begins ts ≡ true → (rule s).read ts ≡ Err r → with_each parts front (any_number_from shape rule step s ts) ≡ Err r
   unfolding with_each
   from_each_fails s front ts r b e = rw (turn shape rule step l fits na s ts, b, e) refl
 
-  pub from_each_ends : (s : S) (front : List B) (ts : List Token) → sees shape.begins ts ≡ false → with_each parts front (number_from shape rule step s ts) ≡ Ok (front, ts)
+  pub from_each_ends : (s : S) (front : List B) (ts : List Token) → sees shape.begins ts ≡ false → with_each parts front (any_number_from shape rule step s ts) ≡ Ok (front, ts)
   unfolding with_each
   from_each_ends s front ts b = rw (turn shape rule step l fits na s ts, b) (ap (λ (v : List B). Ok (v, ts)) (append-nil front))
 
@@ -178,19 +178,19 @@ module _ {A : Type 0} (mark : Kind) (a : Rule A) where
 
     pub chain_each_turn : {B : Type 0} (parts : A → List B) (front : List B) (ts mid next : List Token) (x : A) → sees (is mark) ts ≡ true → (token mark).read ts ≡ Ok (tt, mid) → a.read mid ≡ Ok (x, next)
         → with_each parts (front ++ parts x) (more mark a next) ≡ with_each parts front (more mark a ts)
-    unfolding more number_from
+    unfolding more any_number_from
     chain_each_turn parts front ts mid next x s e f =
         let item = after (token mark) a in
         from_each_turn {S = Unit {0}} (shape_of item) (λ s. item) (λ s x. s) (λ s. lawful_item mark a l) (λ s. same_shape item) refl parts tt front ts next x (begins_so ts true s) (item_read ts mid next x e f)
 
     pub chain_each_fails : {B : Type 0} (parts : A → List B) (front : List B) (ts mid : List Token) (r : Refusal) → sees (is mark) ts ≡ true → (token mark).read ts ≡ Ok (tt, mid) → a.read mid ≡ Err r → with_each parts front (more mark a ts) ≡ Err r
-    unfolding more number_from
+    unfolding more any_number_from
     chain_each_fails parts front ts mid r s e f =
         let item = after (token mark) a in
         from_each_fails {S = Unit {0}} (shape_of item) (λ s. item) (λ s x. s) (λ s. lawful_item mark a l) (λ s. same_shape item) refl parts tt front ts r (begins_so ts true s) (item_refused ts mid r e f)
 
     pub chain_each_ends : {B : Type 0} (parts : A → List B) (front : List B) (ts : List Token) → sees (is mark) ts ≡ false → with_each parts front (more mark a ts) ≡ Ok (front, ts)
-    unfolding more number_from
+    unfolding more any_number_from
     chain_each_ends parts front ts s =
         let item = after (token mark) a in
         from_each_ends {S = Unit {0}} (shape_of item) (λ s. item) (λ s x. s) (λ s. lawful_item mark a l) (λ s. same_shape item) refl parts tt front ts (begins_so ts false s)

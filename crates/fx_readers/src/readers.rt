@@ -298,7 +298,7 @@ fn bare(alloc: Global, form: &str) -> Result<Boxed<Term>, Memory>
 
 fn with_tag(alloc: Global, form: &str, tag: &str) -> Result<Boxed<Term>, Memory>
     requires { is_tag tag.now ≡ true }
-    ensures { IfOk result (λ t. t ≡ Term.Literal (grammar.tagged form.now tag.now)) }
+    ensures { IfOk result (λ t. t ≡ Term.Literal (grammar.tagged_parts form.now tag.now)) }
 {
     match Literal::tagged(alloc, form, tag) {
         Ok(literal) => Ok(Boxed::new(alloc, Term::Literal(literal))?),
@@ -309,7 +309,7 @@ fn with_tag(alloc: Global, form: &str, tag: &str) -> Result<Boxed<Term>, Memory>
 
 fn with_datatype(alloc: Global, form: &str, datatype: &Iri) -> Result<Boxed<Term>, Memory>
     requires { bytes_eq datatype.now lang_string ≡ false }
-    ensures { IfOk result (λ t. t ≡ Term.Literal (grammar.typed form.now datatype.now)) }
+    ensures { IfOk result (λ t. t ≡ Term.Literal (grammar.typed_parts form.now datatype.now)) }
 {
     match Literal::typed(alloc, form, datatype) {
         Ok(literal) => Ok(Boxed::new(alloc, Term::Literal(literal))?),
@@ -327,7 +327,7 @@ fn integer(alloc: Global, digits: &Text) -> Result<Boxed<Term>, Memory>
 
 /// A literal of xsd:boolean.
 fn truth(alloc: Global, form: &str) -> Result<Boxed<Term>, Memory>
-    ensures { IfOk result (λ t. t ≡ Term.Literal (grammar.typed form.now grammar.xsd_boolean)) }
+    ensures { IfOk result (λ t. t ≡ Term.Literal (grammar.typed_parts form.now grammar.xsd_boolean)) }
 {
     constant(alloc, form, XSD_BOOLEAN)
 }
@@ -335,7 +335,7 @@ fn truth(alloc: Global, form: &str) -> Result<Boxed<Term>, Memory>
 fn constant(alloc: Global, form: &str, datatype: &str) -> Result<Boxed<Term>, Memory>
     requires iri { read_iri datatype.now ≡ Ok datatype.now }
     requires other { bytes_eq datatype.now lang_string ≡ false }
-    ensures { IfOk result (λ t. t ≡ Term.Literal (grammar.typed form.now datatype.now)) }
+    ensures { IfOk result (λ t. t ≡ Term.Literal (grammar.typed_parts form.now datatype.now)) }
 {
     let datatype = known(alloc, datatype)?;
     with_datatype(alloc, form, &datatype)

@@ -22,7 +22,7 @@ use Rattle.fx_spelling.specs.Printable.{AreFine, IsFine, said, term_tokens, fixe
 use Rattle.fx_grammar.specs.declared.kinds.Kind.{Kind}
 use Rattle.fx_grammar.specs.declared.kinds.Kind.TheVariants as k
 use Rattle.fx_grammar.specs.declared.kinds.Token.{Token}
-use Rattle.fx_grammar.specs.declared.kinds.Token.TheVariants as token_of
+use Rattle.fx_grammar.specs.declared.kinds.Token.TheVariants as symbol
 use Rattle.fx_grammar.specs.declared.parts.Relative.TheVariants as relative
 use Rattle.fx_spelling.proofs.Saying.{said_both}
 use Rattle.fx_spelling.proofs.Spelling.{mark_said, after_said, before_said, parens_said, nested_said}
@@ -35,8 +35,8 @@ pub fine_split : (xs ys : List Word) → AreFine (xs ++ ys) → AreFine xs × Ar
 fine_split [] ys h = (tt, h)
 fine_split (x ∷ xs) ys h = let r = fine_split xs ys h.1 in ((h.0, r.0), r.1)
 
-pub said_brackets : (words : List Word) → said (in_brackets words) ≡ token_of.Plain k.LeftParen ∷ (said words ++ token_of.Plain k.RightParen ∷ [])
-said_brackets words = ap (λ (v : List Token). token_of.Plain k.LeftParen ∷ v) (said_both words (fixed (codes ")") ∷ []))
+pub said_brackets : (words : List Word) → said (in_brackets words) ≡ symbol.Plain k.LeftParen ∷ (said words ++ symbol.Plain k.RightParen ∷ [])
+said_brackets words = ap (λ (v : List Token). symbol.Plain k.LeftParen ∷ v) (said_both words (fixed (codes ")") ∷ []))
 
 pub fine_brackets : (words : List Word) → AreFine (in_brackets words) → AreFine words
 fine_brackets words h = (fine_split words (fixed (codes ")") ∷ []) h.1).0
@@ -91,17 +91,17 @@ AllSaid a [] (x ∷ xs) = ⊥
 AllSaid a (t ∷ ts) [] = ⊥
 AllSaid a (t ∷ ts) (x ∷ xs) = a.spells t x × AllSaid a ts xs
 
-many_marked : {A : Type 0} (mark : Kind) (a : Rule A) (ts : List (List Token)) (xs : List A) → AllSaid a ts xs → (many (after (token mark) a)).spells (marked_tokens (token_of.Plain mark) ts) xs
+many_marked : {A : Type 0} (mark : Kind) (a : Rule A) (ts : List (List Token)) (xs : List A) → AllSaid a ts xs → (many (after (token mark) a)).spells (marked_tokens (symbol.Plain mark) ts) xs
 many_marked mark a [] [] h = refl
 many_marked mark a [] (x ∷ xs) h = absurd h
 many_marked mark a (t ∷ ts) [] h = absurd h
-many_marked mark a (t ∷ ts) (x ∷ xs) h = (token_of.Plain mark ∷ t, marked_tokens (token_of.Plain mark) ts, refl, after_said mark a t x h.0, many_marked mark a ts xs h.1)
+many_marked mark a (t ∷ ts) (x ∷ xs) h = (symbol.Plain mark ∷ t, marked_tokens (symbol.Plain mark) ts, refl, after_said mark a t x h.0, many_marked mark a ts xs h.1)
 
-pub chain_said : {A : Type 0} (mark : Kind) (a : Rule A) (ts : List (List Token)) (xs : List A) → is_some xs ≡ true → AllSaid a ts xs → (chain mark a).spells (separated_tokens (token_of.Plain mark) ts) xs
+pub chain_said : {A : Type 0} (mark : Kind) (a : Rule A) (ts : List (List Token)) (xs : List A) → is_some xs ≡ true → AllSaid a ts xs → (chain mark a).spells (separated_tokens (symbol.Plain mark) ts) xs
 chain_said mark a [] [] s h = absurd (cc (s))
 chain_said mark a [] (x ∷ xs) s h = absurd h
 chain_said mark a (t ∷ ts) [] s h = absurd h
-chain_said mark a (t ∷ ts) (x ∷ xs) s h = ((x, xs), (t, marked_tokens (token_of.Plain mark) ts, refl, h.0, many_marked mark a ts xs h.1), refl)
+chain_said mark a (t ∷ ts) (x ∷ xs) s h = ((x, xs), (t, marked_tokens (symbol.Plain mark) ts, refl, h.0, many_marked mark a ts xs h.1), refl)
 
 module _ (ps : Prefixes) where
   -- what stands between brackets, where so many more may be opened
@@ -140,7 +140,7 @@ module _ (ps : Prefixes) where
   ]
 
   -- brackets make a primary of anything
-  pub bracketed_said : (n : ℕ) (ts : List Token) (e : Expr) → (grammar.disjunction ps (inner n)).spells ts e → (grammar.primary ps (inner (suc n))).spells (token_of.Plain k.LeftParen ∷ (ts ++ token_of.Plain k.RightParen ∷ [])) e
+  pub bracketed_said : (n : ℕ) (ts : List Token) (e : Expr) → (grammar.disjunction ps (inner n)).spells ts e → (grammar.primary ps (inner (suc n))).spells (symbol.Plain k.LeftParen ∷ (ts ++ symbol.Plain k.RightParen ∷ [])) e
   unfolding grammar.primary
   bracketed_said n ts e s = inl (parens_said (inner (suc n)) ts e (nested_said (grammar.disjunction ps) n ts e s))
 
@@ -220,11 +220,11 @@ module _ (ps : Prefixes) where
 
   variable_so : (name : List ℕ) → Law (print_step (Expr-F.Variable name)) (measure_step (Expr-F.Variable name)) (expr.Variable name)
   unfolding grammar.primary grammar.variable
-  variable_so name = record { level = refl; is_name = λ h. (name, refl, refl); calls = λ h. absurd (cc (h)); passes = passes_calm false 0 (token_of.Variable name ∷ []) refl; spelled = λ g f n h. inr (inr (inr (inl (name, (token_of.Variable name, refl, refl, refl), refl)))) }
+  variable_so name = record { level = refl; is_name = λ h. (name, refl, refl); calls = λ h. absurd (cc (h)); passes = passes_calm false 0 (symbol.Variable name ∷ []) refl; spelled = λ g f n h. inr (inr (inr (inl (name, (symbol.Variable name, refl, refl, refl), refl)))) }
 
   constant_said : (t : Term) (n : ℕ) → IsFine (term t) → (grammar.primary ps (inner n)).spells (term_tokens t) (expr.Constant t)
   unfolding grammar.primary grammar.primary_iri grammar.primary_literal grammar.no_call
-  constant_said (Iri a) n f = inr (inr (inl (a, ((a, None), (token_of.Iri a ∷ [], [], refl, iri_said ps a, refl), refl), refl)))
+  constant_said (Iri a) n f = inr (inr (inl (a, ((a, None), (symbol.Iri a ∷ [], [], refl, iri_said ps a, refl), refl), refl)))
   constant_said (Literal l) n f = inr (inr (inr (inr (Literal l, literal_said (grammar.datatype_in true ps) (datatype_in_said ps true) l f, refl))))
 
   constant_so : (t : Term) → Law (print_step (Expr-F.Constant t)) (measure_step (Expr-F.Constant t)) (expr.Constant t)
@@ -295,7 +295,7 @@ module _ (ps : Prefixes) where
         level = refl;
         is_name = λ h. absurd (cc (h));
         calls = λ h. absurd (cc (h));
-        passes = passes_behind false (placed 6 (measured e.0)) (token_of.Plain k.Bang) (said (in_place 6 (printed e.0))) refl l.passes;
+        passes = passes_behind false (placed 6 (measured e.0)) (symbol.Plain k.Bang) (said (in_place 6 (printed e.0))) refl l.passes;
         spelled = λ g f n h. inl (e.0, after_said k.Bang (grammar.primary ps (inner n)) (said (in_place 6 (printed e.0))) e.0 (l.spelled g f.1 n h), refl);
       }
 
@@ -307,7 +307,7 @@ module _ (ps : Prefixes) where
         level = refl;
         is_name = λ h. absurd (cc (h));
         calls = λ h. absurd (cc (h));
-        passes = passes_behind false (placed 6 (measured e.0)) (token_of.Plain k.Plus) (said (in_place 6 (printed e.0))) refl l.passes;
+        passes = passes_behind false (placed 6 (measured e.0)) (symbol.Plain k.Plus) (said (in_place 6 (printed e.0))) refl l.passes;
         spelled = λ g f n h. inr (inl (e.0, after_said k.Plus (grammar.primary ps (inner n)) (said (in_place 6 (printed e.0))) e.0 (l.spelled g f.1 n h), refl));
       }
 
@@ -319,11 +319,11 @@ module _ (ps : Prefixes) where
         level = refl;
         is_name = λ h. absurd (cc (h));
         calls = λ h. absurd (cc (h));
-        passes = passes_behind false (placed 6 (measured e.0)) (token_of.Plain k.Dash) (said (in_place 6 (printed e.0))) refl l.passes;
+        passes = passes_behind false (placed 6 (measured e.0)) (symbol.Plain k.Dash) (said (in_place 6 (printed e.0))) refl l.passes;
         spelled = λ g f n h. inr (inr (inl (e.0, after_said k.Dash (grammar.primary ps (inner n)) (said (in_place 6 (printed e.0))) e.0 (l.spelled g f.1 n h), refl)));
       }
 
-  compare_token : (op : Compare) → fixed_token (comparison op) ≡ token_of.Comparison op
+  compare_token : (op : Compare) → fixed_token (comparison op) ≡ symbol.Comparison op
   compare_token compare.Equal = refl
   compare_token compare.NotEqual = refl
   compare_token compare.Less = refl
@@ -339,13 +339,13 @@ module _ (ps : Prefixes) where
       let nest = max (placed 3 (measured a.0)) (placed 3 (measured b.0)) in
       let left = in_place 3 (printed a.0) in
       let right = in_place 3 (printed b.0) in
-      let same : said (left ++ (fixed (comparison op) ∷ right)) ≡ said left ++ token_of.Comparison op ∷ said right = said_both left (fixed (comparison op) ∷ right) ∙ ap (λ (t : Token). said left ++ t ∷ said right) (compare_token op) in
+      let same : said (left ++ (fixed (comparison op) ∷ right)) ≡ said left ++ symbol.Comparison op ∷ said right = said_both left (fixed (comparison op) ∷ right) ∙ ap (λ (t : Token). said left ++ t ∷ said right) (compare_token op) in
       record {
         level = refl;
         is_name = λ h. absurd (cc (h));
         calls = λ h. absurd (cc (h));
-        passes = subst (Passes false nest) (sym same) (passes_both false nest (said left) (token_of.Comparison op ∷ said right) (passes_less false (placed 3 (measured a.0)) nest (said left) (omega arith) l.passes)
-            (passes_behind false nest (token_of.Comparison op) (said right) refl (passes_less false (placed 3 (measured b.0)) nest (said right) (omega arith) r.passes)));
+        passes = subst (Passes false nest) (sym same) (passes_both false nest (said left) (symbol.Comparison op ∷ said right) (passes_less false (placed 3 (measured a.0)) nest (said left) (omega arith) l.passes)
+            (passes_behind false nest (symbol.Comparison op) (said right) refl (passes_less false (placed 3 (measured b.0)) nest (said right) (omega arith) r.passes)));
         spelled = λ g f n h.
             let t = and_parts (measured a.0).good (measured b.0).good g in
             let u = fine_split left (fixed (comparison op) ∷ right) f in
@@ -353,10 +353,10 @@ module _ (ps : Prefixes) where
               (a.0, Some (relative.Compared op b.0)),
               (
                 said left,
-                token_of.Comparison op ∷ said right,
+                symbol.Comparison op ∷ said right,
                 refl,
                 l.spelled t.0 u.0 n (omega (arith, h)),
-                inl ((op, b.0), (token_of.Comparison op ∷ [], said right, refl, (token_of.Comparison op, refl, refl, refl), r.spelled t.1 u.1.1 n (omega (arith, h))), refl),
+                inl ((op, b.0), (symbol.Comparison op ∷ [], said right, refl, (symbol.Comparison op, refl, refl, refl), r.spelled t.1 u.1.1 n (omega (arith, h))), refl),
               ),
               refl,
             );
@@ -370,29 +370,29 @@ module _ (ps : Prefixes) where
   all_nested n (t ∷ ts) [] h = absurd h
   all_nested n (t ∷ ts) (e ∷ es) h = (nested_said (grammar.disjunction ps) n t e h.0, all_nested n ts es h.1)
 
-  list_said : (a : Rule Expr) (ts : List (List Token)) (es : List Expr) → AllSaid a ts es → (grammar.list a).spells (token_of.Plain k.LeftParen ∷ (separated_tokens (token_of.Plain k.Comma) ts ++ token_of.Plain k.RightParen ∷ [])) es
+  list_said : (a : Rule Expr) (ts : List (List Token)) (es : List Expr) → AllSaid a ts es → (grammar.list a).spells (symbol.Plain k.LeftParen ∷ (separated_tokens (symbol.Plain k.Comma) ts ++ symbol.Plain k.RightParen ∷ [])) es
   unfolding grammar.list
-  list_said a [] [] h = ((tt, []), (token_of.Plain k.LeftParen ∷ [], token_of.Plain k.RightParen ∷ [], refl, mark_said k.LeftParen, inl (tt, mark_said k.RightParen, refl)), refl)
+  list_said a [] [] h = ((tt, []), (symbol.Plain k.LeftParen ∷ [], symbol.Plain k.RightParen ∷ [], refl, mark_said k.LeftParen, inl (tt, mark_said k.RightParen, refl)), refl)
   list_said a [] (e ∷ es) h = absurd h
   list_said a (t ∷ ts) [] h = absurd h
   list_said a (t ∷ ts) (e ∷ es) h = (
     (tt, e ∷ es),
     (
-      token_of.Plain k.LeftParen ∷ [],
-      separated_tokens (token_of.Plain k.Comma) (t ∷ ts) ++ token_of.Plain k.RightParen ∷ [],
+      symbol.Plain k.LeftParen ∷ [],
+      separated_tokens (symbol.Plain k.Comma) (t ∷ ts) ++ symbol.Plain k.RightParen ∷ [],
       refl,
       mark_said k.LeftParen,
-      inr (before_said (chain k.Comma a) k.RightParen (separated_tokens (token_of.Plain k.Comma) (t ∷ ts)) (e ∷ es) (chain_said k.Comma a (t ∷ ts) (e ∷ es) refl h)),
+      inr (before_said (chain k.Comma a) k.RightParen (separated_tokens (symbol.Plain k.Comma) (t ∷ ts)) (e ∷ es) (chain_said k.Comma a (t ∷ ts) (e ∷ es) refl h)),
     ),
     refl,
   )
 
   abbrev list_tokens : List Proved → List Token
-  list_tokens es = token_of.Plain k.LeftParen ∷ (separated_tokens (token_of.Plain k.Comma) (map said (placed_words 0 es)) ++ token_of.Plain k.RightParen ∷ [])
+  list_tokens es = symbol.Plain k.LeftParen ∷ (separated_tokens (symbol.Plain k.Comma) (map said (placed_words 0 es)) ++ symbol.Plain k.RightParen ∷ [])
 
   listed_said : (es : List Proved) → said (listed (map printed (values es))) ≡ list_tokens es
   listed_said es =
-      said_brackets (chained (fixed (codes ",")) 0 (map printed (values es))) ∙ ap (λ (v : List Token). token_of.Plain k.LeftParen ∷ (v ++ token_of.Plain k.RightParen ∷ [])) (separated_said (codes ",") (placed_words 0 es))
+      said_brackets (chained (fixed (codes ",")) 0 (map printed (values es))) ∙ ap (λ (v : List Token). symbol.Plain k.LeftParen ∷ (v ++ symbol.Plain k.RightParen ∷ [])) (separated_said (codes ",") (placed_words 0 es))
 
   list_passes : (es : List Proved) → Passes false (suc (most 0 (map measured (values es)))) (said (listed (map printed (values es))))
   list_passes es = pass_brackets (most 0 (map measured (values es))) (chained (fixed (codes ",")) 0 (map printed (values es))) (chain_passes (codes ",") 0 (omega arith) refl es)
@@ -405,8 +405,8 @@ module _ (ps : Prefixes) where
   -- IN or NOT IN, and a list
   among_relative : (a : Rule Expr) (b : Bool) (ts : List Token) (es : List Expr) → (grammar.list a).spells ts es → (grammar.among ps a).spells (said (among b) ++ ts) (relative.Among b es)
   unfolding grammar.among
-  among_relative a true ts es s = ((Some tt, es), (token_of.Plain k.Not ∷ [], token_of.Plain k.In ∷ ts, refl, mark_said k.Not, after_said k.In (grammar.list a) ts es s), refl)
-  among_relative a false ts es s = ((None, es), ([], token_of.Plain k.In ∷ ts, refl, refl, after_said k.In (grammar.list a) ts es s), refl)
+  among_relative a true ts es s = ((Some tt, es), (symbol.Plain k.Not ∷ [], symbol.Plain k.In ∷ ts, refl, mark_said k.Not, after_said k.In (grammar.list a) ts es s), refl)
+  among_relative a false ts es s = ((None, es), ([], symbol.Plain k.In ∷ ts, refl, refl, after_said k.In (grammar.list a) ts es s), refl)
 
   calm_among : (b : Bool) → list_all is_calm (said (among b)) ≡ true
   calm_among true = refl
@@ -449,8 +449,8 @@ module _ (ps : Prefixes) where
 
   sign_said : (s : Sign) (a : Rule Expr) (ts : List Token) (e : Expr) → (grammar.product ps a).spells ts e → (grammar.addend ps a).spells (fixed_token (sign s) ∷ ts) (s, e)
   unfolding grammar.addend grammar.signed_product
-  sign_said signs.Plus a ts e h = inl (token_of.Plain k.Plus ∷ [], ts, refl, inl (tt, mark_said k.Plus, refl), h)
-  sign_said signs.Minus a ts e h = inl (token_of.Plain k.Dash ∷ [], ts, refl, inr (tt, mark_said k.Dash, refl), h)
+  sign_said signs.Plus a ts e h = inl (symbol.Plain k.Plus ∷ [], ts, refl, inl (tt, mark_said k.Plus, refl), h)
+  sign_said signs.Minus a ts e h = inl (symbol.Plain k.Dash ∷ [], ts, refl, inr (tt, mark_said k.Dash, refl), h)
 
   calm_sign : (s : Sign) → is_calm (fixed_token (sign s)) ≡ true
   calm_sign signs.Plus = refl
@@ -518,38 +518,38 @@ module _ (ps : Prefixes) where
   three_map f (x ∷ xs) = two_map f xs
 
   abbrev call_tokens : Function → List (List Token) → List Token
-  call_tokens f ts = fixed_token (keyword f) ∷ token_of.Plain k.LeftParen ∷ (separated_tokens (token_of.Plain k.Comma) ts ++ token_of.Plain k.RightParen ∷ [])
+  call_tokens f ts = fixed_token (keyword f) ∷ symbol.Plain k.LeftParen ∷ (separated_tokens (symbol.Plain k.Comma) ts ++ symbol.Plain k.RightParen ∷ [])
 
   behind_token : Token → List Token → List Token
-  behind_token t ts = t ∷ token_of.Plain k.LeftParen ∷ (ts ++ token_of.Plain k.RightParen ∷ [])
+  behind_token t ts = t ∷ symbol.Plain k.LeftParen ∷ (ts ++ symbol.Plain k.RightParen ∷ [])
 
-  call_one : (a : Rule Expr) (f : Function) (ts : List (List Token)) (es : List Expr) → is_one es ≡ true → AllSaid a ts es → (grammar.call a).spells (behind_token (token_of.One f) (separated_tokens (token_of.Plain k.Comma) ts)) (expr.Call f es)
+  call_one : (a : Rule Expr) (f : Function) (ts : List (List Token)) (es : List Expr) → is_one es ≡ true → AllSaid a ts es → (grammar.call a).spells (behind_token (symbol.One f) (separated_tokens (symbol.Plain k.Comma) ts)) (expr.Call f es)
   unfolding grammar.call grammar.one_call behind_token
   call_one a f [] [] o h = absurd (cc (o))
   call_one a f [] (e ∷ es) o h = absurd h
   call_one a f (t ∷ ts) [] o h = absurd h
   call_one a f (t ∷ []) (e ∷ []) o h =
-      subst (λ (v : List Token). (grammar.call a).spells (token_of.One f ∷ token_of.Plain k.LeftParen ∷ (v ++ token_of.Plain k.RightParen ∷ [])) (expr.Call f (e ∷ []))) (sym (append-nil t))
-      (inr (inr (inr (inl ((f, e), (token_of.One f ∷ [], token_of.Plain k.LeftParen ∷ (t ++ token_of.Plain k.RightParen ∷ []), refl, (token_of.One f, refl, refl, refl), parens_said a t e h.0), refl)))))
+      subst (λ (v : List Token). (grammar.call a).spells (symbol.One f ∷ symbol.Plain k.LeftParen ∷ (v ++ symbol.Plain k.RightParen ∷ [])) (expr.Call f (e ∷ []))) (sym (append-nil t))
+      (inr (inr (inr (inl ((f, e), (symbol.One f ∷ [], symbol.Plain k.LeftParen ∷ (t ++ symbol.Plain k.RightParen ∷ []), refl, (symbol.One f, refl, refl, refl), parens_said a t e h.0), refl)))))
   call_one a f (t ∷ u ∷ ts) (e ∷ []) o h = absurd h.1
   call_one a f (t ∷ []) (e ∷ d ∷ es) o h = absurd (cc (o))
   call_one a f (t ∷ u ∷ ts) (e ∷ d ∷ es) o h = absurd (cc (o))
 
-  two_tokens : (t u : List Token) → (t ++ ((token_of.Plain k.Comma ∷ u) ++ [])) ≡ t ++ (token_of.Plain k.Comma ∷ u)
-  two_tokens t u = ap (λ (v : List Token). t ++ v) (append-nil (token_of.Plain k.Comma ∷ u))
+  two_tokens : (t u : List Token) → (t ++ ((symbol.Plain k.Comma ∷ u) ++ [])) ≡ t ++ (symbol.Plain k.Comma ∷ u)
+  two_tokens t u = ap (λ (v : List Token). t ++ v) (append-nil (symbol.Plain k.Comma ∷ u))
 
-  call_two : (a : Rule Expr) (f : Function) (ts : List (List Token)) (es : List Expr) → is_two es ≡ true → AllSaid a ts es → (grammar.call a).spells (behind_token (token_of.Two f) (separated_tokens (token_of.Plain k.Comma) ts)) (expr.Call f es)
+  call_two : (a : Rule Expr) (f : Function) (ts : List (List Token)) (es : List Expr) → is_two es ≡ true → AllSaid a ts es → (grammar.call a).spells (behind_token (symbol.Two f) (separated_tokens (symbol.Plain k.Comma) ts)) (expr.Call f es)
   unfolding grammar.call grammar.two_call grammar.two_args behind_token
   call_two a f (t ∷ u ∷ []) (e ∷ d ∷ []) o h =
-      subst (λ (v : List Token). (grammar.call a).spells (token_of.Two f ∷ token_of.Plain k.LeftParen ∷ (v ++ token_of.Plain k.RightParen ∷ [])) (expr.Call f (e ∷ d ∷ []))) (sym (two_tokens t u))
+      subst (λ (v : List Token). (grammar.call a).spells (symbol.Two f ∷ symbol.Plain k.LeftParen ∷ (v ++ symbol.Plain k.RightParen ∷ [])) (expr.Call f (e ∷ d ∷ []))) (sym (two_tokens t u))
       (inr (inr (inr (inr (inl (
         (f, (e, d)),
         (
-          token_of.Two f ∷ [],
-          token_of.Plain k.LeftParen ∷ ((t ++ token_of.Plain k.Comma ∷ u) ++ token_of.Plain k.RightParen ∷ []),
+          symbol.Two f ∷ [],
+          symbol.Plain k.LeftParen ∷ ((t ++ symbol.Plain k.Comma ∷ u) ++ symbol.Plain k.RightParen ∷ []),
           refl,
-          (token_of.Two f, refl, refl, refl),
-          parens_said (grammar.two_args a) (t ++ token_of.Plain k.Comma ∷ u) (e, d) (t, token_of.Plain k.Comma ∷ u, refl, h.0, after_said k.Comma a u d h.1.0),
+          (symbol.Two f, refl, refl, refl),
+          parens_said (grammar.two_args a) (t ++ symbol.Plain k.Comma ∷ u) (e, d) (t, symbol.Plain k.Comma ∷ u, refl, h.0, after_said k.Comma a u d h.1.0),
         ),
         refl,
       ))))))
@@ -562,18 +562,18 @@ module _ (ps : Prefixes) where
   call_two a f (t ∷ u ∷ v ∷ ts) (e ∷ d ∷ []) o h = absurd h.1.1
   call_two a f (t ∷ u ∷ ts) (e ∷ d ∷ c ∷ es) o h = absurd (cc (o))
 
-  three_tokens : (t u w : List Token) → (t ++ ((token_of.Plain k.Comma ∷ u) ++ ((token_of.Plain k.Comma ∷ w) ++ []))) ≡ t ++ (token_of.Plain k.Comma ∷ (u ++ token_of.Plain k.Comma ∷ w))
-  three_tokens t u w = ap (λ (v : List Token). t ++ (token_of.Plain k.Comma ∷ (u ++ v))) (append-nil (token_of.Plain k.Comma ∷ w))
+  three_tokens : (t u w : List Token) → (t ++ ((symbol.Plain k.Comma ∷ u) ++ ((symbol.Plain k.Comma ∷ w) ++ []))) ≡ t ++ (symbol.Plain k.Comma ∷ (u ++ symbol.Plain k.Comma ∷ w))
+  three_tokens t u w = ap (λ (v : List Token). t ++ (symbol.Plain k.Comma ∷ (u ++ v))) (append-nil (symbol.Plain k.Comma ∷ w))
 
-  call_three : (a : Rule Expr) (ts : List (List Token)) (es : List Expr) → is_three es ≡ true → AllSaid a ts es → (grammar.call a).spells (behind_token (token_of.Plain k.If) (separated_tokens (token_of.Plain k.Comma) ts)) (expr.Call function.If es)
+  call_three : (a : Rule Expr) (ts : List (List Token)) (es : List Expr) → is_three es ≡ true → AllSaid a ts es → (grammar.call a).spells (behind_token (symbol.Plain k.If) (separated_tokens (symbol.Plain k.Comma) ts)) (expr.Call function.If es)
   unfolding grammar.call grammar.if_call grammar.two_args behind_token
   call_three a (t ∷ u ∷ w ∷ []) (e ∷ d ∷ c ∷ []) o h =
-      subst (λ (v : List Token). (grammar.call a).spells (token_of.Plain k.If ∷ token_of.Plain k.LeftParen ∷ (v ++ token_of.Plain k.RightParen ∷ [])) (expr.Call function.If (e ∷ d ∷ c ∷ []))) (sym (three_tokens t u w))
+      subst (λ (v : List Token). (grammar.call a).spells (symbol.Plain k.If ∷ symbol.Plain k.LeftParen ∷ (v ++ symbol.Plain k.RightParen ∷ [])) (expr.Call function.If (e ∷ d ∷ c ∷ []))) (sym (three_tokens t u w))
       (inr (inr (inl (
         (e, (d, c)),
-        after_said k.If (grammar.parens (seq a (after (token k.Comma) (grammar.two_args a)))) (token_of.Plain k.LeftParen ∷ ((t ++ token_of.Plain k.Comma ∷ (u ++ token_of.Plain k.Comma ∷ w)) ++ token_of.Plain k.RightParen ∷ [])) (e, (d, c))
-            (parens_said (seq a (after (token k.Comma) (grammar.two_args a))) (t ++ token_of.Plain k.Comma ∷ (u ++ token_of.Plain k.Comma ∷ w)) (e, (d, c))
-            (t, token_of.Plain k.Comma ∷ (u ++ token_of.Plain k.Comma ∷ w), refl, h.0, after_said k.Comma (grammar.two_args a) (u ++ token_of.Plain k.Comma ∷ w) (d, c) (u, token_of.Plain k.Comma ∷ w, refl, h.1.0, after_said k.Comma a w c h.1.1.0))),
+        after_said k.If (grammar.parens (seq a (after (token k.Comma) (grammar.two_args a)))) (symbol.Plain k.LeftParen ∷ ((t ++ symbol.Plain k.Comma ∷ (u ++ symbol.Plain k.Comma ∷ w)) ++ symbol.Plain k.RightParen ∷ [])) (e, (d, c))
+            (parens_said (seq a (after (token k.Comma) (grammar.two_args a))) (t ++ symbol.Plain k.Comma ∷ (u ++ symbol.Plain k.Comma ∷ w)) (e, (d, c))
+            (t, symbol.Plain k.Comma ∷ (u ++ symbol.Plain k.Comma ∷ w), refl, h.0, after_said k.Comma (grammar.two_args a) (u ++ symbol.Plain k.Comma ∷ w) (d, c) (u, symbol.Plain k.Comma ∷ w, refl, h.1.0, after_said k.Comma a w c h.1.1.0))),
         refl,
       ))))
   call_three a [] [] o h = absurd (cc (o))
@@ -588,25 +588,25 @@ module _ (ps : Prefixes) where
   call_three a (t ∷ u ∷ w ∷ v ∷ ts) (e ∷ d ∷ c ∷ []) o h = absurd h.1.1.1
   call_three a (t ∷ u ∷ w ∷ ts) (e ∷ d ∷ c ∷ b ∷ es) o h = absurd (cc (o))
 
-  call_any : (a : Rule Expr) (ts : List (List Token)) (es : List Expr) → AllSaid a ts es → (grammar.call a).spells (behind_token (token_of.Plain k.Coalesce) (separated_tokens (token_of.Plain k.Comma) ts)) (expr.Call function.Coalesce es)
+  call_any : (a : Rule Expr) (ts : List (List Token)) (es : List Expr) → AllSaid a ts es → (grammar.call a).spells (behind_token (symbol.Plain k.Coalesce) (separated_tokens (symbol.Plain k.Comma) ts)) (expr.Call function.Coalesce es)
   unfolding grammar.call grammar.coalesce_call behind_token
-  call_any a ts es h = inr (inl (es, after_said k.Coalesce (grammar.list a) (token_of.Plain k.LeftParen ∷ (separated_tokens (token_of.Plain k.Comma) ts ++ token_of.Plain k.RightParen ∷ [])) es (list_said a ts es h), refl))
+  call_any a ts es h = inr (inl (es, after_said k.Coalesce (grammar.list a) (symbol.Plain k.LeftParen ∷ (separated_tokens (symbol.Plain k.Comma) ts ++ symbol.Plain k.RightParen ∷ [])) es (list_said a ts es h), refl))
 
-  variable_tokens : (e : Proved) (name : List ℕ) → (printed e.0).words ≡ variable name ∷ [] → said (in_place 0 (printed e.0)) ≡ token_of.Variable name ∷ []
+  variable_tokens : (e : Proved) (name : List ℕ) → (printed e.0).words ≡ variable name ∷ [] → said (in_place 0 (printed e.0)) ≡ symbol.Variable name ∷ []
   unfolding in_place
   variable_tokens e name w = ap (λ (b : Bool). said (cond b (printed e.0).words (in_brackets (printed e.0).words))) (le-leb 0 (rank (printed e.0).level) (omega arith)) ∙ ap said w
 
-  bound_said : (a : Rule Expr) (name : List ℕ) → (grammar.call a).spells (behind_token (token_of.Plain k.Bound) (token_of.Variable name ∷ [])) (expr.Call function.Bound (expr.Variable name ∷ []))
+  bound_said : (a : Rule Expr) (name : List ℕ) → (grammar.call a).spells (behind_token (symbol.Plain k.Bound) (symbol.Variable name ∷ [])) (expr.Call function.Bound (expr.Variable name ∷ []))
   unfolding grammar.call grammar.bound_call grammar.variable behind_token
-  bound_said a name = inl (name, after_said k.Bound (grammar.parens grammar.variable) (token_of.Plain k.LeftParen ∷ (token_of.Variable name ∷ token_of.Plain k.RightParen ∷ [])) name (parens_said grammar.variable (token_of.Variable name ∷ []) name (token_of.Variable name, refl, refl, refl)), refl)
+  bound_said a name = inl (name, after_said k.Bound (grammar.parens grammar.variable) (symbol.Plain k.LeftParen ∷ (symbol.Variable name ∷ symbol.Plain k.RightParen ∷ [])) name (parens_said grammar.variable (symbol.Variable name ∷ []) name (symbol.Variable name, refl, refl, refl)), refl)
 
-  call_bound : (a : Rule Expr) (es : List Proved) → takes function.Bound (map measured (values es)) ≡ true → (grammar.call a).spells (behind_token (token_of.Plain k.Bound) (separated_tokens (token_of.Plain k.Comma) (map said (placed_words 0 es)))) (expr.Call function.Bound (values es))
+  call_bound : (a : Rule Expr) (es : List Proved) → takes function.Bound (map measured (values es)) ≡ true → (grammar.call a).spells (behind_token (symbol.Plain k.Bound) (separated_tokens (symbol.Plain k.Comma) (map said (placed_words 0 es)))) (expr.Call function.Bound (values es))
   call_bound a [] h = absurd (cc (h))
   call_bound a (e ∷ []) h =
       let n = e.1.is_name (and_parts (is_variable (measured e.0).level) true h).0 in
-      let tokens : said (in_place 0 (printed e.0)) ++ [] ≡ token_of.Variable n.0 ∷ [] = append-nil (said (in_place 0 (printed e.0))) ∙ variable_tokens e n.0 n.2 in
-      subst (λ (v : List Token). (grammar.call a).spells (behind_token (token_of.Plain k.Bound) v) (expr.Call function.Bound (e.0 ∷ []))) (sym tokens)
-      (subst (λ (v : Expr). (grammar.call a).spells (behind_token (token_of.Plain k.Bound) (token_of.Variable n.0 ∷ [])) (expr.Call function.Bound (v ∷ []))) (sym n.1) (bound_said a n.0))
+      let tokens : said (in_place 0 (printed e.0)) ++ [] ≡ symbol.Variable n.0 ∷ [] = append-nil (said (in_place 0 (printed e.0))) ∙ variable_tokens e n.0 n.2 in
+      subst (λ (v : List Token). (grammar.call a).spells (behind_token (symbol.Plain k.Bound) v) (expr.Call function.Bound (e.0 ∷ []))) (sym tokens)
+      (subst (λ (v : Expr). (grammar.call a).spells (behind_token (symbol.Plain k.Bound) (symbol.Variable n.0 ∷ [])) (expr.Call function.Bound (v ∷ []))) (sym n.1) (bound_said a n.0))
   call_bound a (e ∷ d ∷ es) h = absurd (cc (h))
 
   module _ (es : List Proved) where
@@ -616,7 +616,7 @@ module _ (ps : Prefixes) where
     twos : is_two (map measured (values es)) ≡ true → is_two (values es) ≡ true
     twos h = sym (two_map measured (values es)) ∙ h
 
-    call_said : (f : Function) (a : Rule Expr) → takes f (map measured (values es)) ≡ true → AllSaid a (map said (placed_words 0 es)) (values es) → (grammar.call a).spells (behind_token (fixed_token (keyword f)) (separated_tokens (token_of.Plain k.Comma) (map said (placed_words 0 es)))) (expr.Call f (values es))
+    call_said : (f : Function) (a : Rule Expr) → takes f (map measured (values es)) ≡ true → AllSaid a (map said (placed_words 0 es)) (values es) → (grammar.call a).spells (behind_token (fixed_token (keyword f)) (separated_tokens (symbol.Plain k.Comma) (map said (placed_words 0 es)))) (expr.Call f (values es))
     call_said function.Bound a t h = call_bound a es t
     call_said function.Coalesce a t h = call_any a (map said (placed_words 0 es)) (values es) h
     call_said function.If a t h = call_three a (map said (placed_words 0 es)) (values es) (sym (three_map measured (values es)) ∙ t) h

@@ -21,7 +21,7 @@ use Rattle.fx_spelling.specs.Printable.{AreFine, AreTriples, said, block_nest, H
 use Rattle.fx_grammar.specs.declared.kinds.Kind.TheVariants as k
 use Rattle.fx_grammar.specs.declared.refusals.SyntaxKind.TheVariants.{BindInScope}
 use Rattle.fx_grammar.specs.declared.kinds.Token.{Token}
-use Rattle.fx_grammar.specs.declared.kinds.Token.TheVariants as token_of
+use Rattle.fx_grammar.specs.declared.kinds.Token.TheVariants as symbol
 use Rattle.fx_spelling.proofs.Saying.{said_both}
 use Rattle.fx_spelling.proofs.Spelling.{mark_said, after_said, parens_said, braces_said, nested_said}
 use Rattle.fx_spelling.proofs.Terms.{iri_said, triples_said, run_is, calm_triple, triple_from}
@@ -102,12 +102,12 @@ module _ (ps : Prefixes) where
     pub names : h.names ≡ group_mentions g
     pub spelled : h.good ≡ true → AreFine words → (n : ℕ) → h.nest ≤ n → n ≤ 64 → (grammar.group ps n).spells (said words) g
 
-  group_tokens : (words : List Word) (h : Held) (g : Group) → (l : OfGroup words h g) → said words ≡ token_of.Plain k.LeftBrace ∷ (said l.within ++ token_of.Plain k.RightBrace ∷ [])
-  group_tokens words h g l = ap said l.words_are ∙ ap (λ (v : List Token). token_of.Plain k.LeftBrace ∷ v) (said_both l.within (fixed (codes "}") ∷ []))
+  group_tokens : (words : List Word) (h : Held) (g : Group) → (l : OfGroup words h g) → said words ≡ symbol.Plain k.LeftBrace ∷ (said l.within ++ symbol.Plain k.RightBrace ∷ [])
+  group_tokens words h g l = ap said l.words_are ∙ ap (λ (v : List Token). symbol.Plain k.LeftBrace ∷ v) (said_both l.within (fixed (codes "}") ∷ []))
 
   pub group_passes : (words : List Word) (h : Held) (g : Group) → OfGroup words h g → h.good ≡ true → Passes h.serves h.nest (said words)
   group_passes words h g l o =
-      subst (λ (v : List Token). Passes h.serves h.nest v) (sym (group_tokens words h g l)) (subst (λ (n : ℕ). Passes h.serves n (token_of.Plain k.LeftBrace ∷ (said l.within ++ token_of.Plain k.RightBrace ∷ []))) (sym l.nest) (passes_braces h.serves l.depth (said l.within) (l.passes o)))
+      subst (λ (v : List Token). Passes h.serves h.nest v) (sym (group_tokens words h g l)) (subst (λ (n : ℕ). Passes h.serves n (symbol.Plain k.LeftBrace ∷ (said l.within ++ symbol.Plain k.RightBrace ∷ []))) (sym l.nest) (passes_braces h.serves l.depth (said l.within) (l.passes o)))
 
   abbrev ProvedGroup : Type 0
   ProvedGroup = (g : Group) × OfGroup (group_words g) (held g) g
@@ -120,7 +120,7 @@ module _ (ps : Prefixes) where
   filter_so : (e : Expr) → Other (element_step (Element-F.Filter e)) (hold_element (Element-F.Filter e)) (element.Filter e)
   unfolding grammar.other
   filter_so e = record {
-    passes = λ o. passes_behind false (condition_nest (measured e)) (token_of.Plain k.Filter) (said (condition (printed e))) refl (condition_passes false e);
+    passes = λ o. passes_behind false (condition_nest (measured e)) (symbol.Plain k.Filter) (said (condition (printed e))) refl (condition_passes false e);
     names = sym (ap mentions (sym (element.rolls-Filter e)) ∙ fold-roll-Element (List (List ℕ)) (List (List ℕ)) element_names group_names (Element-F.Filter e));
     spelled = λ g f n h b names u. inr (inr (inr (inr (inl (e, after_said k.Filter (grammar.constraint ps) (said (condition (printed e))) e (constraint_said e g f.1 (omega (arith, h, b))), refl)))));
   }
@@ -128,7 +128,7 @@ module _ (ps : Prefixes) where
   optional_so : (g : ProvedGroup) → Other (element_step (Element-F.Optional (group_words g.0))) (hold_element (Element-F.Optional (held g.0))) (element.Optional g.0)
   unfolding grammar.other
   optional_so g = record {
-    passes = λ o. passes_behind (held g.0).serves (held g.0).nest (token_of.Plain k.Optional) (said (group_words g.0)) refl (group_passes (group_words g.0) (held g.0) g.0 g.1 o);
+    passes = λ o. passes_behind (held g.0).serves (held g.0).nest (symbol.Plain k.Optional) (said (group_words g.0)) refl (group_passes (group_words g.0) (held g.0) g.0 g.1 o);
     names = g.1.names ∙ sym (ap mentions (sym (element.rolls-Optional g.0)) ∙ fold-roll-Element (List (List ℕ)) (List (List ℕ)) element_names group_names (Element-F.Optional g.0));
     spelled = λ o f n h b names u. inr (inl (g.0, after_said k.Optional (grammar.group ps n) (said (group_words g.0)) g.0 (g.1.spelled o f.1 n h (omega (arith, b))), refl));
   }
@@ -136,7 +136,7 @@ module _ (ps : Prefixes) where
   minus_so : (g : ProvedGroup) → Other (element_step (Element-F.Minus (group_words g.0))) (hold_element (Element-F.Minus (held g.0))) (element.Minus g.0)
   unfolding grammar.other
   minus_so g = record {
-    passes = λ o. passes_behind (held g.0).serves (held g.0).nest (token_of.Plain k.Minus) (said (group_words g.0)) refl (group_passes (group_words g.0) (held g.0) g.0 g.1 o);
+    passes = λ o. passes_behind (held g.0).serves (held g.0).nest (symbol.Plain k.Minus) (said (group_words g.0)) refl (group_passes (group_words g.0) (held g.0) g.0 g.1 o);
     names = sym (ap mentions (sym (element.rolls-Minus g.0)) ∙ fold-roll-Element (List (List ℕ)) (List (List ℕ)) element_names group_names (Element-F.Minus g.0));
     spelled = λ o f n h b names u. inr (inr (inl (g.0, after_said k.Minus (grammar.group ps n) (said (group_words g.0)) g.0 (g.1.spelled o f.1 n h (omega (arith, b))), refl)));
   }
@@ -144,68 +144,68 @@ module _ (ps : Prefixes) where
   values_so : (inline : Inline) → Other (element_step (Element-F.Values inline)) (hold_element (Element-F.Values inline)) (element.Values inline)
   unfolding grammar.other
   values_so inline = record {
-    passes = λ o. passes_behind false (block_nest inline) (token_of.Plain k.Values) (said (block inline)) refl (block_passes false inline);
+    passes = λ o. passes_behind false (block_nest inline) (symbol.Plain k.Values) (said (block inline)) refl (block_passes false inline);
     names = sym (ap mentions (sym (element.rolls-Values inline)) ∙ fold-roll-Element (List (List ℕ)) (List (List ℕ)) element_names group_names (Element-F.Values inline));
     spelled = λ o f n h b names u. inr (inr (inr (inr (inr (inr (inl (inline, after_said k.Values (grammar.block ps) (said (block inline)) inline (block_said ps inline o f.1), refl)))))));
   }
 
-  unbound_said : (names : List (List ℕ)) (name : List ℕ) → not (is_among names name) ≡ true → (grammar.unbound names).spells (token_of.Variable name ∷ []) name
+  unbound_said : (names : List (List ℕ)) (name : List ℕ) → not (is_among names name) ≡ true → (grammar.unbound names).spells (symbol.Variable name ∷ []) name
   unfolding grammar.unbound
-  unbound_said names name h = (token_of.Variable name, refl, refl, ap (λ (b : Bool). cond b (Err BindInScope) (Ok name)) (not-true (is_among names name) h))
+  unbound_said names name h = (symbol.Variable name, refl, refl, ap (λ (b : Bool). cond b (Err BindInScope) (Ok name)) (not-true (is_among names name) h))
 
   bind_so : (e : Expr) (name : List ℕ) → Other (element_step (Element-F.Bind e name)) (hold_element (Element-F.Bind e name)) (element.Bind e name)
   unfolding grammar.other grammar.binding
   bind_so e name =
       let words : List Word = (printed e).words ++ (fixed (codes "AS") ∷ variable name ∷ []) in
-      let tokens : said words ≡ said (printed e).words ++ (token_of.Plain k.As ∷ token_of.Variable name ∷ []) = said_both (printed e).words (fixed (codes "AS") ∷ variable name ∷ []) in
-      let same : said (in_brackets words) ≡ token_of.Plain k.LeftParen ∷ ((said (printed e).words ++ (token_of.Plain k.As ∷ token_of.Variable name ∷ [])) ++ token_of.Plain k.RightParen ∷ []) =
-      said_brackets words ∙ ap (λ (v : List Token). token_of.Plain k.LeftParen ∷ (v ++ token_of.Plain k.RightParen ∷ [])) tokens in
+      let tokens : said words ≡ said (printed e).words ++ (symbol.Plain k.As ∷ symbol.Variable name ∷ []) = said_both (printed e).words (fixed (codes "AS") ∷ variable name ∷ []) in
+      let same : said (in_brackets words) ≡ symbol.Plain k.LeftParen ∷ ((said (printed e).words ++ (symbol.Plain k.As ∷ symbol.Variable name ∷ [])) ++ symbol.Plain k.RightParen ∷ []) =
+      said_brackets words ∙ ap (λ (v : List Token). symbol.Plain k.LeftParen ∷ (v ++ symbol.Plain k.RightParen ∷ [])) tokens in
       let n = (measured e).nest in
       record {
-        passes = λ o. passes_behind false (suc n) (token_of.Plain k.Bind) (said (in_brackets words)) refl
-            (subst (Passes false (suc n)) (sym same) (passes_parens false n (said (printed e).words ++ (token_of.Plain k.As ∷ token_of.Variable name ∷ []))
-            (passes_both false n (said (printed e).words) (token_of.Plain k.As ∷ token_of.Variable name ∷ []) (law ps e).passes (passes_calm false n (token_of.Plain k.As ∷ token_of.Variable name ∷ []) refl))));
+        passes = λ o. passes_behind false (suc n) (symbol.Plain k.Bind) (said (in_brackets words)) refl
+            (subst (Passes false (suc n)) (sym same) (passes_parens false n (said (printed e).words ++ (symbol.Plain k.As ∷ symbol.Variable name ∷ []))
+            (passes_both false n (said (printed e).words) (symbol.Plain k.As ∷ symbol.Variable name ∷ []) (law ps e).passes (passes_calm false n (symbol.Plain k.As ∷ symbol.Variable name ∷ []) refl))));
         names = sym (ap mentions (sym (element.rolls-Bind e name)) ∙ fold-roll-Element (List (List ℕ)) (List (List ℕ)) element_names group_names (Element-F.Bind e name));
         spelled = λ o f n h b names u.
             let w = fine_split (printed e).words (fixed (codes "AS") ∷ variable name ∷ []) (fine_brackets words f.1) in
             let part = seq (grammar.whole_expression ps) (after (token k.As) (grammar.unbound names)) in
-            let inside : part.spells (said (printed e).words ++ (token_of.Plain k.As ∷ token_of.Variable name ∷ [])) (e, name) =
-            (said (printed e).words, token_of.Plain k.As ∷ token_of.Variable name ∷ [], refl, whole_said e o w.0 (omega (arith, h, b)), after_said k.As (grammar.unbound names) (token_of.Variable name ∷ []) name (unbound_said names name u)) in
-            inr (inr (inr (inr (inr (inl ((e, name), after_said k.Bind (grammar.parens part) (said (in_brackets words)) (e, name) (subst (λ (v : List Token). (grammar.parens part).spells v (e, name)) (sym same) (parens_said part (said (printed e).words ++ (token_of.Plain k.As ∷ token_of.Variable name ∷ [])) (e, name) inside)), refl))))));
+            let inside : part.spells (said (printed e).words ++ (symbol.Plain k.As ∷ symbol.Variable name ∷ [])) (e, name) =
+            (said (printed e).words, symbol.Plain k.As ∷ symbol.Variable name ∷ [], refl, whole_said e o w.0 (omega (arith, h, b)), after_said k.As (grammar.unbound names) (symbol.Variable name ∷ []) name (unbound_said names name u)) in
+            inr (inr (inr (inr (inr (inl ((e, name), after_said k.Bind (grammar.parens part) (said (in_brackets words)) (e, name) (subst (λ (v : List Token). (grammar.parens part).spells v (e, name)) (sym same) (parens_said part (said (printed e).words ++ (symbol.Plain k.As ∷ symbol.Variable name ∷ [])) (e, name) inside)), refl))))));
       }
 
-  calm_silence : (b : Bool) (iri : List ℕ) → list_all is_calm (said (silence b) ++ token_of.Iri iri ∷ []) ≡ true
+  calm_silence : (b : Bool) (iri : List ℕ) → list_all is_calm (said (silence b) ++ symbol.Iri iri ∷ []) ≡ true
   calm_silence true iri = refl
   calm_silence false iri = refl
 
-  silence_said : (b : Bool) (iri : List ℕ) (rest : List Token) → said (silence b) ++ (token_of.Iri iri ∷ rest) ≡ (said (silence b) ++ token_of.Iri iri ∷ []) ++ rest
+  silence_said : (b : Bool) (iri : List ℕ) (rest : List Token) → said (silence b) ++ (symbol.Iri iri ∷ rest) ≡ (said (silence b) ++ symbol.Iri iri ∷ []) ++ rest
   silence_said true iri rest = refl
   silence_said false iri rest = refl
 
   silent_said : (b : Bool) (a : Rule (List ℕ × Group)) (ts : List Token) (iri : List ℕ) (g : Group) → a.spells ts (iri, g) → (s : Option (Unit {0})) × (seq (opt (token k.Silent)) a).spells (said (silence b) ++ ts) (s, (iri, g)) × (b ≡ has_some s)
-  silent_said true a ts iri g h = (Some tt, (token_of.Plain k.Silent ∷ [], ts, refl, mark_said k.Silent, h), refl)
+  silent_said true a ts iri g h = (Some tt, (symbol.Plain k.Silent ∷ [], ts, refl, mark_said k.Silent, h), refl)
   silent_said false a ts iri g h = (None, ([], ts, refl, refl, h), refl)
 
   service_so : (silent : Bool) (iri : List ℕ) (g : ProvedGroup) → Other (element_step (Element-F.Service silent iri (group_words g.0))) (hold_element (Element-F.Service silent iri (held g.0))) (element.Service silent iri g.0)
   unfolding grammar.other grammar.service grammar.service_name
   service_so silent iri g =
-      let name : List Token = said (silence silent) ++ token_of.Iri iri ∷ [] in
-      let tokens : said (silence silent ++ (term (Iri iri) ∷ group_words g.0)) ≡ said (silence silent) ++ (token_of.Iri iri ∷ said (group_words g.0)) = said_both (silence silent) (term (Iri iri) ∷ group_words g.0) in
-      let whole : said (silence silent ++ (term (Iri iri) ∷ group_words g.0)) ≡ name ++ (token_of.Plain k.LeftBrace ∷ (said g.1.within ++ token_of.Plain k.RightBrace ∷ [])) =
+      let name : List Token = said (silence silent) ++ symbol.Iri iri ∷ [] in
+      let tokens : said (silence silent ++ (term (Iri iri) ∷ group_words g.0)) ≡ said (silence silent) ++ (symbol.Iri iri ∷ said (group_words g.0)) = said_both (silence silent) (term (Iri iri) ∷ group_words g.0) in
+      let whole : said (silence silent ++ (term (Iri iri) ∷ group_words g.0)) ≡ name ++ (symbol.Plain k.LeftBrace ∷ (said g.1.within ++ symbol.Plain k.RightBrace ∷ [])) =
       tokens ∙ silence_said silent iri (said (group_words g.0)) ∙ ap (λ (v : List Token). name ++ v) (group_tokens (group_words g.0) (held g.0) g.0 g.1) in
       record {
         passes = λ o.
             let t = and_parts (held g.0).good (not (held g.0).serves) o in
             let p : Passes false g.1.depth (said g.1.within) = subst (λ (b : Bool). Passes b g.1.depth (said g.1.within)) (not-true (held g.0).serves t.1) (g.1.passes t.0) in
-            subst (λ (v : List Token). Passes true (held g.0).nest (token_of.Plain k.Service ∷ v)) (sym whole)
-            (subst (λ (n : ℕ). Passes true n (token_of.Plain k.Service ∷ (name ++ (token_of.Plain k.LeftBrace ∷ (said g.1.within ++ token_of.Plain k.RightBrace ∷ []))))) (sym g.1.nest) (passes_service name g.1.depth (said g.1.within) (calm_silence silent iri) p));
+            subst (λ (v : List Token). Passes true (held g.0).nest (symbol.Plain k.Service ∷ v)) (sym whole)
+            (subst (λ (n : ℕ). Passes true n (symbol.Plain k.Service ∷ (name ++ (symbol.Plain k.LeftBrace ∷ (said g.1.within ++ symbol.Plain k.RightBrace ∷ []))))) (sym g.1.nest) (passes_service name g.1.depth (said g.1.within) (calm_silence silent iri) p));
         names = g.1.names ∙ sym (ap mentions (sym (element.rolls-Service silent iri g.0)) ∙ fold-roll-Element (List (List ℕ)) (List (List ℕ)) element_names group_names (Element-F.Service silent iri g.0));
         spelled = λ o f n h b names u.
             let t = and_parts (held g.0).good (not (held g.0).serves) o in
             let w = fine_split (silence silent) (term (Iri iri) ∷ group_words g.0) f.1 in
             let part = seq (grammar.service_name ps) (grammar.group ps n) in
-            let inside : part.spells (token_of.Iri iri ∷ said (group_words g.0)) (iri, g.0) = (token_of.Iri iri ∷ [], said (group_words g.0), refl, inl (iri_said ps iri), g.1.spelled t.0 w.1.1 n h (omega (arith, b))) in
-            let s = silent_said silent part (token_of.Iri iri ∷ said (group_words g.0)) iri g.0 inside in
+            let inside : part.spells (symbol.Iri iri ∷ said (group_words g.0)) (iri, g.0) = (symbol.Iri iri ∷ [], said (group_words g.0), refl, inl (iri_said ps iri), g.1.spelled t.0 w.1.1 n h (omega (arith, b))) in
+            let s = silent_said silent part (symbol.Iri iri ∷ said (group_words g.0)) iri g.0 inside in
             inr (inr (inr (inl (
               (s.0, (iri, g.0)),
               after_said k.Service (seq (opt (token k.Silent)) part) (said (silence silent ++ (term (Iri iri) ∷ group_words g.0))) (s.0, (iri, g.0))
@@ -250,7 +250,7 @@ module _ (ps : Prefixes) where
     passes = λ o.
         let t = and_parts (is_some (map held (groups gs))) (all_held (map held (groups gs))) o in
         subst (Passes (any_serves (map held (groups gs))) (most_held (map held (groups gs)))) (sym (separated_said (codes "UNION") (group_texts gs)))
-        (pass_separated (any_serves (map held (groups gs))) (most_held (map held (groups gs))) (token_of.Plain k.Union) (map said (group_texts gs)) refl (groups_pass (any_serves (map held (groups gs))) gs (most_held (map held (groups gs))) t.1 (λ e. e) (omega arith)));
+        (pass_separated (any_serves (map held (groups gs))) (most_held (map held (groups gs))) (symbol.Plain k.Union) (map said (group_texts gs)) refl (groups_pass (any_serves (map held (groups gs))) gs (most_held (map held (groups gs))) t.1 (λ e. e) (omega arith)));
     names = groups_named gs ∙ sym (ap mentions (sym (element.rolls-Union (groups gs))) ∙ fold-roll-Element (List (List ℕ)) (List (List ℕ)) element_names group_names (Element-F.Union (groups gs)));
     spelled = λ o f n h b names u.
         let t = and_parts (is_some (map held (groups gs))) (all_held (map held (groups gs))) o in
@@ -406,11 +406,11 @@ module _ (ps : Prefixes) where
   unfolding grammar.inside
   inside_said n es s = ((map element.Triple s.first, s.rest), (run s.first, s.back, s.tokens, first_said s.first s.triples, s.items), ap (λ (v : List Element). roll-Group (record { elements = v })) s.same)
 
-  braced_said : (n : ℕ) → n ≤ 64 → (es : List ProvedElement) → all_held (helds es) ≡ true → are_fresh [] (helds es) ≡ true → AreFine (words_of es) → suc (most_held (helds es)) ≤ n → (grammar.group ps n).spells (token_of.Plain k.LeftBrace ∷ (said (words_of es) ++ token_of.Plain k.RightBrace ∷ [])) (roll-Group (record { elements = elements es }))
+  braced_said : (n : ℕ) → n ≤ 64 → (es : List ProvedElement) → all_held (helds es) ≡ true → are_fresh [] (helds es) ≡ true → AreFine (words_of es) → suc (most_held (helds es)) ≤ n → (grammar.group ps n).spells (symbol.Plain k.LeftBrace ∷ (said (words_of es) ++ symbol.Plain k.RightBrace ∷ [])) (roll-Group (record { elements = elements es }))
   unfolding grammar.group grammar.braced
   braced_said zero b es o u f h = absurd (omega (arith, h))
   braced_said (suc n) b es o u f h =
-      nested_said (grammar.braced ps) n (token_of.Plain k.LeftBrace ∷ (said (words_of es) ++ token_of.Plain k.RightBrace ∷ [])) (roll-Group (record { elements = elements es }))
+      nested_said (grammar.braced ps) n (symbol.Plain k.LeftBrace ∷ (said (words_of es) ++ symbol.Plain k.RightBrace ∷ [])) (roll-Group (record { elements = elements es }))
       (braces_said (grammar.inside ps (nested (grammar.braced ps) n)) (said (words_of es)) (roll-Group (record { elements = elements es })) (inside_said n es (split [] n (omega (arith, b)) es o u f (omega (arith, h)))))
 
   group_so : (es : List ProvedElement) → OfGroup (fixed (codes "{") ∷ (words_of es ++ fixed (codes "}") ∷ [])) (hold_group (record { elements = helds es })) (roll-Group (record { elements = elements es }))
@@ -424,7 +424,7 @@ module _ (ps : Prefixes) where
     spelled = λ o f n h b.
         let t = and_parts (all_held (helds es)) (are_fresh [] (helds es)) o in
         let v = fine_split (words_of es) (fixed (codes "}") ∷ []) f.1 in
-        subst (λ (v : List Token). (grammar.group ps n).spells v (roll-Group (record { elements = elements es }))) (sym (ap (λ (v : List Token). token_of.Plain k.LeftBrace ∷ v) (said_both (words_of es) (fixed (codes "}") ∷ []))))
+        subst (λ (v : List Token). (grammar.group ps n).spells v (roll-Group (record { elements = elements es }))) (sym (ap (λ (v : List Token). symbol.Plain k.LeftBrace ∷ v) (said_both (words_of es) (fixed (codes "}") ∷ []))))
         (braced_said n b es t.0 t.1 v.0 h);
   }
 

@@ -19,7 +19,7 @@ use Rattle.fx_algebra.specs.Measures.{measured}
 use Rattle.fx_spelling.specs.Printable.{AreFine, said, held, block_nest, key_nest, most_keys, all_keys, inline_nest, is_inline, brackets, IsForm, IsPrintable, PrintedIsAccepted}
 use Rattle.fx_grammar.specs.declared.kinds.Kind.TheVariants as k
 use Rattle.fx_grammar.specs.declared.kinds.Token.{Token}
-use Rattle.fx_grammar.specs.declared.kinds.Token.TheVariants as token_of
+use Rattle.fx_grammar.specs.declared.kinds.Token.TheVariants as symbol
 use Rattle.fx_grammar.specs.declared.parts.Head.{Head}
 use Rattle.fx_grammar.specs.declared.parts.Head.TheVariants as head
 use Rattle.fx_grammar.specs.declared.parts.Limits.{Limits}
@@ -41,23 +41,23 @@ head_of (form.Select distinct columns) = head.Select distinct (named columns)
 head_of form.Ask = head.Ask
 
 abbrev head_tokens : Form → List Token
-head_tokens (form.Select distinct columns) = token_of.Plain k.Select ∷ (said (distinction distinct) ++ said (column_words columns))
-head_tokens form.Ask = token_of.Plain k.Ask ∷ []
+head_tokens (form.Select distinct columns) = symbol.Plain k.Select ∷ (said (distinction distinct) ++ said (column_words columns))
+head_tokens form.Ask = symbol.Plain k.Ask ∷ []
 
-form_said : (f : Form) → said (form_words f) ≡ head_tokens f ++ token_of.Plain k.Where ∷ []
+form_said : (f : Form) → said (form_words f) ≡ head_tokens f ++ symbol.Plain k.Where ∷ []
 unfolding form_words
 form_said (form.Select distinct columns) =
-    ap (λ (v : List Token). token_of.Plain k.Select ∷ v)
+    ap (λ (v : List Token). symbol.Plain k.Select ∷ v)
     (said_both (distinction distinct) (column_words columns ++ fixed (codes "WHERE") ∷ []) ∙ ap (λ (v : List Token). said (distinction distinct) ++ v) (said_both (column_words columns) (fixed (codes "WHERE") ∷ []))
-    ∙ sym (append_assoc (said (distinction distinct)) (said (column_words columns)) (token_of.Plain k.Where ∷ [])))
+    ∙ sym (append_assoc (said (distinction distinct)) (said (column_words columns)) (symbol.Plain k.Where ∷ [])))
 form_said form.Ask = refl
 
-select_said : (distinct : Bool) (columns : List (List ℕ)) → grammar.select_head.spells (token_of.Plain k.Select ∷ (said (distinction distinct) ++ said (column_words columns))) (head.Select distinct (named columns))
+select_said : (distinct : Bool) (columns : List (List ℕ)) → grammar.select_head.spells (symbol.Plain k.Select ∷ (said (distinction distinct) ++ said (column_words columns))) (head.Select distinct (named columns))
 unfolding grammar.select_head grammar.distinct
 select_said true columns = (
   (Some true, named columns),
-  after_said k.Select (seq grammar.distinct grammar.selected) (token_of.Plain k.Distinct ∷ said (column_words columns)) (Some true, named columns)
-      (token_of.Plain k.Distinct ∷ [], said (column_words columns), refl, inl (tt, mark_said k.Distinct, refl), selected_said columns),
+  after_said k.Select (seq grammar.distinct grammar.selected) (symbol.Plain k.Distinct ∷ said (column_words columns)) (Some true, named columns)
+      (symbol.Plain k.Distinct ∷ [], said (column_words columns), refl, inl (tt, mark_said k.Distinct, refl), selected_said columns),
   refl,
 )
 select_said false columns =
@@ -88,36 +88,36 @@ record Limited (limit : Option ℕ) (offset : ℕ) (tokens : List Token) : Type 
   limit_is : limit ≡ (grammar.limits_or value).limit
   offset_is : offset ≡ grammar.offset_or (grammar.limits_or value).offset
 
-number_one : (n : ℕ) → n < 2 ^ 64 → grammar.number.spells (token_of.Integer (decimal n) ∷ []) n
+number_one : (n : ℕ) → n < 2 ^ 64 → grammar.number.spells (symbol.Integer (decimal n) ∷ []) n
 unfolding grammar.number
-number_one n h = (token_of.Integer (decimal n), refl, refl, number_said n h)
+number_one n h = (symbol.Integer (decimal n), refl, refl, number_said n h)
 
-limit_one : (n : ℕ) → n < 2 ^ 64 → grammar.limit.spells (token_of.Plain k.Limit ∷ token_of.Integer (decimal n) ∷ []) n
+limit_one : (n : ℕ) → n < 2 ^ 64 → grammar.limit.spells (symbol.Plain k.Limit ∷ symbol.Integer (decimal n) ∷ []) n
 unfolding grammar.limit
-limit_one n h = after_said k.Limit grammar.number (token_of.Integer (decimal n) ∷ []) n (number_one n h)
+limit_one n h = after_said k.Limit grammar.number (symbol.Integer (decimal n) ∷ []) n (number_one n h)
 
-offset_one : (n : ℕ) → n < 2 ^ 64 → grammar.offset.spells (token_of.Plain k.Offset ∷ token_of.Integer (decimal n) ∷ []) n
+offset_one : (n : ℕ) → n < 2 ^ 64 → grammar.offset.spells (symbol.Plain k.Offset ∷ symbol.Integer (decimal n) ∷ []) n
 unfolding grammar.offset
-offset_one n h = after_said k.Offset grammar.number (token_of.Integer (decimal n) ∷ []) n (number_one n h)
+offset_one n h = after_said k.Offset grammar.number (symbol.Integer (decimal n) ∷ []) n (number_one n h)
 
 limits_said : (limit : Option ℕ) (offset : ℕ) (b : Bool) → (offset == 0) ≡ b → AreFine (limit_words limit) → AreFine (cond b [] (fixed (codes "OFFSET") ∷ number offset ∷ [])) → Limited limit offset (said (limit_words limit) ++ said (cond b [] (fixed (codes "OFFSET") ∷ number offset ∷ [])))
 unfolding grammar.limits
 limits_said None offset true e f g = record { value = None; spelled = refl; limit_is = refl; offset_is = eqb-true offset 0 e }
 limits_said None offset false e f g = record {
   value = Some (grammar.limits_of None (Some offset));
-  spelled = inr ((offset, None), (token_of.Plain k.Offset ∷ token_of.Integer (decimal offset) ∷ [], [], refl, offset_one offset g.1.0, refl), refl);
+  spelled = inr ((offset, None), (symbol.Plain k.Offset ∷ symbol.Integer (decimal offset) ∷ [], [], refl, offset_one offset g.1.0, refl), refl);
   limit_is = refl;
   offset_is = refl;
 }
 limits_said (Some limit) offset true e f g = record {
   value = Some (grammar.limits_of (Some limit) None);
-  spelled = inl ((limit, None), (token_of.Plain k.Limit ∷ token_of.Integer (decimal limit) ∷ [], [], refl, limit_one limit f.1.0, refl), refl);
+  spelled = inl ((limit, None), (symbol.Plain k.Limit ∷ symbol.Integer (decimal limit) ∷ [], [], refl, limit_one limit f.1.0, refl), refl);
   limit_is = refl;
   offset_is = eqb-true offset 0 e;
 }
 limits_said (Some limit) offset false e f g = record {
   value = Some (grammar.limits_of (Some limit) (Some offset));
-  spelled = inl ((limit, Some offset), (token_of.Plain k.Limit ∷ token_of.Integer (decimal limit) ∷ [], token_of.Plain k.Offset ∷ token_of.Integer (decimal offset) ∷ [], refl, limit_one limit f.1.0, offset_one offset g.1.0), refl);
+  spelled = inl ((limit, Some offset), (symbol.Plain k.Limit ∷ symbol.Integer (decimal limit) ∷ [], symbol.Plain k.Offset ∷ symbol.Integer (decimal offset) ∷ [], refl, limit_one limit f.1.0, offset_one offset g.1.0), refl);
   limit_is = refl;
   offset_is = refl;
 }
@@ -145,10 +145,10 @@ pass_brackets : (n : ℕ) (words : List Word) → Passes false n (said words) �
 pass_brackets n words p = subst (Passes false (suc n)) (sym (said_brackets words)) (passes_parens false n (said words) p)
 
 key_passes_at : (descending call name : Bool) (p : Printed) (n : ℕ) → Passes false n (said p.words) → Passes false (nest_at descending call name n) (said (key_at descending call name p))
-key_passes_at true call name p n h = passes_behind false (suc n) (token_of.Plain k.Desc) (said (in_brackets p.words)) refl (pass_brackets n p.words h)
+key_passes_at true call name p n h = passes_behind false (suc n) (symbol.Plain k.Desc) (said (in_brackets p.words)) refl (pass_brackets n p.words h)
 key_passes_at false true name p n h = h
 key_passes_at false false true p n h = h
-key_passes_at false false false p n h = passes_behind false (suc n) (token_of.Plain k.Asc) (said (in_brackets p.words)) refl (pass_brackets n p.words h)
+key_passes_at false false false p n h = passes_behind false (suc n) (symbol.Plain k.Asc) (said (in_brackets p.words)) refl (pass_brackets n p.words h)
 
 key_nest_is : (key : Order) → key_nest key ≡ nest_at key.descending (is_call (printed key.expr).level) (is_variable (printed key.expr).level) (measured key.expr).nest
 key_nest_is key = ap (λ (l : Level). nest_at key.descending (is_call l) (is_variable l) (measured key.expr).nest) (sym (law [] key.expr).level)
@@ -175,7 +175,7 @@ key_said_at key true call name d c v g f h =
 key_said_at key false true name d c v g f h = inr (inr (inr (key.expr, inr (inl ((law [] key.expr).calls c g f 64 h)), ordered_as key false d)))
 key_said_at key false false true d c v g f h =
     let n = (law [] key.expr).is_name (ap is_variable (sym (law [] key.expr).level) ∙ v) in
-    inr (inr (inl (n.0, subst (λ (w : List Word). grammar.variable.spells (said w) n.0) (sym n.2) (token_of.Variable n.0, refl, refl, refl), ordered_as key false d ∙ ap (grammar.ordered false) n.1)))
+    inr (inr (inl (n.0, subst (λ (w : List Word). grammar.variable.spells (said w) n.0) (sym n.2) (symbol.Variable n.0, refl, refl, refl), ordered_as key false d ∙ ap (grammar.ordered false) n.1)))
 key_said_at key false false false d c v g f h = inl (key.expr, after_said k.Asc (grammar.parens (grammar.whole_expression [])) (said (in_brackets (printed key.expr).words)) key.expr (in_parens key.expr g f.1 h), ordered_as key false d)
 
 key_said : (key : Order) → (measured key.expr).good ≡ true → AreFine (key_words key) → key_nest key ≤ 64 → (grammar.condition []).spells (said (key_words key)) key
@@ -203,12 +203,12 @@ order_said (key ∷ keys) g f h =
     let u = fine_split (key_words key) (flat_map key_words keys) f.1.1 in
     let some_said : (some (grammar.condition [])).spells (said (flat_map key_words (key ∷ keys))) (key ∷ keys) =
     ((key, keys), (said (key_words key), said (flat_map key_words keys), said_both (key_words key) (flat_map key_words keys), key_said key t.0 u.0 (omega (arith, h)), keys_said keys t.1 u.1 (omega (arith, h))), refl) in
-    (Some (key ∷ keys), inl (after_said k.Order (after (token k.By) (some (grammar.condition []))) (token_of.Plain k.By ∷ said (flat_map key_words (key ∷ keys))) (key ∷ keys) (after_said k.By (some (grammar.condition [])) (said (flat_map key_words (key ∷ keys))) (key ∷ keys) some_said)), refl)
+    (Some (key ∷ keys), inl (after_said k.Order (after (token k.By) (some (grammar.condition []))) (symbol.Plain k.By ∷ said (flat_map key_words (key ∷ keys))) (key ∷ keys) (after_said k.By (some (grammar.condition [])) (said (flat_map key_words (key ∷ keys))) (key ∷ keys) some_said)), refl)
 
 order_passes : (keys : List Order) (n : ℕ) → most_keys keys ≤ n → Passes false n (said (order_words keys))
 unfolding order_words
 order_passes [] n h = passes_none false n
-order_passes (key ∷ keys) n h = passes_behind false n (token_of.Plain k.Order) (token_of.Plain k.By ∷ said (flat_map key_words (key ∷ keys))) refl (passes_behind false n (token_of.Plain k.By) (said (flat_map key_words (key ∷ keys))) refl (keys_pass (key ∷ keys) n h))
+order_passes (key ∷ keys) n h = passes_behind false n (symbol.Plain k.Order) (symbol.Plain k.By ∷ said (flat_map key_words (key ∷ keys))) refl (passes_behind false n (symbol.Plain k.By) (said (flat_map key_words (key ∷ keys))) refl (keys_pass (key ∷ keys) n h))
 
 -- ---- VALUES behind the query
 
@@ -218,7 +218,7 @@ inline_said (Some inline) g f = after_said k.Values (grammar.block []) (said (bl
 
 inline_passes : (inline : Option Inline) → Passes false (inline_nest inline) (said (trailing_words inline))
 inline_passes None = passes_none false 0
-inline_passes (Some inline) = passes_behind false (block_nest inline) (token_of.Plain k.Values) (said (block inline)) refl (block_passes false inline)
+inline_passes (Some inline) = passes_behind false (block_nest inline) (symbol.Plain k.Values) (said (block inline)) refl (block_passes false inline)
 
 -- ---- the query
 
@@ -257,7 +257,7 @@ module _ (q : Query) (h : IsPrintable q) (b : brackets q ≤ 64) where
       let group : Passes true 64 (said (group_words q.group)) = passes_less true (held q.group).nest 64 (said (group_words q.group)) (omega (arith, b)) (serve_more (held q.group).serves true (held q.group).nest (said (group_words q.group)) (λ e. refl) (group_passes [] (group_words q.group) (held q.group) q.group (group_law [] q.group) h.group)) in
       let order : Passes true 64 (said (order_words q.order)) = passes_served true 64 (said (order_words q.order)) (order_passes q.order 64 (omega (arith, b))) in
       let inline : Passes true 64 (said (trailing_words q.inline)) = passes_served true 64 (said (trailing_words q.inline)) (passes_less false (inline_nest q.inline) 64 (said (trailing_words q.inline)) (omega (arith, b)) (inline_passes q.inline)) in
-      let front : Passes true 64 (said (form_words q.form)) = subst (Passes true 64) (sym (form_said q.form)) (calm_passes (head_tokens q.form ++ token_of.Plain k.Where ∷ []) (calm_both (head_tokens q.form) (token_of.Plain k.Where ∷ []) (calm_head q.form) refl)) in
+      let front : Passes true 64 (said (form_words q.form)) = subst (Passes true 64) (sym (form_said q.form)) (calm_passes (head_tokens q.form ++ symbol.Plain k.Where ∷ []) (calm_both (head_tokens q.form) (symbol.Plain k.Where ∷ []) (calm_head q.form) refl)) in
       subst (Passes true 64) (sym parts_of)
       (passes_both true 64 (said (form_words q.form)) (said (group_words q.group) ++ (said (order_words q.order) ++ (said (limit_words q.limit) ++ (said (offset_words q.offset) ++ said (trailing_words q.inline))))) front
       (passes_both true 64 (said (group_words q.group)) (said (order_words q.order) ++ (said (limit_words q.limit) ++ (said (offset_words q.offset) ++ said (trailing_words q.inline)))) group
@@ -268,9 +268,9 @@ module _ (q : Query) (h : IsPrintable q) (b : brackets q ≤ 64) where
   limited : Limited q.limit q.offset (said (limit_words q.limit) ++ said (offset_words q.offset))
   limited = limits_said q.limit q.offset (q.offset == 0) refl fine.limit fine.offset
 
-  where_said : (grammar.where_group []).spells (token_of.Plain k.Where ∷ said (group_words q.group)) q.group
+  where_said : (grammar.where_group []).spells (symbol.Plain k.Where ∷ said (group_words q.group)) q.group
   unfolding grammar.where_group grammar.whole_group
-  where_said = ((Some tt, q.group), (token_of.Plain k.Where ∷ [], said (group_words q.group), refl, inl (mark_said k.Where), (group_law [] q.group).spelled h.group fine.group 64 (omega (arith, b)) (omega arith)), refl)
+  where_said = ((Some tt, q.group), (symbol.Plain k.Where ∷ [], said (group_words q.group), refl, inl (mark_said k.Where), (group_law [] q.group).spelled h.group fine.group 64 (omega (arith, b)) (omega arith)), refl)
 
   main_of : Main
   main_of = record { head = head_of q.form; group = q.group; modifiers = record { order = q.order; limits = grammar.limits_or limited.value } }
@@ -280,7 +280,7 @@ module _ (q : Query) (h : IsPrintable q) (b : brackets q ≤ 64) where
   modifiers_said = ((q.order, limited.value), (said (order_words q.order), said (limit_words q.limit) ++ said (offset_words q.offset), refl, order_said q.order h.order fine.order (omega (arith, b)), limited.spelled), refl)
 
   abbrev main_tokens : List Token
-  main_tokens = head_tokens q.form ++ ((token_of.Plain k.Where ∷ said (group_words q.group)) ++ (said (order_words q.order) ++ (said (limit_words q.limit) ++ said (offset_words q.offset))))
+  main_tokens = head_tokens q.form ++ ((symbol.Plain k.Where ∷ said (group_words q.group)) ++ (said (order_words q.order) ++ (said (limit_words q.limit) ++ said (offset_words q.offset))))
 
   main_said : (grammar.main []).spells main_tokens main_of
   unfolding grammar.main main_of
@@ -288,10 +288,10 @@ module _ (q : Query) (h : IsPrintable q) (b : brackets q ≤ 64) where
     (head_of q.form, (q.group, record { order = q.order; limits = grammar.limits_or limited.value })),
     (
       head_tokens q.form,
-      (token_of.Plain k.Where ∷ said (group_words q.group)) ++ (said (order_words q.order) ++ (said (limit_words q.limit) ++ said (offset_words q.offset))),
+      (symbol.Plain k.Where ∷ said (group_words q.group)) ++ (said (order_words q.order) ++ (said (limit_words q.limit) ++ said (offset_words q.offset))),
       refl,
       head_said q.form,
-      (token_of.Plain k.Where ∷ said (group_words q.group), said (order_words q.order) ++ (said (limit_words q.limit) ++ said (offset_words q.offset)), refl, where_said, modifiers_said),
+      (symbol.Plain k.Where ∷ said (group_words q.group), said (order_words q.order) ++ (said (limit_words q.limit) ++ said (offset_words q.offset)), refl, where_said, modifiers_said),
     ),
     refl,
   )

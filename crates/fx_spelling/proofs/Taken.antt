@@ -33,7 +33,7 @@ use Rattle.fx_grammar.specs.declared.kinds.Kind.TheVariants as k
 use Rattle.fx_grammar.specs.declared.refusals.SyntaxKind.{SyntaxKind}
 use Rattle.fx_grammar.specs.declared.refusals.SyntaxKind.TheVariants.{Unsupported, Unexpected, BadLiteral}
 use Rattle.fx_grammar.specs.declared.kinds.Token.{Token}
-use Rattle.fx_grammar.specs.declared.kinds.Token.TheVariants as token_of
+use Rattle.fx_grammar.specs.declared.kinds.Token.TheVariants as symbol
 use Rattle.fx_grammar.specs.declared.parts.Annotation.{Annotation}
 use Rattle.fx_grammar.specs.declared.parts.Annotation.TheVariants as annotation
 use Rattle.fx_grammar.specs.declared.parts.Relative.{Relative}
@@ -83,17 +83,17 @@ expanded_is None local x g u h = absurd (cc (h))
 expanded_is (Some iri) local x g u h = absolute_is (iri ++ local) x (read_iri (iri ++ local)) refl (IsUtf8-append iri local g u) h
 
 pub named_is : (ps : Prefixes) → GoodPrefixes ps → (t : Token) (x : List ℕ) → grammar.named_by ps t ≡ Ok x → GoodToken t → IsIri x
-named_is ps g (token_of.Iri iri) x h t = let same : iri ≡ x = cc (h) in subst IsIri same t
-named_is ps g (token_of.PrefixName prefix local) x h t = expanded_is (grammar.declared ps prefix) local x (declared_utf8 ps prefix g) t h
-named_is ps g (token_of.Plain a) x h t = absurd (cc (h))
-named_is ps g (token_of.Comparison a) x h t = absurd (cc (h))
-named_is ps g (token_of.One a) x h t = absurd (cc (h))
-named_is ps g (token_of.Two a) x h t = absurd (cc (h))
-named_is ps g (token_of.Variable a) x h t = absurd (cc (h))
-named_is ps g (token_of.Tag a) x h t = absurd (cc (h))
-named_is ps g (token_of.Integer a) x h t = absurd (cc (h))
-named_is ps g (token_of.Signed a) x h t = absurd (cc (h))
-named_is ps g (token_of.Text a) x h t = absurd (cc (h))
+named_is ps g (symbol.Iri iri) x h t = let same : iri ≡ x = cc (h) in subst IsIri same t
+named_is ps g (symbol.PrefixName prefix local) x h t = expanded_is (grammar.declared ps prefix) local x (declared_utf8 ps prefix g) t h
+named_is ps g (symbol.Plain a) x h t = absurd (cc (h))
+named_is ps g (symbol.Comparison a) x h t = absurd (cc (h))
+named_is ps g (symbol.One a) x h t = absurd (cc (h))
+named_is ps g (symbol.Two a) x h t = absurd (cc (h))
+named_is ps g (symbol.Variable a) x h t = absurd (cc (h))
+named_is ps g (symbol.Tag a) x h t = absurd (cc (h))
+named_is ps g (symbol.Integer a) x h t = absurd (cc (h))
+named_is ps g (symbol.Signed a) x h t = absurd (cc (h))
+named_is ps g (symbol.Text a) x h t = absurd (cc (h))
 
 known_iri : (text : List ℕ) → list_all is_ascii text ≡ true → read_iri text ≡ Ok text → IsIri text
 known_iri text a h = record { utf8 = IsUtf8-from_ascii text (ascii_of text a); iri = h }
@@ -118,10 +118,10 @@ type_iri = known_iri grammar.rdf_type refl refl
 plain_literal : (text : List ℕ) → IsUtf8 text → IsLiteral (plain text)
 plain_literal text u = record { form = u; datatype = string_iri; fits = refl; tag = λ h. absurd (omega (arith, h)) }
 
-typed_literal : (text datatype : List ℕ) → IsUtf8 text → IsIri datatype → bytes_eq datatype lang_string ≡ false → IsLiteral (grammar.typed text datatype)
+typed_literal : (text datatype : List ℕ) → IsUtf8 text → IsIri datatype → bytes_eq datatype lang_string ≡ false → IsLiteral (grammar.typed_parts text datatype)
 typed_literal text datatype u i n = record { form = u; datatype = i; fits = sym (ap not n); tag = λ h. absurd (omega (arith, h)) }
 
-tagged_literal : (text tag : List ℕ) → IsUtf8 text → is_tag tag ≡ true → IsLiteral (grammar.tagged text tag)
+tagged_literal : (text tag : List ℕ) → IsUtf8 text → is_tag tag ≡ true → IsLiteral (grammar.tagged_parts text tag)
 tagged_literal text tag u h = record {
   form = u;
   datatype = lang_iri;
@@ -145,39 +145,39 @@ annotated_is b text (Some (annotation.Tag tag)) u h = tagged_literal text tag u 
 annotated_is b text (Some (annotation.Datatype iri)) u h = typed_literal text iri u h.0 h.1
 
 text_is : (t : Token) (x : List ℕ) → grammar.text_of t ≡ Ok x → GoodToken t → IsUtf8 x
-text_is (token_of.Text text) x h t = let same : text ≡ x = cc (h) in subst IsUtf8 same t
-text_is (token_of.Plain a) x h t = absurd (cc (h))
-text_is (token_of.Comparison a) x h t = absurd (cc (h))
-text_is (token_of.One a) x h t = absurd (cc (h))
-text_is (token_of.Two a) x h t = absurd (cc (h))
-text_is (token_of.Variable a) x h t = absurd (cc (h))
-text_is (token_of.Iri a) x h t = absurd (cc (h))
-text_is (token_of.PrefixName a b) x h t = absurd (cc (h))
-text_is (token_of.Tag a) x h t = absurd (cc (h))
-text_is (token_of.Integer a) x h t = absurd (cc (h))
-text_is (token_of.Signed a) x h t = absurd (cc (h))
+text_is (symbol.Text text) x h t = let same : text ≡ x = cc (h) in subst IsUtf8 same t
+text_is (symbol.Plain a) x h t = absurd (cc (h))
+text_is (symbol.Comparison a) x h t = absurd (cc (h))
+text_is (symbol.One a) x h t = absurd (cc (h))
+text_is (symbol.Two a) x h t = absurd (cc (h))
+text_is (symbol.Variable a) x h t = absurd (cc (h))
+text_is (symbol.Iri a) x h t = absurd (cc (h))
+text_is (symbol.PrefixName a b) x h t = absurd (cc (h))
+text_is (symbol.Tag a) x h t = absurd (cc (h))
+text_is (symbol.Integer a) x h t = absurd (cc (h))
+text_is (symbol.Signed a) x h t = absurd (cc (h))
 
 tag_at : (tag x : List ℕ) (b : Bool) → is_tag tag ≡ b → cond b (Ok tag) (Err Unexpected) ≡ Ok x → is_tag x ≡ true
 tag_at tag x true e h = let same : tag ≡ x = cc (h) in ap is_tag (sym same) ∙ e
 tag_at tag x false e h = absurd (cc (h))
 
 tag_is : (t : Token) (x : List ℕ) → grammar.tag_of t ≡ Ok x → is_tag x ≡ true
-tag_is (token_of.Tag tag) x h = tag_at tag x (is_tag tag) refl h
-tag_is (token_of.Text a) x h = absurd (cc (h))
-tag_is (token_of.Plain a) x h = absurd (cc (h))
-tag_is (token_of.Comparison a) x h = absurd (cc (h))
-tag_is (token_of.One a) x h = absurd (cc (h))
-tag_is (token_of.Two a) x h = absurd (cc (h))
-tag_is (token_of.Variable a) x h = absurd (cc (h))
-tag_is (token_of.Iri a) x h = absurd (cc (h))
-tag_is (token_of.PrefixName a b) x h = absurd (cc (h))
-tag_is (token_of.Integer a) x h = absurd (cc (h))
-tag_is (token_of.Signed a) x h = absurd (cc (h))
+tag_is (symbol.Tag tag) x h = tag_at tag x (is_tag tag) refl h
+tag_is (symbol.Text a) x h = absurd (cc (h))
+tag_is (symbol.Plain a) x h = absurd (cc (h))
+tag_is (symbol.Comparison a) x h = absurd (cc (h))
+tag_is (symbol.One a) x h = absurd (cc (h))
+tag_is (symbol.Two a) x h = absurd (cc (h))
+tag_is (symbol.Variable a) x h = absurd (cc (h))
+tag_is (symbol.Iri a) x h = absurd (cc (h))
+tag_is (symbol.PrefixName a b) x h = absurd (cc (h))
+tag_is (symbol.Integer a) x h = absurd (cc (h))
+tag_is (symbol.Signed a) x h = absurd (cc (h))
 
 integer_is : (digits : List ℕ) (x : Term) → grammar.integer digits ≡ x → IsUtf8 digits → IsTerm x
 integer_is digits x same u = subst IsTerm same (typed_literal digits grammar.xsd_integer u integer_iri refl)
 
-truth_is : (text : List ℕ) (x : Term) → IsUtf8 text → Literal (grammar.typed text grammar.xsd_boolean) ≡ x → IsTerm x
+truth_is : (text : List ℕ) (x : Term) → IsUtf8 text → Literal (grammar.typed_parts text grammar.xsd_boolean) ≡ x → IsTerm x
 truth_is text x u same = subst IsTerm same (typed_literal text grammar.xsd_boolean u boolean_iri refl)
 
 plain_is : (a : _) (x : Term) → grammar.plain_literal a ≡ Ok x → IsTerm x
@@ -186,17 +186,17 @@ plain_is k.False x h = truth_is (codes "false") x (IsUtf8-from_ascii (codes "fal
 plain_is _ x h = absurd (cc (h))
 
 value_is : (t : Token) (x : Term) → grammar.literal_of t ≡ Ok x → GoodToken t → IsTerm x
-value_is (token_of.Integer digits) x h t = integer_is digits x (cc (h)) t
-value_is (token_of.Signed digits) x h t = integer_is digits x (cc (h)) t
-value_is (token_of.Plain a) x h t = plain_is a x h
-value_is (token_of.Text a) x h t = absurd (cc (h))
-value_is (token_of.Comparison a) x h t = absurd (cc (h))
-value_is (token_of.One a) x h t = absurd (cc (h))
-value_is (token_of.Two a) x h t = absurd (cc (h))
-value_is (token_of.Variable a) x h t = absurd (cc (h))
-value_is (token_of.Iri a) x h t = absurd (cc (h))
-value_is (token_of.PrefixName a b) x h t = absurd (cc (h))
-value_is (token_of.Tag a) x h t = absurd (cc (h))
+value_is (symbol.Integer digits) x h t = integer_is digits x (cc (h)) t
+value_is (symbol.Signed digits) x h t = integer_is digits x (cc (h)) t
+value_is (symbol.Plain a) x h t = plain_is a x h
+value_is (symbol.Text a) x h t = absurd (cc (h))
+value_is (symbol.Comparison a) x h t = absurd (cc (h))
+value_is (symbol.One a) x h t = absurd (cc (h))
+value_is (symbol.Two a) x h t = absurd (cc (h))
+value_is (symbol.Variable a) x h t = absurd (cc (h))
+value_is (symbol.Iri a) x h t = absurd (cc (h))
+value_is (symbol.PrefixName a b) x h t = absurd (cc (h))
+value_is (symbol.Tag a) x h t = absurd (cc (h))
 
 pub of_literal : (d : Rule (List ℕ)) → Given OfDatatype d → Given OfTerm (grammar.literal d)
 unfolding grammar.literal grammar.text_suffix
@@ -322,17 +322,17 @@ good_call b f es t h =
 -- ---- the productions of expressions
 
 pub name_is : (t : Token) (x : List ℕ) → grammar.name_of t ≡ Ok x → GoodToken t → IsName x
-name_is (token_of.Variable name) x h t = let same : name ≡ x = cc (h) in subst IsName same t
-name_is (token_of.Plain a) x h t = absurd (cc (h))
-name_is (token_of.Comparison a) x h t = absurd (cc (h))
-name_is (token_of.One a) x h t = absurd (cc (h))
-name_is (token_of.Two a) x h t = absurd (cc (h))
-name_is (token_of.Text a) x h t = absurd (cc (h))
-name_is (token_of.Iri a) x h t = absurd (cc (h))
-name_is (token_of.PrefixName a b) x h t = absurd (cc (h))
-name_is (token_of.Tag a) x h t = absurd (cc (h))
-name_is (token_of.Integer a) x h t = absurd (cc (h))
-name_is (token_of.Signed a) x h t = absurd (cc (h))
+name_is (symbol.Variable name) x h t = let same : name ≡ x = cc (h) in subst IsName same t
+name_is (symbol.Plain a) x h t = absurd (cc (h))
+name_is (symbol.Comparison a) x h t = absurd (cc (h))
+name_is (symbol.One a) x h t = absurd (cc (h))
+name_is (symbol.Two a) x h t = absurd (cc (h))
+name_is (symbol.Text a) x h t = absurd (cc (h))
+name_is (symbol.Iri a) x h t = absurd (cc (h))
+name_is (symbol.PrefixName a b) x h t = absurd (cc (h))
+name_is (symbol.Tag a) x h t = absurd (cc (h))
+name_is (symbol.Integer a) x h t = absurd (cc (h))
+name_is (symbol.Signed a) x h t = absurd (cc (h))
 
 abbrev pub OfName : Bool → List ℕ → Type 0
 OfName b name = IsName name
@@ -345,43 +345,43 @@ unfolding grammar.variable
 of_variable = of_one (is k.Variable) grammar.name_of (apart_by (is k.Variable) is_turning refl) (λ b t x e g. name_is t x e g)
 
 one_is : (t : Token) (x : Function) → grammar.one_of t ≡ Ok x → GoodToken t → is_one_function x ≡ true
-one_is (token_of.One f) x h t = let same : f ≡ x = cc (h) in ap is_one_function (sym same) ∙ t
-one_is (token_of.Variable a) x h t = absurd (cc (h))
-one_is (token_of.Plain a) x h t = absurd (cc (h))
-one_is (token_of.Comparison a) x h t = absurd (cc (h))
-one_is (token_of.Two a) x h t = absurd (cc (h))
-one_is (token_of.Text a) x h t = absurd (cc (h))
-one_is (token_of.Iri a) x h t = absurd (cc (h))
-one_is (token_of.PrefixName a b) x h t = absurd (cc (h))
-one_is (token_of.Tag a) x h t = absurd (cc (h))
-one_is (token_of.Integer a) x h t = absurd (cc (h))
-one_is (token_of.Signed a) x h t = absurd (cc (h))
+one_is (symbol.One f) x h t = let same : f ≡ x = cc (h) in ap is_one_function (sym same) ∙ t
+one_is (symbol.Variable a) x h t = absurd (cc (h))
+one_is (symbol.Plain a) x h t = absurd (cc (h))
+one_is (symbol.Comparison a) x h t = absurd (cc (h))
+one_is (symbol.Two a) x h t = absurd (cc (h))
+one_is (symbol.Text a) x h t = absurd (cc (h))
+one_is (symbol.Iri a) x h t = absurd (cc (h))
+one_is (symbol.PrefixName a b) x h t = absurd (cc (h))
+one_is (symbol.Tag a) x h t = absurd (cc (h))
+one_is (symbol.Integer a) x h t = absurd (cc (h))
+one_is (symbol.Signed a) x h t = absurd (cc (h))
 
 two_is : (t : Token) (x : Function) → grammar.two_of t ≡ Ok x → GoodToken t → is_two_function x ≡ true
-two_is (token_of.Two f) x h t = let same : f ≡ x = cc (h) in ap is_two_function (sym same) ∙ t
-two_is (token_of.One a) x h t = absurd (cc (h))
-two_is (token_of.Variable a) x h t = absurd (cc (h))
-two_is (token_of.Plain a) x h t = absurd (cc (h))
-two_is (token_of.Comparison a) x h t = absurd (cc (h))
-two_is (token_of.Text a) x h t = absurd (cc (h))
-two_is (token_of.Iri a) x h t = absurd (cc (h))
-two_is (token_of.PrefixName a b) x h t = absurd (cc (h))
-two_is (token_of.Tag a) x h t = absurd (cc (h))
-two_is (token_of.Integer a) x h t = absurd (cc (h))
-two_is (token_of.Signed a) x h t = absurd (cc (h))
+two_is (symbol.Two f) x h t = let same : f ≡ x = cc (h) in ap is_two_function (sym same) ∙ t
+two_is (symbol.One a) x h t = absurd (cc (h))
+two_is (symbol.Variable a) x h t = absurd (cc (h))
+two_is (symbol.Plain a) x h t = absurd (cc (h))
+two_is (symbol.Comparison a) x h t = absurd (cc (h))
+two_is (symbol.Text a) x h t = absurd (cc (h))
+two_is (symbol.Iri a) x h t = absurd (cc (h))
+two_is (symbol.PrefixName a b) x h t = absurd (cc (h))
+two_is (symbol.Tag a) x h t = absurd (cc (h))
+two_is (symbol.Integer a) x h t = absurd (cc (h))
+two_is (symbol.Signed a) x h t = absurd (cc (h))
 
 signed_is : (t : Token) (x : Term) → grammar.signed_of t ≡ Ok x → GoodToken t → IsTerm x
-signed_is (token_of.Signed digits) x h t = integer_is digits x (cc (h)) t
-signed_is (token_of.Two f) x h t = absurd (cc (h))
-signed_is (token_of.One a) x h t = absurd (cc (h))
-signed_is (token_of.Variable a) x h t = absurd (cc (h))
-signed_is (token_of.Plain a) x h t = absurd (cc (h))
-signed_is (token_of.Comparison a) x h t = absurd (cc (h))
-signed_is (token_of.Text a) x h t = absurd (cc (h))
-signed_is (token_of.Iri a) x h t = absurd (cc (h))
-signed_is (token_of.PrefixName a b) x h t = absurd (cc (h))
-signed_is (token_of.Tag a) x h t = absurd (cc (h))
-signed_is (token_of.Integer a) x h t = absurd (cc (h))
+signed_is (symbol.Signed digits) x h t = integer_is digits x (cc (h)) t
+signed_is (symbol.Two f) x h t = absurd (cc (h))
+signed_is (symbol.One a) x h t = absurd (cc (h))
+signed_is (symbol.Variable a) x h t = absurd (cc (h))
+signed_is (symbol.Plain a) x h t = absurd (cc (h))
+signed_is (symbol.Comparison a) x h t = absurd (cc (h))
+signed_is (symbol.Text a) x h t = absurd (cc (h))
+signed_is (symbol.Iri a) x h t = absurd (cc (h))
+signed_is (symbol.PrefixName a b) x h t = absurd (cc (h))
+signed_is (symbol.Tag a) x h t = absurd (cc (h))
+signed_is (symbol.Integer a) x h t = absurd (cc (h))
 
 takes_one : (f : Function) (m : Measured) → is_one_function f ≡ true → takes f (m ∷ []) ≡ true
 takes_one function.Str m h = refl

@@ -154,7 +154,7 @@ module _ (ps : Prefixes) (good : GoodPrefixes ps) where
   of_graph_term =
       of_either (of_made Variable of_variable (λ b name h. h))
       (of_either (of_made grammar.iri_part (of_iri_name ps good) (λ b iri h. h))
-      (of_either (of_refusing BlankNode grammar.is_blank)
+      (of_either (of_refusing BlankNode grammar.begins_blank_node)
       (of_either (of_refusing Unsupported (is k.LeftParen))
       (of_made Constant (of_literal (grammar.datatype_in false ps) (of_datatype_in ps good false)) (λ b t h. h)))))
 

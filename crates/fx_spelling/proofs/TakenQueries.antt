@@ -21,7 +21,7 @@ use Rattle.fx_spelling.specs.Printable.{AreFine, AreNames, all_keys, is_inline, 
 use Rattle.fx_grammar.specs.declared.kinds.Kind.TheVariants as k
 use Rattle.fx_grammar.specs.declared.refusals.SyntaxKind.TheVariants.{Unsupported}
 use Rattle.fx_grammar.specs.declared.kinds.Token.{Token}
-use Rattle.fx_grammar.specs.declared.kinds.Token.TheVariants as token_of
+use Rattle.fx_grammar.specs.declared.kinds.Token.TheVariants as symbol
 use Rattle.fx_grammar.specs.declared.parts.Head.{Head}
 use Rattle.fx_grammar.specs.declared.parts.Head.TheVariants as head
 use Rattle.fx_grammar.specs.declared.parts.Limits.{Limits}
@@ -43,17 +43,17 @@ abbrev OfPrefix : Bool → List ℕ × List ℕ → Type 0
 OfPrefix b p = IsUtf8 p.1
 
 iri_is : (t : Token) (x : List ℕ) → grammar.iri_of t ≡ Ok x → GoodToken t → IsUtf8 x
-iri_is (token_of.Iri iri) x h t = let same : iri ≡ x = cc (h) in subst IsUtf8 same t.utf8
-iri_is (token_of.Text text) x h t = absurd (cc (h))
-iri_is (token_of.Plain a) x h t = absurd (cc (h))
-iri_is (token_of.Comparison a) x h t = absurd (cc (h))
-iri_is (token_of.One a) x h t = absurd (cc (h))
-iri_is (token_of.Two a) x h t = absurd (cc (h))
-iri_is (token_of.Variable a) x h t = absurd (cc (h))
-iri_is (token_of.PrefixName a b) x h t = absurd (cc (h))
-iri_is (token_of.Tag a) x h t = absurd (cc (h))
-iri_is (token_of.Integer a) x h t = absurd (cc (h))
-iri_is (token_of.Signed a) x h t = absurd (cc (h))
+iri_is (symbol.Iri iri) x h t = let same : iri ≡ x = cc (h) in subst IsUtf8 same t.utf8
+iri_is (symbol.Text text) x h t = absurd (cc (h))
+iri_is (symbol.Plain a) x h t = absurd (cc (h))
+iri_is (symbol.Comparison a) x h t = absurd (cc (h))
+iri_is (symbol.One a) x h t = absurd (cc (h))
+iri_is (symbol.Two a) x h t = absurd (cc (h))
+iri_is (symbol.Variable a) x h t = absurd (cc (h))
+iri_is (symbol.PrefixName a b) x h t = absurd (cc (h))
+iri_is (symbol.Tag a) x h t = absurd (cc (h))
+iri_is (symbol.Integer a) x h t = absurd (cc (h))
+iri_is (symbol.Signed a) x h t = absurd (cc (h))
 
 of_prefix : Given OfPrefix grammar.prefix
 unfolding grammar.prefix
@@ -104,17 +104,17 @@ within_is digits x h = go (nat_le (grammar.number_from 0 digits) 184467440737095
     go false e h = absurd (cc (h))
 
 number_is : (t : Token) (x : ℕ) → grammar.number_of t ≡ Ok x → x < 2 ^ 64
-number_is (token_of.Integer digits) x h = within_is digits x h
-number_is (token_of.Iri iri) x h = absurd (cc (h))
-number_is (token_of.Text text) x h = absurd (cc (h))
-number_is (token_of.Plain a) x h = absurd (cc (h))
-number_is (token_of.Comparison a) x h = absurd (cc (h))
-number_is (token_of.One a) x h = absurd (cc (h))
-number_is (token_of.Two a) x h = absurd (cc (h))
-number_is (token_of.Variable a) x h = absurd (cc (h))
-number_is (token_of.PrefixName a b) x h = absurd (cc (h))
-number_is (token_of.Tag a) x h = absurd (cc (h))
-number_is (token_of.Signed a) x h = absurd (cc (h))
+number_is (symbol.Integer digits) x h = within_is digits x h
+number_is (symbol.Iri iri) x h = absurd (cc (h))
+number_is (symbol.Text text) x h = absurd (cc (h))
+number_is (symbol.Plain a) x h = absurd (cc (h))
+number_is (symbol.Comparison a) x h = absurd (cc (h))
+number_is (symbol.One a) x h = absurd (cc (h))
+number_is (symbol.Two a) x h = absurd (cc (h))
+number_is (symbol.Variable a) x h = absurd (cc (h))
+number_is (symbol.PrefixName a b) x h = absurd (cc (h))
+number_is (symbol.Tag a) x h = absurd (cc (h))
+number_is (symbol.Signed a) x h = absurd (cc (h))
 
 of_number : Given OfNumber grammar.number
 unfolding grammar.number

@@ -20,7 +20,7 @@ use Rattle.fx_grammar.specs.Grammar.{Prefixes, iri_name, datatype, datatype_in, 
 use Rattle.fx_spelling.specs.Printable.{IsFine, AreFine, word_tokens, term_tokens, suffix_tokens, said, IsPart, IsVerb, IsTriple, AreTriples, is_verb}
 use Rattle.fx_grammar.specs.declared.kinds.Kind.TheVariants as k
 use Rattle.fx_grammar.specs.declared.kinds.Token.{Token}
-use Rattle.fx_grammar.specs.declared.kinds.Token.TheVariants as token_of
+use Rattle.fx_grammar.specs.declared.kinds.Token.TheVariants as symbol
 use Rattle.fx_grammar.specs.declared.parts.Annotation.TheVariants as annotation
 use Rattle.fx_spelling.proofs.Placing.{is_calm, calm_both}
 use Rattle.fx_spelling.proofs.Spelling.{mark_said, after_said}
@@ -41,23 +41,23 @@ not_back_too : (b : Bool) → false ≡ not b → b ≡ true
 not_back_too true e = refl
 not_back_too false e = absurd (cc)
 
-pub literal_said : (kinds : Rule (List ℕ)) → ((iri : List ℕ) → bytes_eq iri lang_string ≡ false → kinds.spells (token_of.Iri iri ∷ []) iri) → (l : LiteralParts) → IsLiteral l → (literal kinds).spells (term_tokens (Literal l)) (Literal l)
+pub literal_said : (kinds : Rule (List ℕ)) → ((iri : List ℕ) → bytes_eq iri lang_string ≡ false → kinds.spells (symbol.Iri iri ∷ []) iri) → (l : LiteralParts) → IsLiteral l → (literal kinds).spells (term_tokens (Literal l)) (Literal l)
 unfolding literal text_suffix
 literal_said kinds d l h = go (length l.tag == 0) refl (bytes_eq l.datatype xsd_string) refl
   where
     go : (a : Bool) → (length l.tag == 0) ≡ a → (b : Bool) → bytes_eq l.datatype xsd_string ≡ b
-        → (literal kinds).spells (token_of.Text l.form ∷ cond a (cond b [] (token_of.Plain k.CaretCaret ∷ token_of.Iri l.datatype ∷ [])) (token_of.Tag l.tag ∷ [])) (Literal l)
-    go true e true f = inl ((l.form, None), (token_of.Text l.form ∷ [], [], refl, (token_of.Text l.form, refl, refl, refl), refl), same_parts l xsd_string [] (same_text l.datatype xsd_string (sym f)) (no_tag l e))
+        → (literal kinds).spells (symbol.Text l.form ∷ cond a (cond b [] (symbol.Plain k.CaretCaret ∷ symbol.Iri l.datatype ∷ [])) (symbol.Tag l.tag ∷ [])) (Literal l)
+    go true e true f = inl ((l.form, None), (symbol.Text l.form ∷ [], [], refl, (symbol.Text l.form, refl, refl, refl), refl), same_parts l xsd_string [] (same_text l.datatype xsd_string (sym f)) (no_tag l e))
     go true e false f =
         let other : bytes_eq l.datatype lang_string ≡ false = not_back _ (sym e ∙ h.fits) in
         inl (
           (l.form, Some (annotation.Datatype l.datatype)),
           (
-            token_of.Text l.form ∷ [],
-            token_of.Plain k.CaretCaret ∷ token_of.Iri l.datatype ∷ [],
+            symbol.Text l.form ∷ [],
+            symbol.Plain k.CaretCaret ∷ symbol.Iri l.datatype ∷ [],
             refl,
-            (token_of.Text l.form, refl, refl, refl),
-            inr (l.datatype, after_said k.CaretCaret kinds (token_of.Iri l.datatype ∷ []) l.datatype (d l.datatype other), refl),
+            (symbol.Text l.form, refl, refl, refl),
+            inr (l.datatype, after_said k.CaretCaret kinds (symbol.Iri l.datatype ∷ []) l.datatype (d l.datatype other), refl),
           ),
           same_parts l l.datatype [] refl (no_tag l e),
         )
@@ -68,11 +68,11 @@ literal_said kinds d l h = go (length l.tag == 0) refl (bytes_eq l.datatype xsd_
         inl (
           (l.form, Some (annotation.Tag l.tag)),
           (
-            token_of.Text l.form ∷ [],
-            token_of.Tag l.tag ∷ [],
+            symbol.Text l.form ∷ [],
+            symbol.Tag l.tag ∷ [],
             refl,
-            (token_of.Text l.form, refl, refl, refl),
-            inl (l.tag, (token_of.Tag l.tag, refl, refl, rw t.tag refl), refl),
+            (symbol.Text l.form, refl, refl, refl),
+            inl (l.tag, (symbol.Tag l.tag, refl, refl, rw t.tag refl), refl),
           ),
           same_parts l lang_string (map to_ascii_lowercase l.tag) (same_text l.datatype lang_string (sym other)) (sym t.lower),
         )
@@ -113,7 +113,7 @@ verb_good (Constant (Literal l)) h = absurd h
 calm_suffix : (l : LiteralParts) → list_all is_calm (suffix_tokens l) ≡ true
 calm_suffix l = go (length l.tag == 0) (bytes_eq l.datatype xsd_string)
   where
-    go : (a b : Bool) → list_all is_calm (cond a (cond b [] (token_of.Plain k.CaretCaret ∷ token_of.Iri l.datatype ∷ [])) (token_of.Tag l.tag ∷ [])) ≡ true
+    go : (a b : Bool) → list_all is_calm (cond a (cond b [] (symbol.Plain k.CaretCaret ∷ symbol.Iri l.datatype ∷ [])) (symbol.Tag l.tag ∷ [])) ≡ true
     go true true = refl
     go true false = refl
     go false b = refl
@@ -128,23 +128,23 @@ calm_part (Constant t) = calm_term t
 
 pub calm_triple : (p : Pattern) → list_all is_calm (said (pattern_words p)) ≡ true
 calm_triple p =
-    calm_both (word_tokens (part_word p.subject)) (word_tokens (part_word p.predicate) ++ (word_tokens (part_word p.object) ++ token_of.Plain k.Dot ∷ [])) (calm_part p.subject)
-    (calm_both (word_tokens (part_word p.predicate)) (word_tokens (part_word p.object) ++ token_of.Plain k.Dot ∷ []) (calm_part p.predicate)
-    (calm_both (word_tokens (part_word p.object)) (token_of.Plain k.Dot ∷ []) (calm_part p.object) refl))
+    calm_both (word_tokens (part_word p.subject)) (word_tokens (part_word p.predicate) ++ (word_tokens (part_word p.object) ++ symbol.Plain k.Dot ∷ [])) (calm_part p.subject)
+    (calm_both (word_tokens (part_word p.predicate)) (word_tokens (part_word p.object) ++ symbol.Plain k.Dot ∷ []) (calm_part p.predicate)
+    (calm_both (word_tokens (part_word p.object)) (symbol.Plain k.Dot ∷ []) (calm_part p.object) refl))
 
 module _ (ps : Prefixes) where
-  pub iri_said : (iri : List ℕ) → (iri_name ps).spells (token_of.Iri iri ∷ []) iri
+  pub iri_said : (iri : List ℕ) → (iri_name ps).spells (symbol.Iri iri ∷ []) iri
   unfolding iri_name
-  iri_said iri = (token_of.Iri iri, refl, refl, refl)
+  iri_said iri = (symbol.Iri iri, refl, refl, refl)
 
-  datatype_said : (iri : List ℕ) → bytes_eq iri lang_string ≡ false → (datatype ps).spells (token_of.Iri iri ∷ []) iri
+  datatype_said : (iri : List ℕ) → bytes_eq iri lang_string ≡ false → (datatype ps).spells (symbol.Iri iri ∷ []) iri
   unfolding datatype
-  datatype_said iri h = (token_of.Iri iri, refl, refl, rw h refl)
+  datatype_said iri h = (symbol.Iri iri, refl, refl, rw h refl)
 
-  pub datatype_in_said : (b : Bool) (iri : List ℕ) → bytes_eq iri lang_string ≡ false → (datatype_in b ps).spells (token_of.Iri iri ∷ []) iri
+  pub datatype_in_said : (b : Bool) (iri : List ℕ) → bytes_eq iri lang_string ≡ false → (datatype_in b ps).spells (symbol.Iri iri ∷ []) iri
   unfolding no_call
   datatype_in_said false iri h = datatype_said iri h
-  datatype_in_said true iri h = ((iri, None), (token_of.Iri iri ∷ [], [], refl, datatype_said iri h, refl), refl)
+  datatype_in_said true iri h = ((iri, None), (symbol.Iri iri ∷ [], [], refl, datatype_said iri h, refl), refl)
 
   -- ---- parts of a triple
 
@@ -153,14 +153,14 @@ module _ (ps : Prefixes) where
 
   pub part_said : (p : PatternTerm) → IsPart p → (graph_term ps).spells (part_tokens p) p
   unfolding graph_term variable part_literal
-  part_said (Variable name) h = inl (name, (token_of.Variable name, refl, refl, refl), refl)
+  part_said (Variable name) h = inl (name, (symbol.Variable name, refl, refl, refl), refl)
   part_said (Constant (Iri a)) h = inr (inl (a, iri_said a, refl))
   part_said (Constant (Literal l)) h = inr (inr (inr (inr (Literal l, literal_said (datatype_in false ps) (datatype_in_said false) l h, refl))))
 
   verb_said : (p : PatternTerm) → IsVerb p → (verb ps).spells (part_tokens p) p
   unfolding verb variable verb_iri no_path
-  verb_said (Variable name) h = inl (name, (token_of.Variable name, refl, refl, refl), refl)
-  verb_said (Constant (Iri a)) h = inr (inl (a, ((a, None), (token_of.Iri a ∷ [], [], refl, inr (iri_said a), refl), refl), refl))
+  verb_said (Variable name) h = inl (name, (symbol.Variable name, refl, refl, refl), refl)
+  verb_said (Constant (Iri a)) h = inr (inl (a, ((a, None), (symbol.Iri a ∷ [], [], refl, inr (iri_said a), refl), refl), refl))
   verb_said (Constant (Literal l)) h = absurd h
 
   -- the tokens of a triple, without its dot
@@ -183,8 +183,8 @@ module _ (ps : Prefixes) where
 
   -- what follows the first triple of a run, from its dot
   abbrev pub behind_triple : List Pattern → List Token
-  behind_triple [] = token_of.Plain k.Dot ∷ []
-  behind_triple (p ∷ more) = token_of.Plain k.Dot ∷ (triple_tokens p ++ behind_triple more)
+  behind_triple [] = symbol.Plain k.Dot ∷ []
+  behind_triple (p ∷ more) = symbol.Plain k.Dot ∷ (triple_tokens p ++ behind_triple more)
 
   abbrev rest_of : List Pattern → List (Option (List Pattern))
   rest_of [] = None ∷ []
@@ -196,8 +196,8 @@ module _ (ps : Prefixes) where
 
   rest_said : (more : List Pattern) → AreTriples more → (more_triples ps true).spells (behind_triple more) (rest_of more)
   unfolding more_triples dot_triples
-  rest_said [] h = (token_of.Plain k.Dot ∷ [], [], refl, ((tt, None), (token_of.Plain k.Dot ∷ [], [], refl, mark_said k.Dot, refl), refl), refl)
-  rest_said (p ∷ more) h = (token_of.Plain k.Dot ∷ triple_tokens p, behind_triple more, refl, ((tt, Some (p ∷ [])), (token_of.Plain k.Dot ∷ [], triple_tokens p, refl, mark_said k.Dot, triple_said p h.0), refl), rest_said more h.1)
+  rest_said [] h = (symbol.Plain k.Dot ∷ [], [], refl, ((tt, None), (symbol.Plain k.Dot ∷ [], [], refl, mark_said k.Dot, refl), refl), refl)
+  rest_said (p ∷ more) h = (symbol.Plain k.Dot ∷ triple_tokens p, behind_triple more, refl, ((tt, Some (p ∷ [])), (symbol.Plain k.Dot ∷ [], triple_tokens p, refl, mark_said k.Dot, triple_said p h.0), refl), rest_said more h.1)
 
   pub triples_said : (p : Pattern) (more : List Pattern) → IsTriple p → AreTriples more → (triples ps).spells (triple_tokens p ++ behind_triple more) (p ∷ more)
   unfolding triples

@@ -17,7 +17,7 @@ use Rattle.fx_grammar.specs.declared.refusals.SyntaxKind.{SyntaxKind}
 use Rattle.fx_grammar.specs.declared.kinds.Kind.{Kind}
 use Rattle.fx_grammar.specs.declared.kinds.Kind.TheVariants as k
 use Rattle.fx_grammar.specs.declared.kinds.Token.{Token}
-use Rattle.fx_grammar.specs.declared.kinds.Token.TheVariants as token_of
+use Rattle.fx_grammar.specs.declared.kinds.Token.TheVariants as symbol
 use Rattle.fx_grammar.proofs.KindLaws.{apart_by, same_rank}
 use Rattle.fx_spelling.proofs.Placing.{SteadyAt, back, deeper, same_opened}
 
@@ -43,17 +43,17 @@ is_two_function function.StrEnds = true
 is_two_function _ = false
 
 abbrev pub GoodToken : Token → Type 0
-GoodToken (token_of.Plain a) = Unit {0}
-GoodToken (token_of.Comparison op) = Unit {0}
-GoodToken (token_of.One f) = is_one_function f ≡ true
-GoodToken (token_of.Two f) = is_two_function f ≡ true
-GoodToken (token_of.Variable name) = IsName name
-GoodToken (token_of.Iri iri) = IsIri iri
-GoodToken (token_of.PrefixName prefix local) = IsUtf8 local
-GoodToken (token_of.Tag tag) = Unit {0}
-GoodToken (token_of.Integer digits) = IsUtf8 digits
-GoodToken (token_of.Signed digits) = IsUtf8 digits
-GoodToken (token_of.Text text) = IsUtf8 text
+GoodToken (symbol.Plain a) = Unit {0}
+GoodToken (symbol.Comparison op) = Unit {0}
+GoodToken (symbol.One f) = is_one_function f ≡ true
+GoodToken (symbol.Two f) = is_two_function f ≡ true
+GoodToken (symbol.Variable name) = IsName name
+GoodToken (symbol.Iri iri) = IsIri iri
+GoodToken (symbol.PrefixName prefix local) = IsUtf8 local
+GoodToken (symbol.Tag tag) = Unit {0}
+GoodToken (symbol.Integer digits) = IsUtf8 digits
+GoodToken (symbol.Signed digits) = IsUtf8 digits
+GoodToken (symbol.Text text) = IsUtf8 text
 
 abbrev pub AllGood : List Token → Type 0
 AllGood [] = Unit {0}
@@ -91,23 +91,23 @@ in_place context a h = go (is_bracket a) refl (nat_lt context.depth 64) refl (is
 pub placed_track : (context : Context) (ts : List Token) → AllGood ts → Track context (all_placed context ts)
 unfolding all_placed
 placed_track context [] g = tt
-placed_track context (token_of.Plain a ∷ ts) g = λ h.
+placed_track context (symbol.Plain a ∷ ts) g = λ h.
     let p = in_place context a h in (
       tt,
       subst (λ (x : Kind). is_bracket x ≡ true → nat_lt context.depth 64 ≡ true) (sym p.same) p.room,
       subst (λ (x : Kind). is k.Service x ≡ true → is_inside context.service ≡ false) (sym p.same) p.service,
       subst (λ (x : Kind). Track (behind context x) (all_placed (behind context a) ts)) (sym p.same) (placed_track (behind context a) ts g.1),
     )
-placed_track context (token_of.Comparison op ∷ ts) g = λ h. (g.0, (λ x. absurd (cc (x))), (λ x. absurd (cc (x))), placed_track context ts g.1)
-placed_track context (token_of.One f ∷ ts) g = λ h. (g.0, (λ x. absurd (cc (x))), (λ x. absurd (cc (x))), placed_track context ts g.1)
-placed_track context (token_of.Two f ∷ ts) g = λ h. (g.0, (λ x. absurd (cc (x))), (λ x. absurd (cc (x))), placed_track context ts g.1)
-placed_track context (token_of.Variable name ∷ ts) g = λ h. (g.0, (λ x. absurd (cc (x))), (λ x. absurd (cc (x))), placed_track context ts g.1)
-placed_track context (token_of.Iri iri ∷ ts) g = λ h. (g.0, (λ x. absurd (cc (x))), (λ x. absurd (cc (x))), placed_track context ts g.1)
-placed_track context (token_of.PrefixName prefix local ∷ ts) g = λ h. (g.0, (λ x. absurd (cc (x))), (λ x. absurd (cc (x))), placed_track context ts g.1)
-placed_track context (token_of.Tag tag ∷ ts) g = λ h. (g.0, (λ x. absurd (cc (x))), (λ x. absurd (cc (x))), placed_track context ts g.1)
-placed_track context (token_of.Integer digits ∷ ts) g = λ h. (g.0, (λ x. absurd (cc (x))), (λ x. absurd (cc (x))), placed_track context ts g.1)
-placed_track context (token_of.Signed digits ∷ ts) g = λ h. (g.0, (λ x. absurd (cc (x))), (λ x. absurd (cc (x))), placed_track context ts g.1)
-placed_track context (token_of.Text text ∷ ts) g = λ h. (g.0, (λ x. absurd (cc (x))), (λ x. absurd (cc (x))), placed_track context ts g.1)
+placed_track context (symbol.Comparison op ∷ ts) g = λ h. (g.0, (λ x. absurd (cc (x))), (λ x. absurd (cc (x))), placed_track context ts g.1)
+placed_track context (symbol.One f ∷ ts) g = λ h. (g.0, (λ x. absurd (cc (x))), (λ x. absurd (cc (x))), placed_track context ts g.1)
+placed_track context (symbol.Two f ∷ ts) g = λ h. (g.0, (λ x. absurd (cc (x))), (λ x. absurd (cc (x))), placed_track context ts g.1)
+placed_track context (symbol.Variable name ∷ ts) g = λ h. (g.0, (λ x. absurd (cc (x))), (λ x. absurd (cc (x))), placed_track context ts g.1)
+placed_track context (symbol.Iri iri ∷ ts) g = λ h. (g.0, (λ x. absurd (cc (x))), (λ x. absurd (cc (x))), placed_track context ts g.1)
+placed_track context (symbol.PrefixName prefix local ∷ ts) g = λ h. (g.0, (λ x. absurd (cc (x))), (λ x. absurd (cc (x))), placed_track context ts g.1)
+placed_track context (symbol.Tag tag ∷ ts) g = λ h. (g.0, (λ x. absurd (cc (x))), (λ x. absurd (cc (x))), placed_track context ts g.1)
+placed_track context (symbol.Integer digits ∷ ts) g = λ h. (g.0, (λ x. absurd (cc (x))), (λ x. absurd (cc (x))), placed_track context ts g.1)
+placed_track context (symbol.Signed digits ∷ ts) g = λ h. (g.0, (λ x. absurd (cc (x))), (λ x. absurd (cc (x))), placed_track context ts g.1)
+placed_track context (symbol.Text text ∷ ts) g = λ h. (g.0, (λ x. absurd (cc (x))), (λ x. absurd (cc (x))), placed_track context ts g.1)
 
 -- a kind that opens and closes nothing, and stands where it may
 abbrev pub is_turning : Kind → Bool

@@ -28,7 +28,7 @@ use Rattle.fx_syntax.specs.Answers.{fault_at, StandsWithin, bad_token, IsAnswer,
 use Rattle.fx_grammar.specs.Refused.{place_at, IsRefused, not_utf8, no_token, no_query, place_of}
 use Rattle.fx_grammar.proofs.GrammarLaws.{kept_query, query_read_as_spelled, query_refused_as_stopped}
 use Rattle.fx_grammar.proofs.OneQuery.{one_query_holds, one_refusal_holds, never_both_holds}
-use Rattle.fx_grammar.proofs.RuleWhole.{left_within}
+use Rattle.fx_grammar.proofs.RuleLaws.{left_within}
 
 pub memory_answered : (bytes : List ℕ) → IsAnswer bytes (Err Memory)
 memory_answered bytes = record { found = tt; only = λ q h. refl; refused = tt; first = λ kind place h. inl refl }
@@ -80,7 +80,7 @@ placed_length context (t ∷ tokens) = ap suc (placed_length (behind context (ki
 -- a refusal stands within the tokens of the text, or behind the last
 left_in_tokens : (bytes : List ℕ) (tokens : List read.Token) (refusal : Refusal) → read_whole query (classified bytes tokens) ≡ Err refusal → refusal.left ≤ length tokens
 left_in_tokens bytes tokens refusal e =
-    subst (λ (n : ℕ). refusal.left ≤ n) (placed_length outermost (map (says bytes) tokens) ∙ said_length tokens) (left_within query kept_query.law kept_query.local (classified bytes tokens) refusal e)
+    subst (λ (n : ℕ). refusal.left ≤ n) (placed_length outermost (map (says bytes) tokens) ∙ said_length tokens) (left_within query kept_query (classified bytes tokens) refusal e)
   where
     said_length : (ts : List read.Token) → length (map (says bytes) ts) ≡ length ts
     said_length [] = refl

@@ -81,7 +81,7 @@ fn query(alloc: Global, tokens: &[Token]) -> Result<(Boxed<Query>, &[Token]), Fa
 }
 
 /// The query that all the tokens are.
-#[tactic(auto, unfolding(fx_grammar::specs::Rule::read_whole, fx_grammar::specs::Rule::to_end))]
+#[tactic(auto, unfolding(fx_rules::specs::Rule::read_whole, fx_rules::specs::Rule::to_end))]
 pub fn whole_query(alloc: Global, tokens: &[Token]) -> Result<Boxed<Query>, Fault>
     ensures { Gives (λ q. (q, [])) result (rule.read_whole grammar.query tokens.now) }
 {

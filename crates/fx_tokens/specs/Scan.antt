@@ -1,5 +1,5 @@
 -- The same forms, read from left to right: the text behind the longest front that is of a form, where there is one.
-use Rattle.std.specs.Prelude.{◌≡◌, ◌<◌, ◌++◌, ℕ, ◌+◌, ◌*◌, Bool, true, false, List, [], ◌∷◌, length, Option, Some, None, if◌then◌else◌, suc, zero, nat_lt}
+use Rattle.std.specs.Prelude.{◌≡◌, ◌<◌, ◌++◌, ℕ, ◌+◌, ◌*◌, Bool, true, false, List, [], ◌∷◌, length, Option, Some, None, option_and_then, if◌then◌else◌, suc, zero, nat_lt}
 use Rattle.std.specs.Char.{digit_value, is_ascii_hexdigit}
 use Rattle.fx_terms.specs.Names.{is_base_char, is_name_start, is_name_char}
 use Rattle.fx_tokens.specs.Classes as class
@@ -11,8 +11,7 @@ use Rattle.fx_tokens.specs.declared.kinds.Part.TheVariants as part
 
 -- goes on behind what was read
 abbrev pub and_then : Option (List ℕ) → (List ℕ → Option (List ℕ)) → Option (List ℕ)
-and_then None f = None
-and_then (Some rest) f = f rest
+and_then read f = option_and_then f read
 
 abbrev pub or_else : Option (List ℕ) → Option (List ℕ) → Option (List ℕ)
 or_else None other = other

@@ -8,7 +8,7 @@ use Rattle.fx_grammar.specs.declared.kinds.Token.{Token}
 use Rattle.fx_grammar.specs.declared.refusals.SyntaxKind.TheVariants.{Unsupported}
 use Rattle.fx_grammar.proofs.KindLaws.{apart_by}
 use Rattle.fx_grammar.proofs.RuleLaws.{sees-left, sees-right, sees-apart}
-use Rattle.fx_grammar.specs.Rule.{Apart, Refusal, refuse, made, opt, sees, shape_of, with_each, number_from}
+use Rattle.fx_grammar.specs.Rule.{Apart, Refusal, refuse, made, opt, sees, shape_of, with_each, any_number_from}
 use Rattle.fx_grammar.specs.Grammar.{Prefixes, option_items, same_subject, dot_triples, more_triples, more_triples_from, triples, first_triples, triple_elements, graph_term, part_literal, literal, text_suffix, datatype, iri_name, variable, properties, more_properties, property, objects, verb, verb_iri, no_path}
 use Rattle.fx_grammar.proofs.GrammarLaws.{dot_law, dot_fits, dot_takes}
 use Rattle.fx_readers.proofs.Loops.{from_smaller, from_each_turn, from_each_fails, from_each_ends, each_is, sees-alone}
@@ -35,7 +35,7 @@ module _ (ps : Prefixes) where
   triples_smaller behind ts next x e = from_smaller (shape_of (dot_triples ps true)) (dot_triples ps) (λ behind ts. is_some ts) (dot_law ps) (dot_fits ps) (dot_takes ps) behind ts next x e
 
   pub triples_are : (ts mid : List Token) (x : List Pattern) → (same_subject ps).read ts ≡ Ok (x, mid) → (triples ps).read ts ≡ with_each option_items x (more_triples_from ps true mid)
-  unfolding triples more_triples more_triples_from number_from
+  unfolding triples more_triples more_triples_from any_number_from
   triples_are ts mid x e = each_is (same_subject ps) (more_triples ps true) (λ x. x) option_items ts mid x x e refl
 
 -- ---- where triples begin

@@ -17,7 +17,7 @@ use fx_trees::patterns::{
 use std::alloc::Global;
 
 fn sees_blank(tokens: &[Token]) -> bool
-    ensures { result ≡ rule.sees grammar.is_blank tokens.now }
+    ensures { result ≡ rule.sees grammar.begins_blank_node tokens.now }
 {
     sees(tokens, Kind::Blank) || sees(tokens, Kind::LeftBracket)
 }

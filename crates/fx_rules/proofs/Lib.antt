@@ -1,0 +1,5 @@
+pub mod RuleKept
+pub mod RuleLaws
+pub mod RuleLocal
+pub mod RuleStops
+pub mod RuleWhole
