@@ -129,12 +129,7 @@ fn first_slow_amiss<R: Threads + Wait + Sync>(
 }
 
 // How `query` ends over two wires in batches of one row, where the batch with this row waits for the others.
-fn code_of<R: Threads + Wait + Sync>(
-    rt: &R,
-    alloc: Global,
-    query: &str,
-    slow: &str,
-) -> Option<u8> {
+fn code_of<R: Threads + Wait + Sync>(rt: &R, alloc: Global, query: &str, slow: &str) -> Option<u8> {
     let ended = AtomicU64::new(0);
     let mut files = files(alloc, REGISTRY, query)?;
     let mut wires = [wire(&ended, slow), wire(&ended, slow)];

@@ -55,10 +55,7 @@ fn first_amiss(
     rows: &[(&str, u16, Result<&str, FileError>)],
 ) -> Option<Option<usize>> {
     let mut files = Folder::new(rt.alloc(), *rt);
-    Some(
-        rows.iter()
-            .position(|(name, limit, want)| !gives(rt, &mut files, name, *limit, *want)),
-    )
+    Some(rows.iter().position(|(name, limit, want)| !gives(rt, &mut files, name, *limit, *want)))
 }
 
 fn gives(

@@ -90,7 +90,13 @@ fn fails_twice(rt: &HostRuntime) -> Option<bool> {
     )
 }
 
-fn comes_from<R: Threads + Wait>(threads: &R, rt: &HostRuntime, listener: TcpListener, host: &str, port: u16) -> Option<bool> {
+fn comes_from<R: Threads + Wait>(
+    threads: &R,
+    rt: &HostRuntime,
+    listener: TcpListener,
+    host: &str,
+    port: u16,
+) -> Option<bool> {
     let peer = thread::spawn(threads, move || serve(&listener, 7, "abc").is_ok()).ok()?;
     let mut wire = TcpWire::new(rt.alloc(), *rt);
     let at = endpoint_at(rt.alloc(), host, port)?;
@@ -125,14 +131,30 @@ fn gives_slowly<R: Threads + Wait>(
         serve_slowly(&own, &listener, reply, pause, closes).is_ok()
     })
     .ok()?;
-    let mut wire = TcpWire::with_patience(rt.alloc(), own, Duration::from_secs(LONG), Duration::from_millis(500));
-    let is_so = exchanges(rt.alloc(), &mut wire, &endpoint(rt.alloc(), port)?, 100, want);
+    let mut wire = TcpWire::with_patience(
+        rt.alloc(),
+        own,
+        Duration::from_secs(LONG),
+        Duration::from_millis(500),
+    );
+    let is_so = exchanges(
+        rt.alloc(),
+        &mut wire,
+        &endpoint(rt.alloc(), port)?,
+        100,
+        want,
+    );
     Some(peer.join(threads) && is_so)
 }
 
 fn fails_without_time(rt: &HostRuntime) -> Option<bool> {
     let (_listener, port) = bound(rt, Ipv4Addr::LOCALHOST)?;
-    let mut wire = TcpWire::with_patience(rt.alloc(), *rt, Duration::ZERO, Duration::from_secs(LONG));
+    let mut wire = TcpWire::with_patience(
+        rt.alloc(),
+        *rt,
+        Duration::ZERO,
+        Duration::from_secs(LONG),
+    );
     let at = endpoint(rt.alloc(), port)?;
     Some(exchanges(rt.alloc(), &mut wire, &at, 100, Err(WireError::Failed)))
 }
