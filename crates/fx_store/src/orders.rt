@@ -72,9 +72,10 @@ pub(crate) struct Run {
 /// subject, predicate. Whichever parts of a triple are known, in one of them these come first.
 #[derive(Drop)]
 pub struct Orders {
-    graph: Graph,
+    // (large lists are let go before many small texts are: an allocator would go over all of these for each list)
     by_predicate: Vec<usize>,
     by_object: Vec<usize>,
+    graph: Graph,
 }
 
 impl Model for Orders {
