@@ -14,33 +14,33 @@ use std::{io, thread};
 
 #[test]
 fn a_query_over_an_endpoint_that_is_silent_ends_and_names_it(rt: HostRuntime) {
-    assert_eq!(rt; ends_over_silence(&rt), Some(true));
+    assert_eq!(rt; ends_over_silence(&rt, &rt), Some(true));
 }
 
 #[test]
 fn a_reply_of_one_byte_above_its_limit_is_too_long(rt: HostRuntime) {
-    assert_eq!(rt; ends_over_length(&rt), Some(true));
+    assert_eq!(rt; ends_over_length(&rt, &rt), Some(true));
 }
 
 // Whether a query over an endpoint that takes connections, and never answers, ends with its line.
-fn ends_over_silence(rt: &HostRuntime) -> Option<bool> {
+fn ends_over_silence<R: Threads + Wait + Sync>(threads: &R, rt: &HostRuntime) -> Option<bool> {
     let silent = TcpListener::bind(rt, SocketAddr::from((Ipv4Addr::LOCALHOST, 0))).ok()?;
     let port = silent.local_addr().ok()?.port();
     let (long, short) = (Duration::from_secs(10), Duration::from_millis(300));
     let wire = TcpWire::with_patience(rt.alloc(), *rt, long, short);
-    let ended = query_over(rt, rt.alloc(), port, wire)?;
+    let ended = query_over(threads, rt.alloc(), port, wire)?;
     drop(silent);
     Some(is_end(&ended, 5, b"member Amsterdam failed\n"))
 }
 
 // Whether one over an endpoint that answers with a byte too much does.
-fn ends_over_length(rt: &HostRuntime) -> Option<bool> {
+fn ends_over_length<R: Threads + Wait + Sync>(threads: &R, rt: &HostRuntime) -> Option<bool> {
     let listener = TcpListener::bind(rt, SocketAddr::from((Ipv4Addr::LOCALHOST, 0))).ok()?;
     let port = listener.local_addr().ok()?.port();
     // (the other side closes the connection before all is taken)
-    let peer = thread::spawn(rt, move || answer_at_length(&listener).is_ok()).ok()?;
-    let ended = query_over(rt, rt.alloc(), port, TcpWire::new(rt.alloc(), *rt))?;
-    peer.join(rt);
+    let peer = thread::spawn(threads, move || answer_at_length(&listener).is_ok()).ok()?;
+    let ended = query_over(threads, rt.alloc(), port, TcpWire::new(rt.alloc(), *rt))?;
+    peer.join(threads);
     Some(is_end(&ended, 6, b"bad reply from Amsterdam: TooLong\n"))
 }
 
