@@ -55,11 +55,11 @@ fn answer_at_length(listener: &TcpListener) -> io::Result<()> {
 }
 
 // How `query` over one endpoint at a port ends.
-fn query_over<R: Threads + Wait + Sync, W: Wire + Send>(
+fn query_over<R: Threads + Wait + Sync>(
     rt: &R,
     alloc: Global,
     port: u16,
-    wire: W,
+    wire: TcpWire<HostRuntime>,
 ) -> Option<Ended> {
     let registry = format!(in alloc; "Amsterdam http://127.0.0.1:{port}/sparql\n").ok()?;
     let mut files = files(alloc, registry.as_str(), "SELECT * WHERE { ?s ?p ?o }")?;
