@@ -1,14 +1,14 @@
 //! A line: nothing, or a triple.
-ghost use Rattle.std.specs.Prelude.{◌≡◌, ◌+◌, ◌<◌, ◌≤◌, Some, length, take, drop, true, false};
+ghost use Rattle.std.specs.Prelude.{◌≡◌, IfOk, ◌+◌, ◌<◌, ◌≤◌, Some, length, take, drop, true, false};
 ghost use Rattle.std.specs.Str.{IsCharBoundary, IsUtf8};
 ghost use Rattle.fx_ntriples.specs.Reading as spec;
 ghost use Rattle.fx_ntriples.specs.Answers.{Reads};
-ghost use Rattle.fx_terms.specs.Iris.{read_iri};
-ghost use Rattle.fx_terms.specs.Answers.{AnswersTerm};
+ghost use Rattle.fx_terms.specs.Literals as literals;
 
 use crate::faults::{Fault, Stop};
 use crate::quotes::{Quote, quoted};
-use fx_terms::{Iri, Literal, LiteralError, Memory, Term, TermError, Triple};
+use fx_terms::datatypes::XSD_STRING;
+use fx_terms::{Iri, Literal, LiteralError, Memory, RecentIris, Term, TermError, Triple};
 use std::alloc::Global;
 
 /// The triple of a line, if it has one, and a place at which nothing follows.
@@ -16,7 +16,7 @@ use std::alloc::Global;
 pub fn line(
     alloc: Global,
     line: &str,
-    last: Option<&Triple>,
+    recent: &mut RecentIris,
 ) -> Result<(Option<Triple>, usize), Stop>
     ensures { Reads line.now result (spec.line line.now) }
 {
@@ -25,7 +25,7 @@ pub fn line(
     if at == bytes.len() || bytes[at] == b'#' {
         return Ok((None, bytes.len()));
     }
-    let (triple, at) = triple(alloc, line, at, last)?;
+    let (triple, at) = triple(alloc, line, at, recent)?;
     ended(line, at, triple)
 }
 
@@ -59,17 +59,17 @@ fn triple(
     alloc: Global,
     line: &str,
     at: usize,
-    last: Option<&Triple>,
+    recent: &mut RecentIris,
 ) -> Result<(Triple, usize), Stop>
     requires { at < length line.now }
     ensures { Reads line.now result (spec.triple (drop at line.now)) }
 {
     let bytes = line.as_bytes();
-    let (subject, at) = subject(alloc, line, at, last)?;
+    let (subject, at) = subject(alloc, line, at, recent)?;
     let at = blanks_end(bytes, at);
-    let (predicate, at) = iri(alloc, line, at, last.map(|t| &t.predicate))?;
+    let (predicate, at) = iri(alloc, line, at, recent)?;
     let at = blanks_end(bytes, at);
-    let (object, at) = object(alloc, line, at)?;
+    let (object, at) = object(alloc, line, at, recent)?;
     let triple = Triple {
         subject,
         predicate,
@@ -95,7 +95,7 @@ fn subject(
     alloc: Global,
     line: &str,
     at: usize,
-    last: Option<&Triple>,
+    recent: &mut RecentIris,
 ) -> Result<(Iri, usize), Stop>
     requires { at ≤ length line.now }
     ensures { Reads line.now result (spec.subject (drop at line.now)) }
@@ -104,11 +104,11 @@ fn subject(
     if at < bytes.len() && bytes[at] == b'_' {
         return Err(Stop::At(Fault::Blank, at));
     }
-    iri(alloc, line, at, last.map(|t| &t.subject))
+    iri(alloc, line, at, recent)
 }
 
-// The IRI that begins at a place, and where it ends. One that is equal to the last shares its text.
-fn iri(alloc: Global, line: &str, at: usize, last: Option<&Iri>) -> Result<(Iri, usize), Stop>
+// The IRI that begins at a place, and where it ends.
+fn iri(alloc: Global, line: &str, at: usize, recent: &mut RecentIris) -> Result<(Iri, usize), Stop>
     requires { at ≤ length line.now }
     ensures { Reads line.now result (spec.iri (drop at line.now)) }
 {
@@ -117,28 +117,19 @@ fn iri(alloc: Global, line: &str, at: usize, last: Option<&Iri>) -> Result<(Iri,
         return Err(Stop::At(Fault::Bad, at));
     }
     let (text, next) = quoted(alloc, line, at + 1, Quote::Iri)?;
-    match iri_of(alloc, text.text(), last) {
+    match recent.read(alloc, text.text()) {
         Ok(iri) => Ok((iri, next)),
         Err(TermError::Memory) => Err(Stop::Memory),
         Err(_) => Err(Stop::At(Fault::Relative, at)),
     }
 }
 
-fn iri_of(alloc: Global, text: &str, last: Option<&Iri>) -> Result<Iri, TermError>
-    ensures { AnswersTerm result (read_iri text.now) }
-{
-    if let Some(iri) = last
-        && iri.text() == text
-    {
-        return match iri.copy() {
-            Ok(copy) => Ok(copy),
-            Err(Memory) => Err(TermError::Memory),
-        };
-    }
-    Iri::read(alloc, text)
-}
-
-fn object(alloc: Global, line: &str, at: usize) -> Result<(Term, usize), Stop>
+fn object(
+    alloc: Global,
+    line: &str,
+    at: usize,
+    recent: &mut RecentIris,
+) -> Result<(Term, usize), Stop>
     requires { at ≤ length line.now }
     ensures { Reads line.now result (spec.object (drop at line.now)) }
 {
@@ -151,14 +142,20 @@ fn object(alloc: Global, line: &str, at: usize) -> Result<(Term, usize), Stop>
     }
     if bytes[at] == b'"' {
         let (form, next) = quoted(alloc, line, at + 1, Quote::Text)?;
-        return literal(alloc, line, next, form.text());
+        return literal(alloc, line, next, form.text(), recent);
     }
-    let (iri, next) = iri(alloc, line, at, None)?;
+    let (iri, next) = iri(alloc, line, at, recent)?;
     Ok((Term::Iri(iri), next))
 }
 
 // The literal of a form, by what follows its closing quote.
-fn literal(alloc: Global, line: &str, at: usize, form: &str) -> Result<(Term, usize), Stop>
+fn literal(
+    alloc: Global,
+    line: &str,
+    at: usize,
+    form: &str,
+    recent: &mut RecentIris,
+) -> Result<(Term, usize), Stop>
     requires { at ≤ length line.now }
     ensures { Reads line.now result (spec.literal form.now (drop at line.now)) }
 {
@@ -168,10 +165,21 @@ fn literal(alloc: Global, line: &str, at: usize, form: &str) -> Result<(Term, us
     }
     let at = blanks_end(bytes, at);
     if at < bytes.len() && bytes[at] == b'^' {
-        return typed(alloc, line, at + 1, form);
+        return typed(alloc, line, at + 1, form, recent);
     }
-    let literal = Literal::plain(alloc, form)?;
+    let literal = plain(alloc, form, recent)?;
     Ok((Term::Literal(literal), at))
+}
+
+// The literal of a form alone. The text of its datatype is shared.
+fn plain(alloc: Global, form: &str, recent: &mut RecentIris) -> Result<Literal, Memory>
+    ensures { IfOk result (λ literal. literal ≡ literals.plain form.now) }
+{
+    let datatype = recent.known(alloc, XSD_STRING)?;
+    match Literal::typed(alloc, form, &datatype) {
+        Ok(literal) => Ok(literal),
+        Err(_) => Err(Memory),
+    }
 }
 
 fn tagged(alloc: Global, line: &str, at: usize, form: &str) -> Result<(Term, usize), Stop>
@@ -222,7 +230,13 @@ fn in_part(is_first: bool, b: u8) -> bool
     }
 }
 
-fn typed(alloc: Global, line: &str, at: usize, form: &str) -> Result<(Term, usize), Stop>
+fn typed(
+    alloc: Global,
+    line: &str,
+    at: usize,
+    form: &str,
+    recent: &mut RecentIris,
+) -> Result<(Term, usize), Stop>
     requires { at ≤ length line.now }
     ensures { Reads line.now result (spec.with_datatype form.now (drop at line.now)) }
 {
@@ -231,7 +245,7 @@ fn typed(alloc: Global, line: &str, at: usize, form: &str) -> Result<(Term, usiz
         return Err(Stop::At(Fault::Bad, at));
     }
     let start = blanks_end(bytes, at + 1);
-    let (datatype, next) = iri(alloc, line, start, None)?;
+    let (datatype, next) = iri(alloc, line, start, recent)?;
     match Literal::typed(alloc, form, &datatype) {
         Ok(literal) => Ok((Term::Literal(literal), next)),
         Err(LiteralError::Memory) => Err(Stop::Memory),

@@ -13,7 +13,7 @@ ghost use Rattle.fx_ntriples.specs.Answers.{Answers, AnswersLines, Pushes, stopp
 
 use crate::faults::{Fault, NtError, Stop};
 use crate::lines::line;
-use fx_terms::{Graph, Memory, Triple};
+use fx_terms::{Graph, Memory, RecentIris, Triple};
 use std::alloc::Global;
 use std::str;
 use std::str::Utf8Error;
@@ -86,7 +86,10 @@ fn utf8_place(bytes: &[u8], error: &Utf8Error) -> usize
 fn graph(alloc: Global, text: &str) -> Result<Graph, NtError>
     ensures { Answers result (spec.answered text.now (spec.read_lines 0 (slice_split spec.is_line_end text.now))) }
 {
-    match triples(alloc, text) {
+    let Ok(mut recent) = RecentIris::none(alloc) else {
+        return Err(NtError::Memory);
+    };
+    match triples(alloc, text, &mut recent) {
         Ok(triples) => {
             match Graph::of(triples) {
                 Ok(graph) => Ok(graph),
@@ -118,7 +121,7 @@ pub enum Halt {
 }
 
 // The triples of all lines.
-fn triples(alloc: Global, text: &str) -> Result<Vec<Triple>, Halt>
+fn triples(alloc: Global, text: &str, recent: &mut RecentIris) -> Result<Vec<Triple>, Halt>
     ensures { AnswersLines text.now result (spec.read_lines 0 (slice_split spec.is_line_end text.now)) }
 {
     let bytes = text.as_bytes();
@@ -126,7 +129,7 @@ fn triples(alloc: Global, text: &str) -> Result<Vec<Triple>, Halt>
     let mut start = 0;
     'lines: loop {
         let end = line_end(bytes, start);
-        if let Err(stop) = push_line(alloc, &text[start..end], &mut triples) {
+        if let Err(stop) = push_line(alloc, &text[start..end], recent, &mut triples) {
             return Err(stopped(stop, start));
         }
         if end == bytes.len() {
@@ -150,10 +153,15 @@ fn stopped(stop: Stop, start: usize) -> Halt
 }
 
 // What a line says, pushed.
-fn push_line(alloc: Global, text: &str, triples: &mut Vec<Triple>) -> Result<(), Stop>
+fn push_line(
+    alloc: Global,
+    text: &str,
+    recent: &mut RecentIris,
+    triples: &mut Vec<Triple>,
+) -> Result<(), Stop>
     ensures { Pushes text.now result triples.old.items triples.new.items (spec.line text.now) }
 {
-    let (said, _) = line(alloc, text, triples.last())?;
+    let (said, _) = line(alloc, text, recent)?;
     if let Some(triple) = said {
         triples.push(triple)?;
     }

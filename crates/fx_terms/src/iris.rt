@@ -31,6 +31,17 @@ impl From<AllocError> for TermError {
     }
 }
 
+impl From<Memory> for TermError {
+    ghost use Rattle.std.specs.Prelude.{◌≡◌};
+    ghost use Rattle.fx_terms.specs.declared.iris.TermError.TheVariants.{Memory as NoMemory};
+
+    ghost from_gives = { λ _ e. e ≡ NoMemory };
+
+    fn from(_error: Memory) -> TermError {
+        TermError::Memory
+    }
+}
+
 /// An absolute IRI (RFC 3987, in this project's profile). Contracts see the bytes of its text.
 #[derive(Debug, Drop)]
 pub struct Iri {

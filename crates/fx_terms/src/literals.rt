@@ -8,6 +8,7 @@ ghost use Rattle.fx_terms.specs.Literals as spec;
 use crate::allocation::Memory;
 use crate::datatypes::{LANG_STRING, XSD_STRING};
 use crate::iris::Iri;
+use crate::tags::Tag;
 use std::alloc::{AllocError, Global};
 use std::cmp::Ordering;
 use std::marker::Model;
@@ -52,7 +53,7 @@ impl From<Memory> for LiteralError {
 pub struct Literal {
     form: ArcStr,
     datatype: Iri,
-    tag: ArcStr,
+    tag: Tag,
 }
 
 impl Model for Literal {
@@ -61,9 +62,9 @@ impl Model for Literal {
 
     ghost Value = { LiteralParts };
 
-    ghost view = { λ l. record { form = arc_str_bytes l.form; datatype = l.datatype; tag = arc_str_bytes l.tag } };
+    ghost view = { λ l. record { form = arc_str_bytes l.form; datatype = l.datatype; tag = l.tag } };
 
-    ghost invariant = { λ l. IsLiteral (record { form = arc_str_bytes l.form; datatype = l.datatype; tag = arc_str_bytes l.tag }) };
+    ghost invariant = { λ l. IsLiteral (record { form = arc_str_bytes l.form; datatype = l.datatype; tag = l.tag }) };
 }
 
 impl Literal {
@@ -74,7 +75,7 @@ impl Literal {
         Ok(Literal {
             form: ArcStr::from_str(alloc, form)?,
             datatype: Iri::known(alloc, XSD_STRING)?,
-            tag: ArcStr::from_str(alloc, "")?,
+            tag: Tag::none(),
         })
     }
 
@@ -88,7 +89,7 @@ impl Literal {
         Ok(Literal {
             form: ArcStr::from_str(alloc, form)?,
             datatype: datatype.copy()?,
-            tag: ArcStr::from_str(alloc, "")?,
+            tag: Tag::none(),
         })
     }
 
@@ -105,7 +106,7 @@ impl Literal {
         Ok(Literal {
             form: ArcStr::from_str(alloc, form)?,
             datatype: Iri::known(alloc, LANG_STRING)?,
-            tag: ArcStr::from_string(tag.to_ascii_lowercase(alloc)?)?,
+            tag: Tag::of(ArcStr::from_string(tag.to_ascii_lowercase(alloc)?)?),
         })
     }
 
@@ -128,7 +129,7 @@ impl Literal {
         ensures value { result.now ≡ self.now.tag }
         ensures fits { spec.IsLiteral self.now }
     {
-        self.tag.as_str()
+        self.tag.text()
     }
 
     /// An equal literal, which shares the texts.
@@ -138,7 +139,7 @@ impl Literal {
         Ok(Literal {
             form: self.form.clone()?,
             datatype: self.datatype.copy()?,
-            tag: self.tag.clone()?,
+            tag: self.tag.copy()?,
         })
     }
 }
@@ -214,10 +215,15 @@ impl Ord for Literal {
     ghost matches_eq = { λ x y. refl };
 
     fn cmp(&self, other: &Literal) -> Ordering {
-        self.form
-            .cmp(&other.form)
-            .then(self.datatype.cmp(&other.datatype))
-            .then(self.tag.cmp(&other.tag))
+        let forms = self.form.cmp(&other.form);
+        if forms != Ordering::Equal {
+            return forms;
+        }
+        let datatypes = self.datatype.cmp(&other.datatype);
+        if datatypes != Ordering::Equal {
+            return datatypes;
+        }
+        self.tag.text().cmp(other.tag.text())
     }
 }
 

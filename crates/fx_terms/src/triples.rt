@@ -72,10 +72,15 @@ impl Ord for Triple {
     ghost matches_eq = { λ x y. refl };
 
     fn cmp(&self, other: &Triple) -> Ordering {
-        self.subject
-            .cmp(&other.subject)
-            .then(self.predicate.cmp(&other.predicate))
-            .then(self.object.cmp(&other.object))
+        let subjects = self.subject.cmp(&other.subject);
+        if subjects != Ordering::Equal {
+            return subjects;
+        }
+        let predicates = self.predicate.cmp(&other.predicate);
+        if predicates != Ordering::Equal {
+            return predicates;
+        }
+        self.object.cmp(&other.object)
     }
 }
 

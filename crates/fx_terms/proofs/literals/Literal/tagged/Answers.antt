@@ -10,7 +10,7 @@ pub invariant_of-result : goal.invariant_of-result
 invariant_of-result c =
     let text = c.args.tag.now in
     let is : is_tag text ≡ true = search rules in
-    let lower : Rattle.std.specs.Arc.arc_str_bytes c.in_ok-from_string.field-0 ≡ map to_ascii_lowercase text = c.in_ok-from_string.ensures.ok ∙ c.in_ok-to_ascii_lowercase.ensures.ok in
+    let lower : c.of.result ≡ map to_ascii_lowercase text = c.of.ensures ∙ (c.in_ok-from_string.ensures.ok ∙ c.in_ok-to_ascii_lowercase.ensures.ok) in
     record {
       form = search rules;
       datatype = c.in_ok-known.ensures.valid;
