@@ -4,6 +4,7 @@
 #![tactic(auto)]
 
 pub mod allocation;
+pub mod blanks;
 pub mod datatypes;
 pub mod escapes;
 pub mod graphs;
@@ -13,6 +14,7 @@ pub mod names;
 pub mod patterns;
 pub mod terms;
 pub mod triples;
+pub mod utf8;
 pub mod writing;
 
 pub use allocation::Memory;
@@ -24,6 +26,7 @@ pub use patterns::{Pattern, PatternTerm};
 pub use sqlite_items::{Boxed, Items};
 pub use terms::Term;
 pub use triples::Triple;
+pub use utf8::read_utf8;
 pub use writing::{write_iri, write_term};
 
 /// A call of this shows that a type may be shared between threads and sent to them.
