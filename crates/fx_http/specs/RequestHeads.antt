@@ -1,10 +1,11 @@
 -- How a request is read: its head byte by byte, then its parts by offsets, and then what is behind it.
-use Rattle.std.specs.Prelude.{◌≡◌, ℕ, ◌<◌, ◌≤◌, Bool, not, ◌||◌, ◌==◌, nat_eq, List, [], ◌∷◌, ◌++◌, length, map, take, drop, All, Result}
+use Rattle.std.specs.Prelude.{◌≡◌, ℕ, ◌<◌, ◌≤◌, Bool, not, ◌||◌, nat_eq, List, [], ◌∷◌, ◌++◌, length, map, take, drop, All, Result}
 use Rattle.std.specs.List.{ends_with}
 use Rattle.httparse.specs.declared.spans.HeaderSpan.{HeaderSpan}
 use Rattle.httparse.specs.declared.spans.RequestSpans.{RequestSpans}
 use Rattle.httparse.specs.Grammar.{RequestHead, ReadsRequest, print_request}
 use Rattle.httparse.specs.Spans.{IsWithin, IsHeaderWithin, span_bytes, header_bytes}
+use Rattle.fx_terms.specs.Blanks.{is_line_end}
 use Rattle.fx_http.specs.Answers.{IsRestWithin}
 use Rattle.fx_http.specs.Fields.{named}
 use Rattle.fx_http.specs.Requests.{answer_of, body_length, length_behind, HasNoRequestHead}
@@ -15,7 +16,7 @@ use Rattle.fx_http.specs.declared.read_requests.RequestError.TheVariants.{Fault,
 
 -- neither CR nor LF
 abbrev pub is_of_line : ℕ → Bool
-is_of_line b = not (b == 13 || b == 10)
+is_of_line b = not (is_line_end b)
 
 -- the bytes end in the end of a line, and an empty line
 abbrev pub ends_in_empty_line : List ℕ → Bool

@@ -4,10 +4,11 @@ ghost use Rattle.std.specs.List.{before_first, list_all, position_or_len};
 ghost use Rattle.std.specs.Option.{option_copied};
 ghost use Rattle.std.specs.Str.{all_ascii_digits, str_eq_ignore_ascii_case};
 ghost use Rattle.std.specs.Str.Parse.{digits_value};
-ghost use Rattle.httparse.specs.Grammar.{is_ows, trim_ows};
+ghost use Rattle.httparse.specs.Grammar.{trim_ows};
 ghost use Rattle.httparse.specs.Spans.{IsHeaderWithin, header_bytes};
 ghost use Rattle.fx_http.specs.Fields as field;
 
+use fx_terms::blanks::is_blank;
 use httparse::spans::HeaderSpan;
 use std::str;
 
@@ -127,22 +128,16 @@ fn semicolon_place(value: &[u8]) -> usize
     place
 }
 
-fn is_blank(b: u8) -> bool
-    ensures { result ≡ is_ows b }
-{
-    b == b' ' || b == b'\t'
-}
-
-// The bytes without the spaces and tabs at both ends.
+// The bytes without the blanks at both ends.
 fn trim(bytes: &[u8]) -> &[u8]
     ensures { result.now ≡ trim_ows bytes.now }
 {
     let mut start = 0;
     let mut end = bytes.len();
-    while start < end && is_blank(bytes[start]) {
+    while start < end && is_blank(bytes[start] as char) {
         start += 1;
     }
-    while start < end && is_blank(bytes[end - 1]) {
+    while start < end && is_blank(bytes[end - 1] as char) {
         end -= 1;
     }
     &bytes[start..end]

@@ -9,6 +9,7 @@ use crate::heads::{LONGEST_HEAD, MOST_FIELDS};
 use crate::read_requests::RequestError;
 use crate::reading::read_byte;
 use fx_outside::Source;
+use fx_terms::blanks::is_line_end;
 use httparse::Status;
 use httparse::spans::{EMPTY_HEADER_SPAN, HeaderSpan, RequestSpans, parse_request};
 use std::alloc::Global;
@@ -56,7 +57,7 @@ pub fn read_head<S: Source>(alloc: Global, source: &mut S) -> Result<Vec<u8>, Re
 fn has_begun(begun: bool, b: u8) -> bool
     ensures { result ≡ (begun || is_of_line b) }
 {
-    begun || (b != b'\r' && b != b'\n')
+    begun || !is_line_end(b as char)
 }
 
 // Whether a head may end here: only behind a line, in an empty one.

@@ -1,5 +1,5 @@
 -- How a document is read: line by line, each from its front (RDF 1.1 N-Triples, section 7).
-use Rattle.std.specs.Prelude.{ℕ, ◌+◌, ◌-◌, Bool, true, false, not, ◌&&◌, ◌||◌, ◌==◌, if◌then◌else◌, List, [], ◌∷◌, length, take, drop, Option, Some, None, Result, Ok, Err}
+use Rattle.std.specs.Prelude.{ℕ, ◌+◌, ◌-◌, Bool, true, false, not, ◌&&◌, ◌==◌, if◌then◌else◌, List, [], ◌∷◌, length, take, drop, Option, Some, None, Result, Ok, Err}
 use Rattle.std.specs.List.{slice_split}
 use Rattle.std.specs.Str.{is_utf8}
 use Rattle.fx_terms.specs.declared.iris.TermError.{TermError}
@@ -18,15 +18,8 @@ use Rattle.fx_ntriples.specs.declared.quotes.Quote.TheVariants.{Iri, Text}
 use Rattle.fx_rules.specs.Rule.{and_then}
 use Rattle.fx_ntriples.specs.Quotes.{Got, got, stop, body}
 use Rattle.fx_terms.specs.Utf8.{utf8_fault}
+pub use Rattle.fx_terms.specs.Blanks.{is_blank, is_line_end}
 use Rattle.fx_ntriples.specs.Places.{at_place}
-
--- a space or a tab
-abbrev pub is_blank : ℕ → Bool
-is_blank b = b == 32 || b == 9
-
--- CR or LF
-abbrev pub is_line_end : ℕ → Bool
-is_line_end b = b == 10 || b == 13
 
 -- the text behind the blanks at its front
 abbrev pub unblanked : List ℕ → List ℕ

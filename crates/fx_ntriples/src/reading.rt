@@ -1,9 +1,8 @@
 //! Documents are read.
-ghost use Rattle.std.specs.Prelude.{◌≡◌, ℕ, Err, ◌<◌, ◌≤◌, ◌+◌, ◌∷◌, length, take, drop, List, IfOk, MatchResult, Some, None, if◌then◌else◌, IfErr};
+ghost use Rattle.std.specs.Prelude.{◌≡◌, ℕ, Err, ◌≤◌, ◌+◌, ◌∷◌, length, take, drop, List, IfOk, MatchResult, Some, None, if◌then◌else◌, IfErr};
 ghost use Rattle.std.specs.List.{slice_split, position_or_len};
-ghost use Rattle.std.specs.Str.{IsErrorLen, IsUtf8, valid_up_to, error_len};
-ghost use Rattle.std.specs.Str.Lossy.{utf8_valid_len, utf8_error_len};
-ghost use Rattle.fx_terms.specs.Utf8.{StopsUtf8, utf8_fault};
+ghost use Rattle.std.specs.Str.{IsUtf8};
+ghost use Rattle.fx_terms.specs.Utf8.{StopsUtf8};
 ghost use Rattle.fx_terms.specs.declared.triples.Triple.{Triple as TripleParts};
 ghost use Rattle.fx_ntriples.specs.Reading as spec;
 ghost use Rattle.fx_ntriples.specs.Places as places;
@@ -13,10 +12,9 @@ ghost use Rattle.fx_ntriples.specs.Answers.{Answers, AnswersLines, Pushes, stopp
 
 use crate::faults::{Fault, NtError, Stop};
 use crate::lines::line;
-use fx_terms::{Graph, Memory, RecentIris, Triple};
+use fx_terms::blanks::is_line_end;
+use fx_terms::{Graph, Memory, RecentIris, Triple, read_utf8};
 use std::alloc::Global;
-use std::str;
-use std::str::Utf8Error;
 
 /// The graph that an N-Triples document is (RDF 1.1 N-Triples, section 7), in this project's profile: IRIs are absolute, there
 /// are no blank nodes, tags are kept in lower case, and blanks may stand on both sides of `^^`.
@@ -53,33 +51,13 @@ pub fn read_graph(alloc: Global, bytes: &[u8]) -> Result<Graph, NtError>
 fn read(alloc: Global, bytes: &[u8]) -> Result<Graph, NtError>
     ensures { Answers result (spec.read_document bytes.now) }
 {
-    match str::from_utf8(bytes) {
+    match read_utf8(bytes) {
         Ok(text) => graph(alloc, text),
-        Err(error) => {
+        Err(place) => {
             Err(NtError::BadUtf8 {
-                place: utf8_place(bytes, &error) as u64,
+                place: place as u64,
             })
         }
-    }
-}
-
-// Where bytes stop being UTF-8.
-fn utf8_place(bytes: &[u8], error: &Utf8Error) -> usize
-    requires valid { valid_up_to error.now ≡ utf8_valid_len bytes.now }
-    requires within { valid_up_to error.now < length bytes.now }
-    requires size { IsErrorLen bytes.now (valid_up_to error.now) (error_len error.now) }
-    requires fault { error_len error.now ≡ utf8_error_len (drop (valid_up_to error.now) bytes.now) }
-    ensures { result ≡ utf8_fault bytes.now }
-{
-    let start = error.valid_up_to();
-    let Some(size) = error.error_len() else {
-        return bytes.len();
-    };
-    let first = bytes[start];
-    if first >= 0xC2 && first <= 0xF4 {
-        start + size
-    } else {
-        start
     }
 }
 
@@ -175,16 +153,10 @@ fn line_end(bytes: &[u8], start: usize) -> usize
     ensures within { result ≤ length bytes.now }
 {
     let mut end = start;
-    while end < bytes.len() && !is_line_end(bytes[end]) {
+    while end < bytes.len() && !is_line_end(bytes[end] as char) {
         end += 1;
     }
     end
-}
-
-fn is_line_end(b: u8) -> bool
-    ensures { result ≡ spec.is_line_end b }
-{
-    b == b'\n' || b == b'\r'
 }
 
 fn at_place(bytes: &[u8], fault: Fault, start: usize, place: usize) -> NtError

@@ -1,4 +1,5 @@
 pub mod Answers
+pub mod Blanks
 pub mod Datatypes
 pub mod Escapes
 pub mod Graphs

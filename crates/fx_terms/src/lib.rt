@@ -4,6 +4,7 @@
 #![tactic(auto)]
 
 pub mod allocation;
+pub mod blanks;
 pub mod datatypes;
 pub mod escapes;
 pub mod graphs;
@@ -15,6 +16,7 @@ pub mod recent;
 mod tags;
 pub mod terms;
 pub mod triples;
+pub mod utf8;
 pub mod writing;
 
 pub use allocation::Memory;
@@ -27,6 +29,7 @@ pub use recent::RecentIris;
 pub use sqlite_items::{Boxed, Items};
 pub use terms::Term;
 pub use triples::Triple;
+pub use utf8::read_utf8;
 pub use writing::{write_iri, write_term};
 
 /// A call of this shows that a type may be shared between threads and sent to them.

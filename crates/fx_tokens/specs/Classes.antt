@@ -1,6 +1,7 @@
 -- Classes of characters: the productions 139 to 173 of SPARQL 1.1 section 19.8 that are one character long.
 use Rattle.std.specs.Prelude.{ℕ, Bool, not, ◌&&◌, ◌||◌, ◌==◌, nat_le, is_some}
 use Rattle.std.specs.Char.{is_ascii_hexdigit}
+pub use Rattle.fx_terms.specs.Blanks.{is_blank, is_line_end}
 use Rattle.fx_terms.specs.Escapes.{letter_escape}
 pub use Rattle.fx_terms.specs.Iris.{is_digit, is_letter}
 use Rattle.fx_terms.specs.Iris.{is_forbidden}
@@ -60,17 +61,13 @@ is_iri_scalar c = is_scalar c && is_iri_char c
 abbrev pub is_escape_letter : ℕ → Bool
 is_escape_letter c = is_some (letter_escape c)
 
--- LF and CR
-abbrev pub is_line_end : ℕ → Bool
-is_line_end c = c == 10 || c == 13
-
 -- what stands within a line, as in a comment
 abbrev pub is_in_line : ℕ → Bool
 is_in_line c = not (is_line_end c)
 
--- WS
+-- WS: a blank or a line end
 abbrev pub is_white_space : ℕ → Bool
-is_white_space c = c == 32 || (c == 9 || is_line_end c)
+is_white_space c = is_blank c || is_line_end c
 
 abbrev pub quote : QuoteMark → ℕ
 quote Single = 39

@@ -2,6 +2,7 @@
 ghost use Rattle.std.specs.Prelude.{◌≡◌};
 ghost use Rattle.fx_tokens.specs.Classes as class;
 
+use fx_terms::blanks::{is_blank, is_line_end};
 use fx_terms::escapes::letter_escape;
 use fx_terms::iris::is_forbidden;
 use fx_terms::names::{is_base_char, is_name_char, is_name_start};
@@ -132,23 +133,17 @@ fn is_local_escape(c: char) -> bool
     matches!(c, '#'..='/' | '!' | ';' | '=' | '?' | '@' | '_' | '~')
 }
 
-fn is_line_end(c: char) -> bool
-    ensures { result ≡ class.is_line_end c }
-{
-    c == '\n' || c == '\r'
-}
-
 fn is_in_line(c: char) -> bool
     ensures { result ≡ class.is_in_line c }
 {
     !is_line_end(c)
 }
 
-/// Whether a character is white space: a space, a tab or a line end.
+/// Whether a character is white space: a blank or a line end.
 pub(crate) fn is_white_space(c: char) -> bool
     ensures { result ≡ class.is_white_space c }
 {
-    c == ' ' || c == '\t' || is_line_end(c)
+    is_blank(c) || is_line_end(c)
 }
 
 fn is_long_plain(quote: char, c: char) -> bool
