@@ -13,5 +13,5 @@ pub mod refusals;
 
 pub use kinds::{Kind, Text, Token, is};
 pub use parts::{Annotation, Head, Limits, Main, Modifiers, Relative};
-pub use places::{Closing, Context, Service};
+pub use places::{Context, Service};
 pub use refusals::{SyntaxError, SyntaxKind};

@@ -1,4 +1,4 @@
-//! Where a token stands, and where its text ends.
+//! Where a token stands.
 
 /// Where a token stands: how many brackets are open before it, up to 64, and whether it is within a SERVICE.
 #[derive(Clone, Copy, PartialEq, Eq)]
@@ -15,11 +15,4 @@ pub enum Service {
     Named,
     /// Between its braces, before which so many brackets were open.
     Inside(u64),
-}
-
-/// The signs behind which a token ends.
-#[derive(Clone, Copy, PartialEq, Eq)]
-pub enum Closing {
-    One(char),
-    Three(char),
 }

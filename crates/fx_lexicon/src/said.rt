@@ -1,16 +1,14 @@
 //! What tokens say.
-ghost use Rattle.std.specs.Prelude.{◌≡◌, All, IfOk, string_bytes, drop};
-ghost use Rattle.std.specs.Str.{chars, encode_utf8_all};
+ghost use Rattle.std.specs.Prelude.{◌≡◌, All, IfOk};
+ghost use Rattle.std.specs.Str.{chars};
 ghost use Rattle.fx_tokens.specs.Reads.{IsSlice};
-ghost use Rattle.fx_tokens.specs.Answers.{left_number};
 ghost use Rattle.fx_grammar.specs.Classified as spec;
 
 use crate::keywords;
-use fx_grammar::{Closing, Context, Kind, Service, Text, Token, is};
-use fx_terms::escapes::letter_escape;
-use fx_terms::{Iri, Memory, Name, NameError, TermError};
-use fx_tokens::{TokenKind, four, split_first};
-use std::alloc::{AllocError, Global};
+use fx_grammar::{Context, Kind, Service, Text, Token, is};
+use fx_terms::{Memory, Name, NameError, TermError};
+use fx_tokens::{TokenKind, decoding};
+use std::alloc::Global;
 
 /// What the tokens of a text say, each in its place.
 pub fn classify(
@@ -143,11 +141,11 @@ fn token_of(alloc: Global, kind: TokenKind, text: &str) -> Result<Token, Memory>
     ensures { IfOk result (λ t. t ≡ spec.token_of kind text.now) }
 {
     match kind {
-        TokenKind::Iri => iri(alloc, behind_first(text)),
+        TokenKind::Iri => iri(alloc, text),
         TokenKind::PrefixName => prefix_name(alloc, text),
-        TokenKind::Variable => variable(alloc, behind_first(text)),
+        TokenKind::Variable => variable(alloc, decoding::behind_first(text)),
         TokenKind::Blank => Ok(Token::Plain(Kind::Blank)),
-        TokenKind::Tag => Ok(Token::Tag(Text::of(alloc, behind_first(text))?)),
+        TokenKind::Tag => Ok(Token::Tag(Text::of(alloc, decoding::behind_first(text))?)),
         TokenKind::Integer => Ok(Token::Integer(Text::of(alloc, text)?)),
         TokenKind::Signed => Ok(Token::Signed(Text::of(alloc, text)?)),
         TokenKind::Decimal => Ok(Token::Plain(Kind::Decimal)),
@@ -160,8 +158,7 @@ fn token_of(alloc: Global, kind: TokenKind, text: &str) -> Result<Token, Memory>
 fn iri(alloc: Global, text: &str) -> Result<Token, Memory>
     ensures { IfOk result (λ t. t ≡ spec.iri_of text.now) }
 {
-    let text = decoded(alloc, text, Closing::One('>'))?;
-    match Iri::read(alloc, text.as_str()) {
+    match decoding::iri(alloc, text) {
         Ok(iri) => Ok(Token::Iri(iri)),
         Err(TermError::Memory) => Err(Memory),
         Err(_) => Ok(Token::Plain(Kind::Relative)),
@@ -181,185 +178,16 @@ fn variable(alloc: Global, text: &str) -> Result<Token, Memory>
 fn quoted(alloc: Global, text: &str) -> Result<Token, Memory>
     ensures { IfOk result (λ t. t ≡ spec.quoted_of text.now) }
 {
-    let quote = first(text);
-    let text = if is_long(text.as_bytes()) {
-        let text = behind_first(behind_first(behind_first(text)));
-        decoded(alloc, text, Closing::Three(quote))?
-    } else {
-        decoded(alloc, behind_first(text), Closing::One(quote))?
-    };
+    let text = decoding::quoted(alloc, text)?;
     Ok(Token::Text(Text::of(alloc, text.as_str())?))
 }
 
-fn first(text: &str) -> char
-    ensures { result ≡ spec.first (chars text.now) }
-{
-    match split_first(text) {
-        Some((first, _)) => first,
-        None => '"',
-    }
-}
-
-// The text behind the first character.
-fn behind_first(text: &str) -> &str
-    ensures bytes { result.now ≡ spec.behind_first text.now }
-    ensures chars { chars result.now ≡ drop 1 (chars text.now) }
-{
-    match split_first(text) {
-        Some((_, rest)) => rest,
-        None => text,
-    }
-}
-
-fn is_long(text: &[u8]) -> bool
-    ensures { result ≡ spec.is_long text.now }
-{
-    match text {
-        [first, second, _, ..] => *first == *second,
-        _ => false,
-    }
-}
-
-// The text before its closing signs, with each escape as the character that it names.
-fn decoded(alloc: Global, text: &str, closing: Closing) -> Result<String, AllocError>
-    ensures { IfOk result (λ s. string_bytes s ≡ spec.decoded closing text.now) }
-{
-    let mut out = String::new(alloc);
-    let mut rest = text;
-    let mut left = text.len();
-    'each: while left > 0 {
-        left -= 1;
-        if closes(rest, closing) {
-            return Ok(out);
-        }
-        let Some((first, behind)) = split_first(rest) else {
-            return Ok(out);
-        };
-        let (named, behind) = next(first, behind);
-        out.push(named)?;
-        rest = behind;
-    }
-    Ok(out)
-}
-
-// A character, or the one that an escape names, and the text behind it.
-fn next(first: char, text: &str) -> (char, &str)
-    ensures { (result.0, chars result.1.now) ≡ spec.next first (chars text.now) }
-{
-    if first == '\\' {
-        escape(text)
-    } else {
-        (first, text)
-    }
-}
-
-// The closing signs stand at the front.
-fn closes(text: &str, closing: Closing) -> bool
-    ensures { result ≡ spec.closes closing (chars text.now) }
-{
-    match closing {
-        Closing::One(sign) => begins(text, sign),
-        Closing::Three(sign) => {
-            begins(text, sign)
-                && begins(behind_first(text), sign)
-                && begins(behind_first(behind_first(text)), sign)
-        }
-    }
-}
-
-fn begins(text: &str, sign: char) -> bool
-    ensures { result ≡ spec.begins sign (chars text.now) }
-{
-    match split_first(text) {
-        Some((first, _)) => first == sign,
-        None => false,
-    }
-}
-
-// The character that an escape names, and the text behind it; the text begins behind the backslash.
-fn escape(text: &str) -> (char, &str)
-    ensures { (result.0, chars result.1.now) ≡ spec.escape (chars text.now) }
-{
-    let Some((first, rest)) = split_first(text) else {
-        return ('\u{FFFD}', text);
-    };
-    if first == 'u' {
-        coded(four(rest, 0), rest)
-    } else if first == 'U' {
-        coded(eight(rest), rest)
-    } else {
-        (letter(first), rest)
-    }
-}
-
-fn eight(text: &str) -> Option<(u32, &str)>
-    ensures { left_number result ≡ spec.eight (chars text.now) }
-{
-    let (high, rest) = four(text, 0)?;
-    four(rest, high)
-}
-
-fn coded<'a>(code: Option<(u32, &'a str)>, text: &'a str) -> (char, &'a str)
-    ensures { (result.0, chars result.1.now) ≡ spec.coded (left_number code.entry) (chars text.entry.now) }
-{
-    match code {
-        Some((number, rest)) => (char_of(number), rest),
-        None => ('\u{FFFD}', text),
-    }
-}
-
-fn char_of(number: u32) -> char
-    ensures { result ≡ spec.char_of number }
-{
-    match char::from_u32(number) {
-        Some(c) => c,
-        None => '\u{FFFD}',
-    }
-}
-
-fn letter(c: char) -> char
-    ensures { result ≡ spec.letter c }
-{
-    letter_escape(c).unwrap_or(c)
-}
-
-// What stands before the colon, and behind it without its backslashes.
 fn prefix_name(alloc: Global, text: &str) -> Result<Token, Memory>
     ensures { IfOk result (λ t. t ≡ spec.prefix_name_of (chars text.now)) }
 {
-    let (prefix, rest) = prefix(alloc, text)?;
-    let local = local(alloc, rest)?;
+    let (prefix, local) = decoding::prefix_name(alloc, text)?;
     Ok(Token::PrefixName {
         prefix: Text::of(alloc, prefix.as_str())?,
         local: Text::of(alloc, local.as_str())?,
     })
-}
-
-fn prefix(alloc: Global, text: &str) -> Result<(String, &str), AllocError>
-    ensures { IfOk result (λ p. (string_bytes p.0 ≡ encode_utf8_all (spec.prefix (chars text.now))) × (chars p.1.now ≡ spec.behind_colon (chars text.now))) }
-{
-    let mut out = String::new(alloc);
-    let mut rest = text;
-    'each: while let Some((first, behind)) = split_first(rest) {
-        if first == ':' {
-            return Ok((out, behind));
-        }
-        out.push(first)?;
-        rest = behind;
-    }
-    Ok((out, rest))
-}
-
-fn local(alloc: Global, text: &str) -> Result<String, AllocError>
-    ensures { IfOk result (λ s. string_bytes s ≡ encode_utf8_all (spec.local (chars text.now))) }
-{
-    let mut out = String::new(alloc);
-    let mut rest = text;
-    'each: while let Some((first, behind)) = split_first(rest) {
-        if first != '\\' {
-            out.push(first)?;
-        }
-        rest = behind;
-    }
-    Ok(out)
 }

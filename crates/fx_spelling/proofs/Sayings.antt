@@ -13,19 +13,20 @@ use Rattle.fx_terms.specs.Iris.{read_iri}
 use Rattle.fx_terms.specs.Names as names
 use Rattle.fx_terms.specs.declared.iris.TermError.{TermError}
 use Rattle.fx_tokens.specs.Classes as class
+use Rattle.fx_tokens.specs.Decoding.{between_quotes, is_long, decoded, unescaped, closes, next, escape, coded, eight, letter, char_of, behind_first, first, local, behind_colon}
 use Rattle.fx_tokens.specs.Scan as scan
 use Rattle.fx_tokens.specs.Reads.{Reads, IsSlice}
 use Rattle.fx_tokens.specs.declared.Token as read
 use Rattle.fx_tokens.specs.declared.TokenKind.{TokenKind}
 use Rattle.fx_tokens.specs.declared.TokenKind.TheVariants as kind
+use Rattle.fx_tokens.specs.declared.decoding.Closing.{Closing}
+use Rattle.fx_tokens.specs.declared.decoding.Closing.TheVariants.{One as OneSign, Three}
 use Rattle.fx_tokens.proofs.Slices.{slices}
 use Rattle.fx_algebra.specs.declared.expressions.Compare.{Compare}
 use Rattle.fx_algebra.specs.declared.expressions.Function.{Function}
 use Rattle.fx_algebra.specs.declared.expressions.Function.TheVariants as function
-use Rattle.fx_grammar.specs.Classified.{token_of, says, iri_or, variable_of, between_quotes, is_long, decoded, unescaped, closes, next, escape, coded, eight, letter, char_of, behind_first, first, local, behind_colon}
+use Rattle.fx_grammar.specs.Classified.{token_of, says, iri_or, variable_of}
 use Rattle.fx_grammar.specs.Keywords as keywords
-use Rattle.fx_grammar.specs.declared.places.Closing.{Closing}
-use Rattle.fx_grammar.specs.declared.places.Closing.TheVariants.{One as OneSign, Three}
 use Rattle.fx_grammar.specs.declared.kinds.Kind.TheVariants as k
 use Rattle.fx_grammar.specs.declared.kinds.Token.{Token}
 use Rattle.fx_grammar.specs.declared.kinds.Token.TheVariants as token_is

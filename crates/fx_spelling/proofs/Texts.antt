@@ -13,16 +13,16 @@ use lib.Utf8.{scalar, scalars}
 use Rattle.fx_terms.specs.Literals.{is_dash, is_letters, is_letters_or_digits, are_tag_parts, is_tag}
 use Rattle.fx_terms.specs.Writing.{written_byte, written_form}
 use Rattle.fx_tokens.specs.Classes as class
+use Rattle.fx_tokens.specs.Decoding.{next, decoded, unescaped, escape, between_quotes, is_long, behind_first, first}
 use Rattle.fx_tokens.specs.Forms.{Repeat, none, more}
 use Rattle.fx_tokens.specs.Kinds as form
 use Rattle.fx_tokens.specs.Reads.{BeginsToken}
 use Rattle.fx_tokens.specs.Scan as scan
 use Rattle.fx_tokens.specs.declared.TokenKind.TheVariants as kind
+use Rattle.fx_tokens.specs.declared.decoding.Closing.TheVariants.{One as OneSign, Three}
 use Rattle.fx_tokens.specs.declared.kinds.Part.TheVariants as part
 use Rattle.fx_tokens.proofs.Readers.{skip_step, skip_end, skip_exact}
 use Rattle.fx_tokens.proofs.KindLaws.{part_step, text_part_unit}
-use Rattle.fx_grammar.specs.Classified.{next, decoded, unescaped, escape, between_quotes, is_long, behind_first, first}
-use Rattle.fx_grammar.specs.declared.places.Closing.TheVariants.{One as OneSign, Three}
 use Rattle.fx_grammar.specs.declared.kinds.Kind.TheVariants as k
 use Rattle.fx_grammar.specs.declared.kinds.Token.TheVariants as token
 use Rattle.fx_spelling.proofs.Pieces.{Reading}

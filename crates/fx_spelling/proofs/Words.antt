@@ -14,15 +14,16 @@ use Rattle.fx_terms.specs.Iris.{is_forbidden, read_iri, IsIri}
 use Rattle.fx_terms.proofs.IriLemmas.{iri_bytes}
 use Rattle.fx_tokens.specs.Answers.{width}
 use Rattle.fx_tokens.specs.Classes as class
+use Rattle.fx_tokens.specs.Decoding.{next, decoded, unescaped, escape, behind_first}
 use Rattle.fx_tokens.specs.Reads.{BeginsToken}
 use Rattle.fx_tokens.specs.Scan as scan
 use Rattle.fx_tokens.specs.declared.TokenKind.TheVariants as kind
 use Rattle.fx_tokens.specs.declared.TokenKind.{TokenKind}
+use Rattle.fx_tokens.specs.declared.decoding.Closing.TheVariants.{One as OneSign}
 use Rattle.fx_tokens.specs.declared.kinds.Part.TheVariants as part
 use Rattle.fx_tokens.proofs.Readers.{IsStep, step, unit_one, skip_step, skip_end, width_behind}
 use Rattle.fx_tokens.proofs.KindLaws.{part_step}
-use Rattle.fx_grammar.specs.Classified.{variable_of, next, iri_or, decoded, unescaped, escape, behind_first}
-use Rattle.fx_grammar.specs.declared.places.Closing.TheVariants.{One as OneSign}
+use Rattle.fx_grammar.specs.Classified.{variable_of, iri_or}
 use Rattle.fx_spelling.specs.Printable.{fixed_token}
 use Rattle.fx_grammar.specs.declared.kinds.Token.TheVariants as token
 use Rattle.fx_spelling.proofs.Pieces.{Reading, space_chars}

@@ -1,7 +1,8 @@
 //! The calls of `fx_tokens`.
 
 use fx_notation::{escapes, fields, shown};
-use fx_tokens::{Token, TokenError, TokenFault, TokenKind, four, split_first, tokens};
+use fx_terms::TermError;
+use fx_tokens::{Token, TokenError, TokenFault, TokenKind, decoding, tokens};
 use std::alloc::Global;
 use std::fmt::Write;
 
@@ -10,8 +11,11 @@ pub fn answer(alloc: Global, call: &str, inputs: &[&str]) -> Option<String> {
     match (call, inputs) {
         ("tokens", [text]) => read(alloc, text),
         ("tokens of repeated", [piece, times]) => count(alloc, piece, times),
-        ("split_first", [text]) => split(alloc, text),
-        ("four", [high, text]) => four_digits(alloc, high, text),
+        ("decoding::iri", [text]) => decoded_iri(alloc, text),
+        ("decoding::iri_text", [text]) => iri_text(alloc, text),
+        ("decoding::quoted", [text]) => quoted(alloc, text),
+        ("decoding::prefix_name", [text]) => prefix_name(alloc, text),
+        ("decoding::behind_first", [text]) => shown::word(alloc, decoding::behind_first(text)),
         _ => None,
     }
 }
@@ -81,17 +85,30 @@ fn count_text(alloc: Global, text: &str) -> Option<String> {
     format!(in alloc; "{count} tokens").ok()
 }
 
-fn split(alloc: Global, text: &str) -> Option<String> {
-    match split_first(text) {
-        Some((first, rest)) => format!(in alloc; "{first}, then {rest}").ok(),
-        None => shown::word(alloc, "None"),
+fn decoded_iri(alloc: Global, field: &str) -> Option<String> {
+    let text = escapes::text(alloc, field)?;
+    match decoding::iri(alloc, text.as_str()) {
+        Ok(iri) => shown::word(alloc, iri.text()),
+        Err(TermError::BadCharacter { place }) => {
+            format!(in alloc; "BadCharacter at {place}").ok()
+        }
+        Err(TermError::Relative) => shown::word(alloc, "Relative"),
+        Err(TermError::Memory) => None,
     }
 }
 
-fn four_digits(alloc: Global, high: &str, text: &str) -> Option<String> {
-    let high = high.parse::<u16>().ok()?;
-    match four(text, u32::from(high)) {
-        Some((number, rest)) => format!(in alloc; "{number}, then {rest}").ok(),
-        None => shown::word(alloc, "None"),
-    }
+fn iri_text(alloc: Global, field: &str) -> Option<String> {
+    let text = escapes::text(alloc, field)?;
+    decoding::iri_text(alloc, text.as_str()).ok()
+}
+
+fn quoted(alloc: Global, field: &str) -> Option<String> {
+    let text = escapes::text(alloc, field)?;
+    decoding::quoted(alloc, text.as_str()).ok()
+}
+
+fn prefix_name(alloc: Global, field: &str) -> Option<String> {
+    let text = escapes::text(alloc, field)?;
+    let (prefix, local) = decoding::prefix_name(alloc, text.as_str()).ok()?;
+    format!(in alloc; "{prefix}, then {local}").ok()
 }

@@ -4,4 +4,5 @@ pub mod One
 pub mod Readers
 pub mod Runs
 pub mod Slices
+pub mod TextLaws
 pub mod Turns

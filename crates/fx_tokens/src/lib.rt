@@ -6,6 +6,7 @@
 #![tactic(auto)]
 
 mod classes;
+pub mod decoding;
 mod kinds;
 mod parts;
 mod reading;
@@ -17,10 +18,9 @@ ghost use Rattle.fx_tokens.specs.Reads.{Reads, IsSlice, RiseFrom};
 
 use crate::classes::{Class, is_white_space};
 use crate::kinds::barren_behind;
-use crate::parts::{skip, width};
+use crate::parts::{skip, split_first, width};
 use crate::reading::{fault, longest};
 use fx_terms::shareable;
-pub use parts::{four, split_first};
 use std::alloc::{AllocError, AllocFailed, Global};
 
 /// What a token is.

@@ -10,7 +10,7 @@ use crate::classes::Class;
 use fx_terms::escapes::digit_value;
 
 /// The first character, and the text behind it.
-pub fn split_first(text: &str) -> Option<(char, &str)>
+pub(crate) fn split_first(text: &str) -> Option<(char, &str)>
     ensures { MatchOption result (chars text.now ≡ []) (λ p. chars text.now ≡ p.0 ∷ chars p.1.now) }
 {
     let mut chars = text.chars();
@@ -120,7 +120,7 @@ fn fits(number: u32, in_iri: bool) -> bool
 
 /// The number of four hexadecimal digits behind a higher part, and the text behind them.
 #[tactic(auto, unfolding(crate::specs::Scan::hexes))]
-pub fn four(text: &str, high: u32) -> Option<(u32, &str)>
+pub(crate) fn four(text: &str, high: u32) -> Option<(u32, &str)>
     requires { high < 65536 }
     ensures value { left_number result ≡ scan.hexes 4 high (chars text.now) }
     ensures bound { high ≡ 0 → IfSome result (λ p. p.0 < 65536) }

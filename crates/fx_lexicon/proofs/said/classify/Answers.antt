@@ -1,7 +1,7 @@
 use Rattle.std.proofs.Common.{ap, ◌∙◌}
 use Rattle.std.proofs.lemmas.List.{drop_all}
 use Rattle.fx_grammar.specs.Classified.{token_of}
-use Rattle.fx_lexicon.proofs.TextLaws.{placed_turn, placed_end}
+use Rattle.fx_lexicon.proofs.PlaceLaws.{placed_turn, placed_end}
 use Rattle.fx_lexicon.proofs.said.classify.Goals as goal
 
 pub loop-token-preserved : goal.loop-token-preserved

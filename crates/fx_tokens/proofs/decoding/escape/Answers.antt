@@ -1,8 +1,8 @@
 use Rattle.std.proofs.Common.{ap, sym, ◌∙◌}
 use Rattle.std.specs.Str.{chars}
-use Rattle.fx_grammar.specs.Classified.{coded}
-use Rattle.fx_lexicon.proofs.TextLaws.{escape_none, escape_short, escape_long, escape_letter}
-use Rattle.fx_lexicon.proofs.said.escape.Goals as goal
+use Rattle.fx_tokens.specs.Decoding.{coded}
+use Rattle.fx_tokens.proofs.TextLaws.{escape_none, escape_short, escape_long, escape_letter}
+use Rattle.fx_tokens.proofs.decoding.escape.Goals as goal
 
 pub returns-in_default : goal.returns-in_default
 returns-in_default c = escape_none _ c.in_default.ensures

@@ -3,14 +3,13 @@ use denote.Text.{Utf8}
 use denote.Shadow.{shadow}
 use Rattle.std.specs.Prelude.{string_bytes}
 use Rattle.std.specs.Str.{chars, encode_utf8_all}
-use Rattle.fx_grammar.specs.Classified.{prefix, behind_colon}
-use Rattle.fx_lexicon.proofs.said.prefix.Given as goal
+use Rattle.fx_tokens.specs.Decoding.{local}
+use Rattle.fx_tokens.proofs.decoding.local.Given as goal
 
 abbrev pub invariant-each : goal.invariant-each
 invariant-each l = record {
   utf8 : shadow (Utf8 l.rest);
-  same : string_bytes l.out ++ encode_utf8_all (prefix (chars l.rest)) ≡ encode_utf8_all (prefix (chars l.text));
-  behind : behind_colon (chars l.rest) ≡ behind_colon (chars l.text);
+  same : string_bytes l.out ++ encode_utf8_all (local (chars l.rest)) ≡ encode_utf8_all (local (chars l.text));
 }
 
 abbrev pub decreases-each : goal.decreases-each

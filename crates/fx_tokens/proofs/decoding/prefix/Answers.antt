@@ -1,7 +1,7 @@
 use Rattle.std.proofs.Common.{rules, sym, ◌∙◌}
 use Rattle.std.specs.Str.{chars}
-use Rattle.fx_lexicon.proofs.TextLaws.{prefix_none, prefix_more, prefix_end, written, ended}
-use Rattle.fx_lexicon.proofs.said.prefix.Goals as goal
+use Rattle.fx_tokens.proofs.TextLaws.{prefix_none, prefix_more, prefix_end, written, ended}
+use Rattle.fx_tokens.proofs.decoding.prefix.Goals as goal
 
 pub returns-then-first-eq58 : goal.returns-then-first-eq58
 returns-then-first-eq58 c =

@@ -1,6 +1,6 @@
 use Rattle.std.proofs.Common.{rules}
-use Rattle.fx_lexicon.proofs.TextLaws.{past_first, past_none}
-use Rattle.fx_lexicon.proofs.said.behind_first.Goals as goal
+use Rattle.fx_tokens.proofs.TextLaws.{past_first, past_none}
+use Rattle.fx_tokens.proofs.decoding.behind_first.Goals as goal
 
 pub returns-in-Some-clause-bytes : goal.returns-in-Some-clause-bytes
 returns-in-Some-clause-bytes c = past_first _ _ _ (search rules) c.in-Some.ensures

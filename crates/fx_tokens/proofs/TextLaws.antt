@@ -1,18 +1,13 @@
 -- How the characters of a token's text are read.
-use Rattle.std.proofs.Common.{◌≡◌, ℕ, zero, suc, ◌<◌, ◌≤◌, ◌+◌, ◌-◌, Bool, true, false, List, [], ◌∷◌, ◌++◌, length, map, drop, get_or, drop-cons, add-one, refl, sym, ap, ◌∙◌, subst, arith, append_assoc, append-nil, sub-one}
+use Rattle.std.proofs.Common.{◌≡◌, ℕ, zero, suc, ◌<◌, ◌≤◌, ◌-◌, Bool, true, false, List, [], ◌∷◌, ◌++◌, drop, refl, sym, ap, ◌∙◌, subst, arith, append_assoc, append-nil, sub-one}
 use Rattle.std.specs.Bool.{◌==◌}
 use Rattle.std.specs.Prelude.{encode_utf8}
 use Rattle.std.specs.Str.{chars, encode_utf8_all, IsUtf8}
 use Rattle.std.proofs.lemmas.Bool.{eqb-true}
 use Rattle.std.proofs.lemmas.Str.{encodes-chars}
 use Rattle.fx_tokens.specs.Scan.{hexes}
-use Rattle.fx_grammar.specs.Classified.{coded, eight, letter, escape, closes, next, unescaped, behind_first, prefix, behind_colon, local}
-use Rattle.fx_tokens.specs.declared.Token as read
-use Rattle.fx_grammar.specs.Kinds.{kind_of}
-use Rattle.fx_grammar.specs.Classified.{says, placed, behind, all_placed}
-use Rattle.fx_grammar.specs.declared.places.Closing.{Closing}
-use Rattle.fx_grammar.specs.declared.places.Context.{Context}
-use Rattle.fx_grammar.specs.declared.kinds.Token.{Token}
+use Rattle.fx_tokens.specs.Decoding.{coded, eight, letter, escape, closes, next, unescaped, behind_first, prefix, behind_colon, local}
+use Rattle.fx_tokens.specs.declared.decoding.Closing.{Closing}
 
 pub not_equal : (a b : ℕ) → (a ≡ b → ⊥) → (a == b) ≡ false
 not_equal a b n = go (a == b) refl
@@ -104,20 +99,3 @@ local_more text rest c e h = rw (e, not_equal c 92 h) refl
 pub local_skip : (text rest : List ℕ) (c : ℕ) → text ≡ c ∷ rest → c ≡ 92 → local text ≡ local rest
 unfolding local
 local_skip text rest c e h = rw (e, h) refl
-
--- ---- tokens in their places
-
--- one more token is placed
-pub placed_turn : (context : Context) (said : List Token) (text : List ℕ) (ts : List read.Token) (i : ℕ) (d : read.Token) (w : Token) → i < length ts → w ≡ says text (get_or ts i d)
-    → (said ++ placed context w ∷ []) ++ all_placed (behind context (kind_of w)) (map (says text) (drop (i + 1) ts)) ≡ said ++ all_placed context (map (says text) (drop i ts))
-unfolding all_placed
-placed_turn context said text ts i d w h e =
-    let rest = λ (v : Token) (n : ℕ). placed context v ∷ all_placed (behind context (kind_of v)) (map (says text) (drop n ts)) in
-    let step : all_placed context (map (says text) (drop i ts)) ≡ rest w (i + 1) =
-    ap (λ l. all_placed context (map (says text) l)) (drop-cons ts i d h) ∙ ap (λ v. rest v (suc i)) (sym e) ∙ ap (rest w) (sym (add-one i)) in
-    append_assoc said (placed context w ∷ []) (all_placed (behind context (kind_of w)) (map (says text) (drop (i + 1) ts))) ∙ ap (λ s. said ++ s) (sym step)
-
-pub placed_end : (context : Context) (said : List Token) (text : List ℕ) (ts : List read.Token) (i : ℕ) (all : List Token) → drop i ts ≡ []
-    → said ++ all_placed context (map (says text) (drop i ts)) ≡ all → said ≡ all
-unfolding all_placed
-placed_end context said text ts i all e h = sym (append-nil said) ∙ ap (λ s. said ++ all_placed context (map (says text) s)) (sym e) ∙ h

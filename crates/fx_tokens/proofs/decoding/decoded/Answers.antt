@@ -1,8 +1,8 @@
 use Rattle.std.proofs.Common.{rules, sym, ap, ◌∙◌, ◌∷◌, ◌-◌}
 use Rattle.std.specs.Str.{chars}
-use Rattle.fx_grammar.specs.Classified.{unescaped}
-use Rattle.fx_lexicon.proofs.TextLaws.{unescaped_none, unescaped_last, unescaped_closed, unescaped_more, written, ended}
-use Rattle.fx_lexicon.proofs.said.decoded.Goals as goal
+use Rattle.fx_tokens.specs.Decoding.{unescaped}
+use Rattle.fx_tokens.proofs.TextLaws.{unescaped_none, unescaped_last, unescaped_closed, unescaped_more, written, ended}
+use Rattle.fx_tokens.proofs.decoding.decoded.Goals as goal
 
 pub returns-then-closes : goal.returns-then-closes
 returns-then-closes c = ended _ _ _ (unescaped_closed c.args.closing c.each.left (chars c.each.rest.now) (sym c.closes.ensures ∙ c.if-closes.true)) c.each.invariant.same

@@ -1,8 +1,8 @@
 use Rattle.std.proofs.Common.{rules, sym, ap, ◌∙◌, ◌++◌}
 use Rattle.std.specs.Prelude.{string_bytes}
 use Rattle.std.specs.Str.{chars, encode_utf8_all}
-use Rattle.fx_lexicon.proofs.TextLaws.{local_none, local_more, local_skip, written, ended}
-use Rattle.fx_lexicon.proofs.said.local.Goals as goal
+use Rattle.fx_tokens.proofs.TextLaws.{local_none, local_more, local_skip, written, ended}
+use Rattle.fx_tokens.proofs.decoding.local.Goals as goal
 
 pub each-preserved-in_ok-push : goal.each-preserved-in_ok-push
 each-preserved-in_ok-push c = record {
