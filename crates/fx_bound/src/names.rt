@@ -1,12 +1,11 @@
 //! The variables of a unit, and their other names.
 ghost use Rattle.std.specs.Prelude.{◌≡◌, ◌++◌, ◌<◌, ◌^◌, [], fold, IfOk, length, OnOk, string_bytes};
 ghost use Rattle.std.specs.Fmt.{decimal};
-ghost use Rattle.fx_terms.specs.Names.{IsName};
 ghost use Rattle.fx_algebra.specs.BasicGraphPatterns.{variables};
 ghost use Rattle.fx_algebra.specs.Scopes.{once, part_names, pattern_names, with_name};
 ghost use Rattle.fx_bound.specs.Reading as spec;
 
-use fx_terms::{Memory, Name, NameError, Pattern, PatternTerm};
+use fx_terms::{Memory, Name, Pattern, PatternTerm};
 use indexmap::IndexSet;
 use itoa::Buffer;
 use std::alloc::Global;
@@ -96,7 +95,7 @@ pub(crate) fn sent_name(alloc: Global, place: usize, branch: u32) -> Result<Name
 {
     let mut text = String::new(alloc);
     push_sent(&mut text, place, branch)?;
-    name_of(alloc, text.as_str())
+    Name::known(alloc, text.as_str())
 }
 
 /// The column of a branch in which no variable is left.
@@ -106,7 +105,7 @@ pub(crate) fn check_name(alloc: Global, branch: u32) -> Result<Name, Memory>
     let mut text = String::new(alloc);
     text.push_str("k_")?;
     push_decimal(&mut text, branch as u64)?;
-    name_of(alloc, text.as_str())
+    Name::known(alloc, text.as_str())
 }
 
 /// The other name of a variable, behind a text.
@@ -125,16 +124,4 @@ fn push_decimal(text: &mut String, number: u64) -> Result<(), Memory>
     let mut buffer = Buffer::new();
     text.push_str(buffer.format(number))?;
     Ok(())
-}
-
-// The name that a text is, where it is known to be one.
-fn name_of(alloc: Global, text: &str) -> Result<Name, Memory>
-    requires { IsName text.now }
-    ensures { IfOk result (λ name. name ≡ text.now) }
-{
-    match Name::read(alloc, text) {
-        Ok(name) => Ok(name),
-        Err(NameError::Memory) => Err(Memory),
-        Err(NameError::BadName) => unreachable!(),
-    }
 }

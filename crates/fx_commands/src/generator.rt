@@ -7,7 +7,7 @@ ghost use Rattle.fx_commands.specs.Generator as spec;
 ghost use Rattle.fx_commands.specs.GeneratorSteps.{at_addresses};
 
 use fx_terms::datatypes::XSD_INTEGER;
-use fx_terms::{Graph, Iri, Literal, LiteralError, Memory, Term, TermError, Triple};
+use fx_terms::{Graph, Iri, Literal, LiteralError, Memory, Term, Triple};
 use itoa::Buffer;
 use std::alloc::Global;
 
@@ -34,7 +34,7 @@ fn push_member(
     requires address { read_iri address.now ≡ Ok address.now }
     ensures { OnOk result (members.new.items ≡ members.old.items ++ (address.now, spec.member_graph size member) ∷ []) }
 {
-    let address = iri(alloc, address)?;
+    let address = Iri::known(alloc, address)?;
     let graph = Graph::of(held(alloc, size, member)?)?;
     members.push((address, graph))?;
     Ok(())
@@ -107,7 +107,7 @@ fn link(alloc: Global, size: u32, number: u32) -> Result<Triple, Memory>
     ensures { IfOk result (λ triple. triple ≡ spec.link size number) }
 {
     let subject = person(alloc, number)?;
-    let predicate = iri(alloc, "http://g/knows")?;
+    let predicate = Iri::known(alloc, "http://g/knows")?;
     let object = Term::Iri(person(alloc, (number + 1) % size)?);
     Ok(Triple {
         subject,
@@ -120,7 +120,7 @@ fn aged(alloc: Global, number: u32) -> Result<Triple, Memory>
     ensures { IfOk result (λ triple. triple ≡ spec.aged number) }
 {
     let subject = person(alloc, number)?;
-    let predicate = iri(alloc, "http://g/age")?;
+    let predicate = Iri::known(alloc, "http://g/age")?;
     let object = Term::Literal(integer(alloc, number % 90)?);
     Ok(Triple {
         subject,
@@ -135,7 +135,7 @@ fn person(alloc: Global, number: u32) -> Result<Iri, Memory>
     let mut text = String::new(alloc);
     text.push_str("http://g/p")?;
     push_number(&mut text, number as u64)?;
-    iri(alloc, text.as_str())
+    Iri::known(alloc, text.as_str())
 }
 
 fn integer(alloc: Global, number: u32) -> Result<Literal, Memory>
@@ -143,25 +143,12 @@ fn integer(alloc: Global, number: u32) -> Result<Literal, Memory>
 {
     let mut form = String::new(alloc);
     push_number(&mut form, number as u64)?;
-    let datatype = iri(alloc, XSD_INTEGER)?;
+    let datatype = Iri::known(alloc, XSD_INTEGER)?;
     match Literal::typed(alloc, form.as_str(), &datatype) {
         Ok(literal) => Ok(literal),
         Err(LiteralError::Memory) => Err(Memory),
         Err(LiteralError::NeedsTag) => unreachable!(),
         Err(LiteralError::BadTag) => unreachable!(),
-    }
-}
-
-// The IRI that a text is, where it is known to be one.
-fn iri(alloc: Global, text: &str) -> Result<Iri, Memory>
-    requires { read_iri text.now ≡ Ok text.now }
-    ensures { IfOk result (λ iri. iri ≡ text.now) }
-{
-    match Iri::read(alloc, text) {
-        Ok(iri) => Ok(iri),
-        Err(TermError::Memory) => Err(Memory),
-        Err(TermError::Relative) => unreachable!(),
-        Err(TermError::BadCharacter { place: _ }) => unreachable!(),
     }
 }
 

@@ -7,7 +7,7 @@ ghost use Rattle.fx_terms.specs.declared.terms.Term.TheVariants as term;
 ghost use Rattle.fx_algebra.specs.Values as spec;
 
 use fx_terms::datatypes::{XSD_BOOLEAN, XSD_INTEGER};
-use fx_terms::{Iri, Literal, LiteralError, Memory, Term, TermError};
+use fx_terms::{Iri, Literal, LiteralError, Memory, Term};
 use itoa::Buffer;
 use std::alloc::Global;
 
@@ -47,11 +47,7 @@ fn typed(alloc: Global, form: &str, datatype: &str) -> Result<Term, Memory>
     requires untagged { bytes_eq datatype.now lang_string ≡ false }
     ensures { IfOk result (λ t. t ≡ term.Literal (record { form = form.now; datatype = datatype.now; tag = [] })) }
 {
-    let datatype = match Iri::read(alloc, datatype) {
-        Ok(iri) => iri,
-        Err(TermError::Memory) => return Err(Memory),
-        Err(_) => unreachable!(),
-    };
+    let datatype = Iri::known(alloc, datatype)?;
     match Literal::typed(alloc, form, &datatype) {
         Ok(literal) => Ok(Term::Literal(literal)),
         Err(LiteralError::Memory) => Err(Memory),

@@ -64,7 +64,7 @@ fn read(alloc: Global, bytes: &[u8]) -> Result<Graph, NtError>
 fn graph(alloc: Global, text: &str) -> Result<Graph, NtError>
     ensures { Answers result (spec.answered text.now (spec.read_lines 0 (slice_split spec.is_line_end text.now))) }
 {
-    let Ok(mut recent) = RecentIris::none(alloc) else {
+    let Ok(mut recent) = RecentIris::of_document(alloc, text.len()) else {
         return Err(NtError::Memory);
     };
     match triples(alloc, text, &mut recent) {

@@ -9,6 +9,6 @@ mod readers;
 pub use faults::Fault;
 pub use prefixes::Prefixes;
 pub use readers::{
-    comparison, iri_name, known, lacks, literal, mark, one_function, refuse, sees, sees_iri_name,
+    comparison, iri_name, lacks, literal, mark, one_function, refuse, sees, sees_iri_name,
     sees_literal, signed, two_function, variable,
 };

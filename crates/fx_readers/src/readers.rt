@@ -337,20 +337,8 @@ fn constant(alloc: Global, form: &str, datatype: &str) -> Result<Boxed<Term>, Me
     requires other { bytes_eq datatype.now lang_string ≡ false }
     ensures { IfOk result (λ t. t ≡ Term.Literal (grammar.typed_parts form.now datatype.now)) }
 {
-    let datatype = known(alloc, datatype)?;
+    let datatype = Iri::known(alloc, datatype)?;
     with_datatype(alloc, form, &datatype)
-}
-
-/// The IRI that a text is, where it is known to be one.
-pub fn known(alloc: Global, text: &str) -> Result<Iri, Memory>
-    requires { read_iri text.now ≡ Ok text.now }
-    ensures { IfOk result (λ iri. iri ≡ text.now) }
-{
-    match Iri::read(alloc, text) {
-        Ok(iri) => Ok(iri),
-        Err(TermError::Memory) => Err(Memory),
-        Err(_) => unreachable!(),
-    }
 }
 
 fn is_plain_literal(kind: Kind) -> bool

@@ -1,18 +1,15 @@
 -- What a line of a registry says.
-use Rattle.std.specs.Prelude.{ℕ, Bool, false, List, [], ◌∷◌, length, Option, Some, None, Ok, Err, option_map, ◌&&◌, ◌||◌, ◌==◌, not, filter, if◌then◌else◌}
+use Rattle.std.specs.Prelude.{ℕ, Bool, false, List, [], ◌∷◌, length, Option, Some, None, Ok, Err, option_map, ◌&&◌, ◌==◌, not, filter, if◌then◌else◌}
 use Rattle.std.specs.List.{slice_split}
 use Rattle.std.specs.Str.{is_utf8}
 use Rattle.url.specs.Parser.{Parsed, parse_url}
 use Rattle.url.specs.Parts.{Parts, nonempty_host}
 use Rattle.url.specs.Host.{host_text}
+pub use Rattle.fx_terms.specs.Blanks.{is_blank}
 use Rattle.fx_outside.specs.Endpoints.{EndpointParts, is_sendable}
 use Rattle.fx_sources.specs.Addresses.{is_name, is_iri, is_plain, endpoint_at}
 use Rattle.fx_sources.specs.declared.lines.Line.{Line}
 use Rattle.fx_sources.specs.declared.lines.Line.TheVariants.{Passed, Entry, Malformed}
-
--- a space or a tab
-abbrev pub is_blank : ℕ → Bool
-is_blank b = b == 32 || b == 9
 
 abbrev pub is_word : List ℕ → Bool
 is_word part = not (length part == 0)

@@ -1,6 +1,5 @@
 //! Keys of patterns, under which answers to ASK are remembered.
 ghost use Rattle.std.specs.Prelude.{◌≡◌, ◌++◌, IfOk, OnOk, Ok, string_bytes};
-ghost use Rattle.fx_terms.specs.Names.{read_name as name_of};
 ghost use Rattle.fx_algebra.specs.Scopes.{once as once_each, part_names, pattern_names};
 ghost use Rattle.fx_sources.specs.Keys as spec;
 ghost use Rattle.fx_sources.specs.Probes.{key_of};
@@ -134,20 +133,9 @@ fn numbered(alloc: Global, number: usize) -> Result<Name, Memory>
     ensures { IfOk result (λ name. name ≡ spec.numbered number) }
 {
     match number {
-        0 => read_name(alloc, "v0"),
-        1 => read_name(alloc, "v1"),
-        _ => read_name(alloc, "v2"),
-    }
-}
-
-// The name that a text is, where it is known to be one.
-fn read_name(alloc: Global, text: &str) -> Result<Name, Memory>
-    requires { name_of text.now ≡ Ok text.now }
-    ensures { IfOk result (λ name. name ≡ text.now) }
-{
-    match Name::read(alloc, text) {
-        Ok(name) => Ok(name),
-        Err(_) => Err(Memory),
+        0 => Name::known(alloc, "v0"),
+        1 => Name::known(alloc, "v1"),
+        _ => Name::known(alloc, "v2"),
     }
 }
 

@@ -5,6 +5,8 @@ ghost use Rattle.std.specs.Str.Lines.{lines, strip_carriage_return};
 ghost use Rattle.fx_sources.specs.Lines.{words};
 ghost use Rattle.fx_sources.specs.Lines as spec;
 
+use fx_terms::blanks::is_blank;
+
 // The first line, without its end, and what is behind it.
 pub fn first_line(text: &[u8]) -> (&[u8], &[u8])
     requires { 0 < length text.now }
@@ -78,16 +80,10 @@ fn blank_place(line: &[u8]) -> usize
 {
     let mut place = 0;
     for b in line {
-        if is_blank(*b) {
+        if is_blank(*b as char) {
             return place;
         }
         place += 1;
     }
     place
-}
-
-fn is_blank(b: u8) -> bool
-    ensures { result ≡ spec.is_blank b }
-{
-    b == b' ' || b == b'\t'
 }

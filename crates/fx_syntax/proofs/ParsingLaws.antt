@@ -1,8 +1,7 @@
 -- A text has one answer.
 use Rattle.std.proofs.Common.{◌≡◌, ℕ, suc, map, ◌-◌, ◌≤◌, List, [], ◌∷◌, length, get_or, drop-cons, arith, Result, Ok, Err, inl, inr, refl, sym, ap, ◌∙◌, subst}
 use Rattle.std.specs.Str.{chars, IsUtf8}
-use Rattle.fx_terms.specs.Utf8.{StopsUtf8, utf8_fault}
-use Rattle.fx_terms.proofs.Utf8Stops.{stops_there}
+use Rattle.fx_terms.specs.Utf8.{StopsUtf8}
 use Rattle.fx_tokens.specs.Reads.{Reads}
 use Rattle.fx_tokens.specs.declared.Token as read
 use Rattle.fx_tokens.specs.declared.TokenError.{TokenError}
@@ -47,8 +46,8 @@ accepted_answered bytes q a = record { found = a; only = λ p b. one_query_holds
 
 -- ---- bytes that aren't UTF-8, a text that isn't tokens, and tokens
 
-pub utf8_answered : (bytes : List ℕ) (place : ℕ) → (IsUtf8 bytes → ⊥) → place ≡ utf8_fault bytes → IsAnswer bytes (Err (Refused BadUtf8 place))
-utf8_answered bytes place n is = refused_answered bytes BadUtf8 place (not_utf8 (subst (StopsUtf8 bytes) (sym is) (stops_there bytes n)) refl)
+pub utf8_answered : (bytes : List ℕ) (place : ℕ) → StopsUtf8 bytes place → IsAnswer bytes (Err (Refused BadUtf8 place))
+utf8_answered bytes place h = refused_answered bytes BadUtf8 place (not_utf8 h refl)
 
 pub error_answered : (bytes : List ℕ) (e : TokenError) → IsUtf8 bytes → UnlessMemory e (Reads 0 (chars bytes) (Err e)) → (s : SyntaxError) → s ≡ bad_token e → IsAnswer bytes (Err s)
 error_answered bytes (Bad place fault) u r s is = rw is (refused_answered bytes BadToken place (no_token u fault r refl))

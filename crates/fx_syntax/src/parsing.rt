@@ -1,9 +1,6 @@
 //! The query that a text is.
 
-ghost use Rattle.std.specs.Prelude.{◌≡◌, ◌⊎◌, ℕ, ◌<◌, ◌≤◌, All, length, drop, IfOk, IfErr, MatchResult};
-ghost use Rattle.std.specs.Str.{IsErrorLen, valid_up_to, error_len};
-ghost use Rattle.std.specs.Str.Lossy.{utf8_valid_len, utf8_error_len};
-ghost use Rattle.fx_terms.specs.Utf8 as utf8;
+ghost use Rattle.std.specs.Prelude.{◌≡◌, ◌⊎◌, ℕ, ◌≤◌, All, length, IfOk, IfErr, MatchResult};
 ghost use Rattle.fx_algebra.specs.declared.queries.Query.{Query as QueryTree};
 ghost use Rattle.fx_tokens.specs.Reads.{IsSlice};
 ghost use Rattle.fx_grammar.specs.declared.refusals.SyntaxKind.{SyntaxKind as Kind};
@@ -16,10 +13,9 @@ use fx_algebra::Query;
 use fx_grammar::{SyntaxError, SyntaxKind};
 use fx_lexicon::classify;
 use fx_readers::Fault;
+use fx_terms::read_utf8;
 use fx_tokens::{Token, TokenError, tokens};
 use std::alloc::Global;
-use std::str;
-use std::str::Utf8Error;
 
 /// The query that a text is (SPARQL 1.1 section 19.8, in this project's profile).
 ///
@@ -46,34 +42,14 @@ pub fn parse(alloc: Global, bytes: &[u8]) -> Result<Query, SyntaxError>
 fn parse_bytes(alloc: Global, bytes: &[u8]) -> Result<Query, SyntaxError>
     ensures { answers.IsAnswer bytes.now result }
 {
-    match str::from_utf8(bytes) {
+    match read_utf8(bytes) {
         Ok(text) => parse_text(alloc, text),
-        Err(error) => {
+        Err(place) => {
             Err(SyntaxError::Refused {
                 kind: SyntaxKind::BadUtf8,
-                place: utf8_place(bytes, &error) as u64,
+                place: place as u64,
             })
         }
-    }
-}
-
-// Where bytes stop being UTF-8.
-fn utf8_place(bytes: &[u8], error: &Utf8Error) -> usize
-    requires valid { valid_up_to error.now ≡ utf8_valid_len bytes.now }
-    requires within { valid_up_to error.now < length bytes.now }
-    requires size { IsErrorLen bytes.now (valid_up_to error.now) (error_len error.now) }
-    requires fault { error_len error.now ≡ utf8_error_len (drop (valid_up_to error.now) bytes.now) }
-    ensures { result ≡ utf8.utf8_fault bytes.now }
-{
-    let start = error.valid_up_to();
-    let Some(size) = error.error_len() else {
-        return bytes.len();
-    };
-    let first = bytes[start];
-    if first >= 0xC2 && first <= 0xF4 {
-        start + size
-    } else {
-        start
     }
 }
 

@@ -84,7 +84,7 @@ impl Iri {
     }
 
     /// The IRI that a text is, where it is known to be one.
-    pub(crate) fn known(alloc: Global, text: &str) -> Result<Iri, Memory>
+    pub fn known(alloc: Global, text: &str) -> Result<Iri, Memory>
         requires { spec.read_iri text.now ≡ Ok text.now }
         ensures value { IfOk result (λ iri. iri ≡ text.now) }
         ensures valid { IfOk result spec.IsIri }

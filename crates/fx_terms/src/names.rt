@@ -1,5 +1,5 @@
 //! Names of variables.
-ghost use Rattle.std.specs.Prelude.{◌≡◌, IfOk};
+ghost use Rattle.std.specs.Prelude.{◌≡◌, IfOk, Ok};
 ghost use Rattle.std.specs.Str.{chars};
 ghost use Rattle.std.specs.List.{list_all};
 ghost use Rattle.fx_terms.specs.Names as spec;
@@ -59,6 +59,16 @@ impl Name {
         if !is_name(text) {
             return Err(NameError::BadName);
         }
+        Ok(Name {
+            text: ArcStr::from_str(alloc, text)?,
+        })
+    }
+
+    /// The name that a text is, where it is known to be one.
+    pub fn known(alloc: Global, text: &str) -> Result<Name, Memory>
+        requires { spec.read_name text.now ≡ Ok text.now }
+        ensures { IfOk result (λ name. name ≡ text.now) }
+    {
         Ok(Name {
             text: ArcStr::from_str(alloc, text)?,
         })

@@ -7,11 +7,13 @@ use crate::allocation::Memory;
 use crate::iris::{Iri, TermError};
 use std::alloc::Global;
 
-// How many IRIs are kept at most.
-const PLACES: usize = 1024;
+// The fewest and the most places.
+const FEWEST: usize = 1 << 10;
 
-// What a hash is divided by to be a place.
-const STRIDE: u64 = 1 << 54;
+const MOST: usize = 1 << 20;
+
+// How many bytes of a document there are for each place.
+const BYTES: usize = 256;
 
 // The factor of the FNV hash in 64 bits.
 const FACTOR: u64 = 1_099_511_628_211;
@@ -21,18 +23,19 @@ const TAIL: usize = 8;
 
 /// IRIs that were read lately: one that is read again shares its text.
 ///
-/// At most 1,024 are kept, each in the place that its text gives, until another comes there. So what many triples have, as
-/// predicates, classes and datatypes, has one text for nearly all of them, however long the document is.
+/// Each is kept in the place that its text gives, until another comes there. So what many triples have, as predicates, classes
+/// and datatypes, has one text for nearly all of them, and a subject has few.
 #[derive(Drop)]
 pub struct RecentIris {
     kept: Vec<Option<Iri>>,
 }
 
 impl RecentIris {
-    /// None yet.
-    pub fn none(alloc: Global) -> Result<RecentIris, Memory> {
-        let mut kept = Vec::with_capacity(alloc, PLACES)?;
-        for _ in 0..PLACES {
+    /// None yet, with a place for each 256 bytes of a document of this length: from 1,024 places to 1,048,576.
+    pub fn of_document(alloc: Global, length: usize) -> Result<RecentIris, Memory> {
+        let places = (length / BYTES).max(FEWEST).min(MOST);
+        let mut kept = Vec::with_capacity(alloc, places)?;
+        for _ in 0..places {
             kept.push(None)?;
         }
         Ok(RecentIris { kept })
@@ -42,7 +45,7 @@ impl RecentIris {
     pub fn read(&mut self, alloc: Global, text: &str) -> Result<Iri, TermError>
         ensures { AnswersTerm result (spec.read_iri text.now) }
     {
-        let place = place_of(text);
+        let place = place_of(text, self.kept.len());
         match self.kept_at(place, text) {
             Some(iri) => Ok(iri.copy()?),
             None => self.read_first(alloc, text, place),
@@ -83,12 +86,12 @@ impl RecentIris {
     }
 }
 
-// Where a text is kept, by its length and its last bytes.
-fn place_of(text: &str) -> usize {
+// Where a text is kept among so many places, by its length and its last bytes.
+fn place_of(text: &str, places: usize) -> usize {
     let bytes = text.as_bytes();
     let mut mixed = bytes.len() as u64;
     for place in bytes.len().saturating_sub(TAIL)..bytes.len() {
         mixed = (mixed ^ u64::from(bytes[place])).wrapping_mul(FACTOR);
     }
-    (mixed / STRIDE) as usize
+    ((mixed >> 32).wrapping_mul(places as u64) >> 32) as usize
 }

@@ -6,8 +6,7 @@ ghost use Rattle.fx_readers.specs.Gives.{Gives};
 
 use fx_grammar::{Kind, SyntaxKind, Token};
 use fx_readers::{
-    Fault, Prefixes, iri_name, known, literal, mark, refuse, sees, sees_iri_name, sees_literal,
-    variable,
+    Fault, Prefixes, iri_name, literal, mark, refuse, sees, sees_iri_name, sees_literal, variable,
 };
 use fx_terms::{Boxed, Iri, Items, Memory, Pattern, PatternTerm};
 use fx_trees::patterns::{
@@ -83,7 +82,7 @@ fn graph_term<'a>(
 fn rdf_type(alloc: Global) -> Result<Iri, Memory>
     ensures { IfOk result (λ iri. iri ≡ grammar.rdf_type) }
 {
-    known(alloc, "http://www.w3.org/1999/02/22-rdf-syntax-ns#type")
+    Iri::known(alloc, "http://www.w3.org/1999/02/22-rdf-syntax-ns#type")
 }
 
 /// A path is refused.

@@ -1,5 +1,5 @@
 use Rattle.std.proofs.Common.{refl}
 use Rattle.fx_commands.proofs.generator.integer.Goals as goal
 
-pub iri-requires : goal.iri-requires
-iri-requires c = refl
+pub known-requires : goal.known-requires
+known-requires c = refl

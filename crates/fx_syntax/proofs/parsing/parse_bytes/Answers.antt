@@ -2,7 +2,7 @@ use Rattle.fx_syntax.proofs.ParsingLaws.{same_text, utf8_answered}
 use Rattle.fx_syntax.proofs.parsing.parse_bytes.Goals as goal
 
 pub returns-in-Ok : goal.returns-in-Ok
-returns-in-Ok c = same_text _ c.args.bytes.now _ c.in-Ok.ensures.cases.0 c.parse_text.ensures
+returns-in-Ok c = same_text _ c.args.bytes.now _ c.in-Ok.ensures.found.0 c.parse_text.ensures
 
 pub returns-in-Err : goal.returns-in-Err
-returns-in-Err c = utf8_answered c.args.bytes.now _ c.in-Err.ensures.cases.0 c.utf8_place.ensures
+returns-in-Err c = utf8_answered c.args.bytes.now _ c.in-Err.ensures.refused
