@@ -7,6 +7,7 @@ ghost use Rattle.fx_terms.specs.Literals as literals;
 
 use crate::faults::{Fault, Stop};
 use crate::quotes::{Quote, quoted};
+use fx_terms::blanks::is_blank;
 use fx_terms::datatypes::XSD_STRING;
 use fx_terms::{Iri, Literal, LiteralError, Memory, RecentIris, Term, TermError, Triple};
 use std::alloc::Global;
@@ -49,7 +50,7 @@ fn blanks_end(line: &[u8], from: usize) -> usize
     ensures within { result ≤ length line.now }
 {
     let mut end = from;
-    while end < line.len() && (line[end] == b' ' || line[end] == b'\t') {
+    while end < line.len() && is_blank(line[end] as char) {
         end += 1;
     }
     end
