@@ -36,7 +36,7 @@ char_apart : (p : ℕ → Bool) (a : ℕ) → p a ≡ false → (c : ℕ) → (c
 char_apart p a e c h = ap p (eqb-true c a h) ∙ e
 
 -- a class that doesn't hold a character is apart from it
-class_apart : (p : ℕ → Bool) (a : ℕ) → p a ≡ false → (c : ℕ) → p c ≡ true → (c == a) ≡ false
+pub class_apart : (p : ℕ → Bool) (a : ℕ) → p a ≡ false → (c : ℕ) → p c ≡ true → (c == a) ≡ false
 class_apart p a e c h = go (c == a) refl
   where
     go : (t : Bool) → (c == a) ≡ t → t ≡ false

@@ -4,5 +4,6 @@ pub mod One
 pub mod Readers
 pub mod Runs
 pub mod Slices
+pub mod Sorts
 pub mod TextLaws
 pub mod Turns

@@ -1,5 +1,5 @@
 -- Which texts are tokens of a kind (SPARQL 1.1 section 19.8, and section 19.7 for escapes).
-use Rattle.std.specs.Prelude.{ℕ, Bool, List}
+use Rattle.std.specs.Prelude.{◌≡◌, ℕ, Bool, List}
 use Rattle.std.specs.Char.{is_ascii_hexdigit}
 use Rattle.fx_terms.specs.Names.{is_base_char, is_name_start, is_name_char}
 use Rattle.fx_tokens.specs.Classes as class
@@ -127,3 +127,7 @@ IsToken kind.Decimal = Decimal
 IsToken kind.Text = Text
 IsToken kind.Word = Word
 IsToken kind.Mark = Mark
+
+-- the law: no text is a token of two kinds
+abbrev pub OneKind : Type 0
+OneKind = (a b : TokenKind) (text : List ℕ) → IsToken a text → IsToken b text → a ≡ b

@@ -8,6 +8,7 @@
 mod classes;
 pub mod decoding;
 mod kinds;
+pub mod laws;
 mod parts;
 mod reading;
 
