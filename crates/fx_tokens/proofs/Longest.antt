@@ -6,26 +6,39 @@ use Rattle.fx_tokens.specs.declared.TokenKind.{TokenKind}
 use Rattle.fx_tokens.specs.declared.TokenKind.TheVariants as kind
 use Rattle.fx_tokens.specs.Answers.{width}
 use Rattle.fx_tokens.specs.Kinds.{IsToken}
-use Rattle.fx_tokens.specs.Reads.{rank, Longest, NoToken}
+use Rattle.fx_tokens.specs.Reads.{Longest, NoToken}
 use Rattle.fx_tokens.specs.Scan as scan
 use Rattle.fx_tokens.proofs.Readers.{Best, Found, Reaches, width_append}
 use Rattle.fx_tokens.proofs.KindLaws.{iri_best, prefix_name_best, variable_best, blank_best, tag_best, integer_best, signed_best, decimal_best, text_best, word_best, mark_best}
 
--- ---- kinds by rank
+-- ---- the kinds by number, in the order in which they are tried
+
+abbrev number : TokenKind → ℕ
+number kind.Iri = 0
+number kind.PrefixName = 1
+number kind.Variable = 2
+number kind.Blank = 3
+number kind.Tag = 4
+number kind.Integer = 5
+number kind.Signed = 6
+number kind.Decimal = 7
+number kind.Text = 8
+number kind.Word = 9
+number kind.Mark = 10
 
 abbrev kinds : List TokenKind
 kinds = kind.Iri ∷ kind.PrefixName ∷ kind.Variable ∷ kind.Blank ∷ kind.Tag ∷ kind.Integer ∷ kind.Signed ∷ kind.Decimal ∷ kind.Text ∷ kind.Word ∷ kind.Mark ∷ []
 
-at_rank : (k : TokenKind) → get_or kinds (rank k) kind.Mark ≡ k
-at_rank kind.Iri = refl
-at_rank _ = refl
+at_number : (k : TokenKind) → get_or kinds (number k) kind.Mark ≡ k
+at_number kind.Iri = refl
+at_number _ = refl
 
-in_kinds : (k : TokenKind) → rank k < 11
+in_kinds : (k : TokenKind) → number k < 11
 in_kinds kind.Iri = omega arith
 in_kinds _ = omega arith
 
-pub same_rank : (a b : TokenKind) → rank a ≡ rank b → a ≡ b
-same_rank a b e = sym (at_rank a) ∙ ap (λ n. get_or kinds n kind.Mark) e ∙ at_rank b
+same_number : (a b : TokenKind) → number a ≡ number b → a ≡ b
+same_number a b e = sym (at_number a) ∙ ap (λ n. get_or kinds n kind.Mark) e ∙ at_number b
 
 -- ---- the best of the first kinds
 
@@ -37,25 +50,15 @@ abbrev KindReaches : Option (TokenKind × List ℕ) → List ℕ → Type 0
 KindReaches None back = ⊥
 KindReaches (Some best) back = width best.1 ≤ width back
 
-abbrev KindBelow : ℕ → Option (TokenKind × List ℕ) → Type 0
-KindBelow n None = Unit {0}
-KindBelow n (Some best) = rank best.0 < n
-
-abbrev KindFirst : Option (TokenKind × List ℕ) → TokenKind → List ℕ → Type 0
-KindFirst None other back = Unit {0}
-KindFirst (Some best) other back = width back ≡ width best.1 → rank best.0 ≤ rank other
-
 record Among (n : ℕ) (text : List ℕ) (best : Option (TokenKind × List ℕ)) : Type 0 where
   found : KindFound text best
-  below : KindBelow n best
-  most : (other : TokenKind) → rank other < n → (front back : List ℕ) → text ≡ front ++ back → IsToken other front → KindReaches best back
-  first : (other : TokenKind) → rank other < n → (front back : List ℕ) → text ≡ front ++ back → IsToken other front → KindFirst best other back
+  most : (other : TokenKind) → number other < n → (front back : List ℕ) → text ≡ front ++ back → IsToken other front → KindReaches best back
 
 among_none : (text : List ℕ) → Among 0 text None
-among_none text = record { found = tt; below = tt; most = λ other h. absurd (omega (arith, h)); first = λ other h front back e t. tt }
+among_none text = record { found = tt; most = λ other h. absurd (omega (arith, h)) }
 
-one_more : (n : ℕ) (k other : TokenKind) → rank k ≡ n → rank other < suc n → (rank other < n) ⊎ (other ≡ k)
-one_more n k other e h = elim (cases_lt (rank other) n) [ inl l ↦ inl l | inr r ↦ inr (same_rank other k (omega (arith, e, h, r))) ]
+one_more : (n : ℕ) (k other : TokenKind) → number k ≡ n → number other < suc n → (number other < n) ⊎ (other ≡ k)
+one_more n k other e h = elim (cases_lt (number other) n) [ inl l ↦ inl l | inr r ↦ inr (same_number other k (omega (arith, e, h, r))) ]
 
 better_found : (text : List ℕ) (best : Option (TokenKind × List ℕ)) (k : TokenKind) (rest : Option (List ℕ)) → KindFound text best → Found (IsToken k) text rest → KindFound text (scan.better best k rest)
 better_found text None k None f g = tt
@@ -66,16 +69,6 @@ better_found text (Some best) k (Some rest) f g = go (ltb (width rest) (width be
     go : (t : Bool) → KindFound text (cond t (Some (k, rest)) (Some best))
     go true = g
     go false = f
-
-better_below : (n : ℕ) (best : Option (TokenKind × List ℕ)) (k : TokenKind) (rest : Option (List ℕ)) → rank k ≡ n → KindBelow n best → KindBelow (suc n) (scan.better best k rest)
-better_below n None k None e f = tt
-better_below n None k (Some rest) e f = omega (arith, e)
-better_below n (Some best) k None e f = omega (arith, f)
-better_below n (Some best) k (Some rest) e f = go (ltb (width rest) (width best.1))
-  where
-    go : (t : Bool) → KindBelow (suc n) (cond t (Some (k, rest)) (Some best))
-    go true = omega (arith, e)
-    go false = omega (arith, f)
 
 reaches_old : (best : Option (TokenKind × List ℕ)) (k : TokenKind) (rest : Option (List ℕ)) (back : List ℕ) → KindReaches best back → KindReaches (scan.better best k rest) back
 reaches_old None k rest back h = absurd h
@@ -95,32 +88,10 @@ reaches_new (Some best) k (Some rest) back h = go (ltb (width rest) (width best.
     go true e = h
     go false e = omega (arith, h, ltb-false (width rest) (width best.1) e)
 
--- of an earlier kind that reaches as far
-first_old : (best : Option (TokenKind × List ℕ)) (k : TokenKind) (rest : Option (List ℕ)) (other : TokenKind) (back : List ℕ) → KindReaches best back → KindFirst best other back → KindFirst (scan.better best k rest) other back
-first_old None k rest other back h f = absurd h
-first_old (Some best) k None other back h f = f
-first_old (Some best) k (Some rest) other back h f = go (ltb (width rest) (width best.1)) refl
-  where
-    go : (t : Bool) → ltb (width rest) (width best.1) ≡ t → KindFirst (cond t (Some (k, rest)) (Some best)) other back
-    go true e = λ same. absurd (omega (arith, h, same, ltb-true (width rest) (width best.1) e))
-    go false e = f
-
-first_new : (n : ℕ) (best : Option (TokenKind × List ℕ)) (k : TokenKind) (rest : Option (List ℕ)) (back : List ℕ) → rank k ≡ n → KindBelow n best → KindFirst (scan.better best k rest) k back
-first_new n None k None back e f = tt
-first_new n None k (Some rest) back e f = λ same. omega arith
-first_new n (Some best) k None back e f = λ same. omega (arith, e, f)
-first_new n (Some best) k (Some rest) back e f = go (ltb (width rest) (width best.1))
-  where
-    go : (t : Bool) → KindFirst (cond t (Some (k, rest)) (Some best)) k back
-    go true = λ same. omega arith
-    go false = λ same. omega (arith, e, f)
-
-among_more : (n : ℕ) (text : List ℕ) (best : Option (TokenKind × List ℕ)) (k : TokenKind) (rest : Option (List ℕ)) → rank k ≡ n → Among n text best → Best (IsToken k) text rest → Among (suc n) text (scan.better best k rest)
+among_more : (n : ℕ) (text : List ℕ) (best : Option (TokenKind × List ℕ)) (k : TokenKind) (rest : Option (List ℕ)) → number k ≡ n → Among n text best → Best (IsToken k) text rest → Among (suc n) text (scan.better best k rest)
 among_more n text best k rest e a b = record {
   found = better_found text best k rest a.found b.found;
-  below = better_below n best k rest e a.below;
   most = λ other h front back same t. elim (one_more n k other e h) [ inl l ↦ reaches_old best k rest back (a.most other l front back same t) | inr r ↦ reaches_new best k rest back (b.most front back same (subst (λ (j : TokenKind). IsToken j front) r t)) ];
-  first = λ other h front back same t. elim (one_more n k other e h) [ inl l ↦ first_old best k rest other back (a.most other l front back same t) (a.first other l front back same t) | inr r ↦ subst (λ (j : TokenKind). KindFirst (scan.better best k rest) j back) (sym r) (first_new n best k rest back e a.below) ];
 }
 
 early_among : (text : List ℕ) → Among 6 text (scan.early text)
@@ -160,7 +131,6 @@ longest_some text k rest e =
         parts = f.1;
         is = f.2;
         no_longer = λ other front back same t. no_longer f.0 rest front back (sym f.1 ∙ same) (a.most other (in_kinds other) front back same t);
-        first = λ other t. a.first other (in_kinds other) f.0 rest f.1 t refl;
       },
     )
 

@@ -1,11 +1,11 @@
 -- A text reads in one way.
-use Rattle.std.proofs.Common.{◌≡◌, ℕ, ◌+◌, ◌≤◌, Bool, true, false, cond, ◌||◌, ◌&&◌, not, List, [], ◌∷◌, ◌++◌, length, Option, Some, None, Result, Ok, Err, refl, sym, ap, ◌∙◌, subst, arith}
+use Rattle.std.proofs.Common.{◌≡◌, ℕ, ◌+◌, Bool, true, false, cond, ◌||◌, ◌&&◌, not, List, [], ◌∷◌, ◌++◌, length, Option, Some, None, Result, Ok, Err, refl, sym, ap, ◌∙◌, subst, arith}
 use Rattle.std.specs.Prelude.{◌==◌, IfOk, IfErr, MatchResult}
 use Rattle.fx_tokens.specs.Answers.{width, UnlessMemory}
 use Rattle.fx_tokens.specs.Classes as class
 use Rattle.fx_tokens.specs.Forms.{One, Repeat}
 use Rattle.fx_tokens.specs.Kinds as kind
-use Rattle.fx_tokens.specs.Reads.{rank, Longest, NoToken, EndsLine, BeginsToken, begins_backslash, BadText, FaultyAt, Faulty, with_front, Reads, ends, blank, comment, token, fault}
+use Rattle.fx_tokens.specs.Reads.{Longest, NoToken, EndsLine, BeginsToken, begins_backslash, BadText, FaultyAt, Faulty, with_front, Reads, ends, blank, comment, token, fault}
 use Rattle.fx_tokens.specs.Scan as scan
 use Rattle.fx_tokens.specs.declared.Token.{Token}
 use Rattle.fx_tokens.specs.declared.TokenKind.{TokenKind}
@@ -14,7 +14,7 @@ use Rattle.fx_tokens.specs.declared.TokenError.TheVariants.{Bad, Memory}
 use Rattle.fx_tokens.specs.declared.TokenFault.TheVariants.{Escape, Unclosed}
 use Rattle.fx_tokens.proofs.Readers.{Found, unit_one, skip_exact, width_append}
 use Rattle.fx_tokens.proofs.KindLaws.{text_part_unit}
-use Rattle.fx_tokens.proofs.Longest.{same_rank}
+use Rattle.fx_tokens.proofs.Sorts.{one_kind}
 
 abbrev Answer : Type 0
 Answer = Result (List Token) TokenError
@@ -126,9 +126,7 @@ one_longest : (text : List ℕ) (k : TokenKind) (front rest : List ℕ) (j : Tok
 one_longest text k front rest j other behind x y =
     let long : length front ≡ length other = omega (arith, x.no_longer j other behind y.parts y.is, y.no_longer k front rest x.parts x.is) in
     let same = same_front front rest other behind (sym x.parts ∙ y.parts) long in
-    let less : rank k ≤ rank j = x.first j (subst (kind.IsToken j) (sym same.0) y.is) in
-    let more : rank j ≤ rank k = y.first k (subst (kind.IsToken k) same.0 x.is) in
-    (same_rank k j (omega (arith, less, more)), same.0, same.1)
+    (one_kind k j front x.is (subst (kind.IsToken j) (sym same.0) y.is), same.0, same.1)
 
 only_token : (at : ℕ) (text : List ℕ) (a b : Answer) (k : TokenKind) (front rest : List ℕ) (further : Answer) → BeginsToken text → Longest k front rest text → a ≡ with_front (record { kind = k; start = at; end = at + width front }) further
     → ((b : Answer) → Reads (at + width front) rest b → further ≡ b) → Reads at text b → a ≡ b

@@ -8,31 +8,15 @@ use Rattle.fx_tokens.specs.Forms.{One, Repeat}
 use Rattle.fx_tokens.specs.Kinds.{IsToken, TextPart}
 use Rattle.fx_tokens.specs.declared.Token.{Token}
 use Rattle.fx_tokens.specs.declared.TokenKind.{TokenKind}
-use Rattle.fx_tokens.specs.declared.TokenKind.TheVariants as kind
 use Rattle.fx_tokens.specs.declared.TokenError.{TokenError}
 use Rattle.fx_tokens.specs.declared.TokenError.TheVariants.{Bad}
 use Rattle.fx_tokens.specs.declared.TokenFault.TheVariants.{Character, Escape, Unclosed}
 
--- the order of the kinds
-abbrev pub rank : TokenKind → ℕ
-rank kind.Iri = 0
-rank kind.PrefixName = 1
-rank kind.Variable = 2
-rank kind.Blank = 3
-rank kind.Tag = 4
-rank kind.Integer = 5
-rank kind.Signed = 6
-rank kind.Decimal = 7
-rank kind.Text = 8
-rank kind.Word = 9
-rank kind.Mark = 10
-
--- the text begins with a token of the kind, and with no longer token of any kind, nor with one of an earlier kind as long
+-- the text begins with a token of the kind, and with no longer token of any kind
 pub record Longest (kind : TokenKind) (token rest text : List ℕ) : Type 0 where
   pub parts : text ≡ token ++ rest
   pub is : IsToken kind token
   pub no_longer : (other : TokenKind) (front back : List ℕ) → text ≡ front ++ back → IsToken other front → length front ≤ length token
-  pub first : (other : TokenKind) → IsToken other token → rank kind ≤ rank other
 
 -- no token stands at the front
 abbrev pub NoToken : List ℕ → Type 0
