@@ -11,7 +11,7 @@ use Rattle.fx_terms.specs.declared.patterns.Pattern.{Pattern}
 use Rattle.fx_terms.specs.declared.patterns.PatternTerm.{PatternTerm}
 use Rattle.fx_algebra.specs.BasicGraphPatterns.{parts_of, forced, bgp}
 use Rattle.fx_algebra.specs.Evaluation.{extended}
-use Rattle.fx_algebra.specs.Operators.{join, filtered, minus, left_join, extend, inline_rows}
+use Rattle.fx_algebra.specs.Operators.{join, merges, filtered, minus, left_join, extend, inline_rows}
 use Rattle.fx_algebra.specs.Solutions.{Bindings, rises}
 use Rattle.fx_algebra.specs.Groups.{Part, pattern, condition, operator, Step, run, apply, Meaning, meaning, element_meaning, group_meaning, with_pattern, with_part, steps_of, after, conditions_of, part_services, parts_services, groups_services, one_empty, group_rows, alternatives, is_down, service_rows}
 use Rattle.fx_algebra.specs.declared.expressions.Expr.{Expr}
@@ -23,7 +23,7 @@ use Rattle.fx_algebra.proofs.ForcedLemmas.{IsForced, of_outcome, forced_is}
 use Rattle.fx_algebra.proofs.JoinLemmas.{join_extends, join_run, same_join}
 use Rattle.fx_member.specs.GroupRows.{AreDown, part_of, after_part, AreRowsOf, AreUnfiltered, AreFilters, AreMoreFilters, AreAlternatives, AreAfter}
 use Rattle.fx_algebra.proofs.MoveLemmas.{after_moves, steps_move}
-use Rattle.fx_algebra.proofs.OperatorLemmas.{filtered_moves, minus_moves, left_join_moves, join_one}
+use Rattle.fx_algebra.proofs.OperatorLemmas.{filtered_moves, filtered_by_none, minus_moves, left_join_moves, join_one}
 
 -- the rows rise by their names
 abbrev pub AllRise : List Bindings → Type 0
@@ -320,3 +320,19 @@ alternatives_more gs g graph before found rows h k e = record {
 pub alternatives_next : (all : List Group) (i : ℕ) (g : Group) (graph : List Triple) (before found rows : List Bindings) → i < length all → g ≡ get_or all i g
     → AreAlternatives (take i all) graph before → AreRowsOf g graph found → rows ≡ before ++ found → AreAlternatives (take (i + 1) all) graph rows
 alternatives_next all i g graph before found rows b is h k e = subst (λ (v : List Group). AreAlternatives v graph rows) (taken all i g b is) (alternatives_more (take i all) g graph before found rows h k e)
+
+-- ---- a group of one pattern
+
+-- its meaning is that of the one part
+of_one : (graphs : List ℕ → List Triple) (down : List ℕ) (g : Group) (p : Pattern) → g.elements ≡ Triple-E p ∷ [] → meaning graphs down g ≡ group_meaning (record { elements = pattern p ∷ [] })
+of_one graphs down g p e =
+    meaning_is graphs down g
+    ∙ ap (λ (es : List Element). group_meaning (record { elements = map (part_of graphs down) es })) e
+    ∙ ap (λ (part : Part). group_meaning (record { elements = part ∷ [] })) (part_triple graphs down p)
+
+-- its rows are those of the pattern
+pub rows_of_one : (graphs : List ℕ → List Triple) (down : List ℕ) (g : Group) (graph : List Triple) (p : Pattern) → g.elements ≡ Triple-E p ∷ [] → group_rows (meaning graphs down g) graph 0 ≡ merges (bgp graph (p ∷ [])) []
+rows_of_one graphs down g graph p e =
+    ap (λ (m : Meaning). group_rows m graph 0) (of_one graphs down g p e)
+    ∙ filtered_by_none (join one_empty (bgp graph (p ∷ [])))
+    ∙ append-nil (merges (bgp graph (p ∷ [])) [])

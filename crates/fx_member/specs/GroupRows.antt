@@ -1,6 +1,7 @@
 -- The rows of a group where no other endpoint is asked, since each occurrence of SERVICE is down (SPARQL 1.1 Federated Query,
 -- section 4). The rows stand in some order.
-use Rattle.std.specs.Prelude.{◌≡◌, ℕ, ◌+◌, ◌<◌, ◌≤◌, true, List, [], ◌∷◌, ◌++◌, map, length, IsPermutation}
+use Rattle.std.specs.Prelude.{◌≡◌, ℕ, ◌+◌, ◌<◌, ◌≤◌, true, List, [], ◌∷◌, ◌++◌, map, length, None, IsPermutation}
+use Rattle.fx_terms.specs.declared.patterns.Pattern.{Pattern}
 use Rattle.fx_terms.specs.declared.triples.Triple.{Triple}
 use Rattle.fx_algebra.specs.Answers.{answer}
 use Rattle.fx_algebra.specs.Evaluation.{extended}
@@ -10,6 +11,8 @@ use Rattle.fx_algebra.specs.Solutions.{Bindings}
 use Rattle.fx_algebra.specs.declared.answers.Answer.{Answer}
 use Rattle.fx_algebra.specs.declared.expressions.Expr.{Expr}
 use Rattle.fx_algebra.specs.declared.queries.Element.{Element, fold-Element}
+use Rattle.fx_algebra.specs.declared.queries.Element.TheVariants.{Triple as Triple-E}
+use Rattle.fx_algebra.specs.declared.queries.Form.TheVariants.{Ask}
 use Rattle.fx_algebra.specs.declared.queries.Group.{Group}
 use Rattle.fx_algebra.specs.declared.queries.Query.{Query}
 
@@ -54,3 +57,9 @@ pub record AreAfter (element : Element) (graph : List Triple) (before rows : Lis
 -- the answer is that of a query over a graph, whatever graphs the endpoints have, where all that the query would ask are down
 pub record IsAnswerOf (q : Query) (graph : List Triple) (found : Answer) : Type 0 where
   pub same : (graphs : List ℕ → List Triple) (down : List ℕ) → AreDown down 0 (length (services q)) → found ≡ answer q graph graphs down
+
+-- the query asks whether one pattern has a solution, and nothing else
+pub record AsksFor (q : Query) (p : Pattern) : Type 0 where
+  pub form : q.form ≡ Ask
+  pub alone : q.inline ≡ None
+  pub group : q.group.elements ≡ Triple-E p ∷ []

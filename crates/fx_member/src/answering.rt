@@ -1,18 +1,22 @@
 //! The answer of a query over a graph.
-ghost use Rattle.std.specs.Prelude.{◌≡◌, ℕ, List, IfErr, IfOk, IsPermutation, None};
+ghost use Rattle.std.specs.Prelude.{◌≡◌, ℕ, List, [], ◌∷◌, IfErr, IfOk, IfSome, IsPermutation, None};
 ghost use Rattle.fx_terms.specs.declared.triples.Triple.{Triple as TripleTree};
-ghost use Rattle.fx_algebra.specs.Answers.{answer as answer_of, with_inline as with_inline_of};
+ghost use Rattle.fx_algebra.specs.Answers.{answer as answer_of, has_rows, with_inline as with_inline_of};
+ghost use Rattle.fx_algebra.specs.BasicGraphPatterns.{bgp};
+ghost use Rattle.fx_algebra.specs.Operators.{merges};
+ghost use Rattle.fx_algebra.specs.declared.queries.Element.TheVariants.{Triple};
 ghost use Rattle.fx_member.specs.FirstHere.{first_here as first_here_of, IsCause};
-ghost use Rattle.fx_member.specs.GroupRows.{IsAnswerOf};
+ghost use Rattle.fx_member.specs.GroupRows.{AsksFor, IsAnswerOf};
+ghost use Rattle.fx_store.specs.Stores.{alone};
 
 use crate::groups::group_rows;
 use crate::known_rows::known_to_rise;
 use crate::places::first_here;
-use fx_algebra::{Answer, Inline, Query, Solution};
+use fx_algebra::{Answer, Element, Form, Inline, Query, Solution};
 use fx_solutions::laws::one_answer;
 use fx_solutions::{answer_of_rows, inline_rows, join_with};
 use fx_store::Store;
-use fx_terms::Memory;
+use fx_terms::{Memory, Pattern};
 use std::alloc::Global;
 
 /// Why a query has no answer over a graph.
@@ -59,6 +63,50 @@ pub fn answer(
 
 // The answer of a query over a graph, where all that it would ask are down.
 fn answer_here(alloc: Global, store: &Store, query: &Query) -> Result<Answer, Memory>
+    ensures { IfOk result (IsAnswerOf query.now store.now) }
+{
+    match pattern_asked(query) {
+        Some(pattern) => Ok(Answer::Truth(has_solution(alloc, store, pattern))),
+        None => answer_by_rows(alloc, store, query),
+    }
+}
+
+// The pattern of a query that asks for one pattern and nothing else.
+fn pattern_asked(query: &Query) -> Option<&Pattern>
+    ensures { IfSome result (λ pattern. AsksFor query.now pattern.now) }
+{
+    match &query.form {
+        Form::Select {
+            distinct: _,
+            columns: _,
+        } => None,
+        Form::Ask => match &query.inline {
+            Some(_) => None,
+            None => only_pattern(query.group.elements.as_slice()),
+        },
+    }
+}
+
+// The pattern that elements are, where they are one pattern.
+fn only_pattern(elements: &[Element]) -> Option<&Pattern>
+    ensures { IfSome result (λ pattern. elements.now ≡ Triple pattern.now ∷ []) }
+{
+    match elements {
+        [Element::Triple(pattern)] => Some(pattern),
+        _ => None,
+    }
+}
+
+// Whether a pattern has a solution. It looks no further than the first.
+fn has_solution(alloc: Global, store: &Store, pattern: &Pattern) -> bool
+    ensures { result ≡ has_rows (merges (bgp store.now (alone pattern.now)) []) }
+{
+    let row = Solution::empty(alloc);
+    store.some_fits(pattern, &row)
+}
+
+// The answer of a query from the rows of its group, where all that it would ask are down.
+fn answer_by_rows(alloc: Global, store: &Store, query: &Query) -> Result<Answer, Memory>
     ensures { IfOk result (IsAnswerOf query.now store.now) }
 {
     // The rows come in some order, and the answer doesn't depend on it.

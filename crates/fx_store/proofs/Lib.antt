@@ -1,3 +1,4 @@
+pub mod FindLemmas
 pub mod FitLemmas
 pub mod OnePlaceLemmas
 pub mod PlaceLemmas

@@ -1,5 +1,5 @@
 -- Which triples a pattern is tried on beside a row, how many these are, and how it is tried on one.
-use Rattle.std.specs.Prelude.{ℕ, ◌+◌, ◌*◌, Bool, true, false, List, [], Option, Some, None, ◌||◌, ◌&&◌, length, filter, fold, is_some, if◌then◌else◌}
+use Rattle.std.specs.Prelude.{ℕ, suc, ◌+◌, ◌*◌, Bool, true, false, List, [], ◌∷◌, Option, Some, None, ◌||◌, ◌&&◌, length, filter, fold, is_some, if◌then◌else◌}
 use Rattle.std.specs.Int.Digits.{digits_of}
 use Rattle.std.specs.declared.cmp.Ordering.{Ordering}
 use Rattle.std.specs.declared.cmp.Ordering.TheVariants.{Equal}
@@ -13,8 +13,8 @@ use Rattle.fx_terms.specs.declared.patterns.Pattern.{Pattern}
 use Rattle.fx_terms.specs.declared.patterns.PatternTerm.{PatternTerm}
 use Rattle.fx_terms.specs.declared.patterns.PatternTerm.TheVariants.{Variable, Constant}
 use Rattle.fx_algebra.specs.Solutions.{Bindings, term_of, with_pair, same_term}
-use Rattle.fx_algebra.specs.BasicGraphPatterns.{value_of}
-use Rattle.fx_store.specs.Orders.{next, term_at, first_of}
+use Rattle.fx_algebra.specs.BasicGraphPatterns.{parts_of, forced, value_of}
+use Rattle.fx_store.specs.Orders.{next, term_at, first_of, in_order}
 use Rattle.fx_store.specs.declared.orders.Part.{Part}
 use Rattle.fx_store.specs.declared.orders.Part.TheVariants.{Subject, Predicate, Object}
 use Rattle.fx_store.specs.declared.lookups.End.{End}
@@ -105,6 +105,20 @@ binary_digits n = length (digits_of 2 n)
 -- pattern at each place where that has a constant, or a variable that the solution binds
 abbrev pub most_steps : List Triple → Pattern → Bindings → ℕ
 most_steps graph p s = 2 * binary_digits (length graph) + length (filter (has_parts (known_of p s)) graph)
+
+-- how many of a list are looked at until one passes a test: all of them where none does
+abbrev pub tried : {X : Type 0} → (X → Bool) → List X → ℕ
+tried test [] = 0
+tried test (x ∷ xs) = if test x then 1 else suc (tried test xs)
+
+-- whether a triple fits a pattern under a solution
+abbrev pub fits_under : Pattern → Bindings → Triple → Bool
+fits_under p s t = is_some (forced s (parts_of p t))
+
+-- the most steps of a look for one triple that fits: twice the binary digits of the number of triples, and one for each triple that
+-- has the known parts of the pattern until one fits, in the order in which these parts come first
+abbrev pub most_tries : List Triple → Pattern → Bindings → ℕ
+most_tries graph p s = 2 * binary_digits (length graph) + tried (fits_under p s) (filter (has_parts (known_of p s)) (in_order (order_for (known_of p s)) graph))
 
 -- ---- how a pattern is tried on a triple
 

@@ -131,8 +131,8 @@ fn add_if_fitting(
     Ok(())
 }
 
-// Whether a triple fits a pattern under a row. It takes no memory.
-fn fits(pattern: &Pattern, row: &Solution, triple: &Triple) -> bool
+/// Whether a triple fits a pattern under a row. It takes no memory.
+pub(crate) fn fits(pattern: &Pattern, row: &Solution, triple: &Triple) -> bool
     ensures { result ≡ is_some (forced row.now (parts_of pattern.now triple.now)) }
 {
     fits_subject(pattern, row, triple)

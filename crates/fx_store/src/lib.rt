@@ -2,6 +2,7 @@
 #![tactic(auto)]
 
 mod evaluation;
+mod finding;
 mod lookups;
 pub mod orders;
 mod ranks;

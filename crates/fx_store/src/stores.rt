@@ -2,13 +2,15 @@
 ghost use Rattle.std.specs.Prelude.{◌≡◌, ◌↔◌, ◌≤◌, ◌+◌, true, IfOk, Contains};
 ghost use Rattle.std.specs.List.{filter_map};
 ghost use Rattle.fx_terms.specs.Graphs.{IsGraph};
+ghost use Rattle.fx_algebra.specs.Answers.{has_rows};
 ghost use Rattle.fx_algebra.specs.BasicGraphPatterns.{bgp, forced, parts_of};
 ghost use Rattle.fx_algebra.specs.Evaluation.{extended};
 ghost use Rattle.fx_algebra.specs.Operators.{merges};
-ghost use Rattle.fx_store.specs.Lookups.{most_steps};
+ghost use Rattle.fx_store.specs.Lookups.{most_steps, most_tries};
 ghost use Rattle.fx_store.specs.Stores.{alone};
 
 use crate::evaluation::rows_of;
+use crate::finding::some_fits;
 use crate::lookups::{Sought, run};
 use crate::orders::{Orders, Steps};
 use fx_algebra::Solution;
@@ -150,6 +152,50 @@ impl Store {
             more.append(&mut found)?;
         }
         Ok(more)
+    }
+
+    /// Whether some triple fits a pattern under a solution: whether some solution of the pattern agrees with that one (SPARQL 1.1
+    /// section 18.3). It stops at the first that fits, and takes no memory.
+    pub fn some_fits(&self, pattern: &Pattern, solution: &Solution) -> bool
+        ensures fitting { result ≡ has_rows (filter_map (λ t. forced solution.now (parts_of pattern.now t)) self.now) }
+        ensures merged { result ≡ has_rows (merges (bgp self.now (alone pattern.now)) solution.now) }
+    {
+        self.some_fits_from::<Brand>(pattern, solution, Blank::new(1))
+    }
+
+    fn some_fits_from<L: Ledger>(
+        &self,
+        pattern: &Pattern,
+        solution: &Solution,
+        blank: Blank,
+    ) -> bool
+        requires name { blank.name ≡ L.name }
+        requires parts { blank.parts ≡ L.parts }
+        requires one { blank.parts ≡ 1 }
+        ensures fitting { result ≡ has_rows (filter_map (λ t. forced solution.now (parts_of pattern.now t)) self.now) }
+        ensures merged { result ≡ has_rows (merges (bgp self.now (alone pattern.now)) solution.now) }
+    {
+        let (book, share) = blank.open::<L>();
+        let mut steps = Steps::of(book, share);
+        self.some_fits_counted(pattern, solution, &mut steps)
+    }
+
+    /// The same, where each triple that is looked at is a step. It takes twice as many steps at most as the number of triples has
+    /// binary digits, and one for each triple up to the first that fits, among those that are equal to the pattern at each place where
+    /// that has a constant, or a variable that the solution binds.
+    pub fn some_fits_counted<L: Ledger>(
+        &self,
+        pattern: &Pattern,
+        solution: &Solution,
+        steps: &mut Steps<L>,
+    ) -> bool
+        ensures fitting { result ≡ has_rows (filter_map (λ t. forced solution.now (parts_of pattern.now t)) self.now) }
+        ensures merged { result ≡ has_rows (merges (bgp self.now (alone pattern.now)) solution.now) }
+        ensures steps { steps.new ≤ steps.old + most_tries self.now pattern.now solution.now }
+    {
+        // Its contract tells that its names rise.
+        let _pairs = solution.pairs();
+        some_fits(&self.orders, pattern, solution, steps)
     }
 
     /// Whether a triple is in it. It takes no memory.

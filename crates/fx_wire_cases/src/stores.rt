@@ -17,6 +17,9 @@ pub fn answer(alloc: Global, call: &str, inputs: &[&str]) -> Option<String> {
         ("Store::extend of one row", [graph, pattern, row, count]) => {
             extend(alloc, graph, pattern, row, count)
         }
+        ("Store::some_fits", [graph, pattern, solution]) => {
+            some_fits(alloc, graph, pattern, solution)
+        }
         ("Store::has", [graph, triple]) => has(alloc, graph, triple),
         _ => None,
     }
@@ -150,6 +153,21 @@ fn extended_text(
     }
     let rows = store.extend(alloc, pattern, rows.as_slice()).ok()?;
     shown::rows(alloc, rows.as_slice())
+}
+
+fn some_fits(alloc: Global, graph: &str, pattern: &str, solution: &str) -> Option<String> {
+    let store = store(alloc, graph)?;
+    some_fits_in(alloc, &store, pattern, solution)
+}
+
+fn some_fits_in(alloc: Global, store: &Store, pattern: &str, solution: &str) -> Option<String> {
+    let pattern = notation::pattern(alloc, pattern)?;
+    some_fits_of(alloc, store, pattern.get(), solution)
+}
+
+fn some_fits_of(alloc: Global, store: &Store, pattern: &Pattern, solution: &str) -> Option<String> {
+    let solution = notation::solution(alloc, solution)?;
+    shown::truth(alloc, store.some_fits(pattern, &solution))
 }
 
 fn has(alloc: Global, graph: &str, triple: &str) -> Option<String> {
