@@ -6,9 +6,9 @@ ghost use Rattle.fx_member.specs.FirstHere.{first_here as first_here_of, IsCause
 ghost use Rattle.fx_member.specs.GroupRows.{IsAnswerOf};
 
 use crate::groups::group_rows;
-use crate::known_rows::known_to_rise;
 use crate::places::first_here;
 use fx_algebra::{Answer, Inline, Query, Solution};
+use fx_solutions::known_rows::known_to_rise;
 use fx_solutions::laws::one_answer;
 use fx_solutions::{answer_of_rows, inline_rows, join_with};
 use fx_store::Store;
