@@ -7,12 +7,13 @@ ghost use Rattle.fx_engine.specs.Asked.{Asked};
 ghost use Rattle.fx_engine.specs.GroupsAsked.{CanBeAsked};
 ghost use Rattle.fx_engine.specs.Tasks.{tasks_with};
 
-use crate::groups::{group_rows, known_to_rise};
+use crate::groups::group_rows;
 use crate::tasks::{RowsError, Task, tasks_of};
 use fx_algebra::{Answer, Inline, Query, Solution};
 use fx_outside::Endpoint;
 use fx_plan::Part;
 use fx_pool::FlowError;
+use fx_solutions::known_rows::known_to_rise;
 use fx_solutions::{answer_of_rows, inline_rows, join_with};
 use fx_terms::{Items, Memory};
 use fx_wire::Wire;

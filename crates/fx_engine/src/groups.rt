@@ -1,7 +1,6 @@
 //! The rows of groups over the union of the graphs of endpoints (SPARQL 1.1 sections 18.2.2 and 18.6).
-ghost use Rattle.std.specs.Prelude.{◌≡◌, ◌<◌, ◌≤◌, All, IfErr, IfOk, IsPermutation, IsTrue, OnOk, [], ◌∷◌, length, map, true};
+ghost use Rattle.std.specs.Prelude.{◌≡◌, ◌<◌, ◌≤◌, All, IfErr, IfOk, IsPermutation, OnOk, [], ◌∷◌, length, map, true};
 ghost use Rattle.fx_algebra.specs.Operators.{extend as extend_of, filtered as filtered_of, inline_rows as inline_rows_of, join as join_of, left_join as left_join_of, minus as minus_of};
-ghost use Rattle.fx_algebra.specs.Solutions.{rises};
 ghost use Rattle.fx_outside.specs.Endpoints.{is_sendable};
 ghost use Rattle.fx_steps.specs.Optionals.{optional_rows};
 ghost use Rattle.fx_steps.specs.Steps.{solutions_of};
@@ -16,6 +15,7 @@ use crate::tasks::{RowsError, Task};
 use fx_algebra::{Element, Expr, Group, Inline, Row, Solution};
 use fx_outside::Endpoint;
 use fx_pool::{FlowError, run_flow};
+use fx_solutions::known_rows::known_to_rise;
 use fx_solutions::{extend, filter, inline_rows, join, join_with, left_join_with, minus_with};
 use fx_terms::{Memory, Name};
 use fx_wire::Wire;
@@ -184,7 +184,7 @@ fn after_operator<R: Threads + Wait + Sync, W: Wire + Send>(
         Element::Minus(group) => {
             match group_rows(rt, alloc, group, tasks, next, endpoints, block, wires) {
                 Err(error) => Err(error),
-                Ok(found) => lessened(alloc, before.as_slice(), found),
+                Ok(found) => lessened(alloc, before, found),
             }
         }
         Element::Bind { expr, name } => extended(alloc, before.as_slice(), name, expr),
@@ -223,7 +223,7 @@ fn optional<R: Threads + Wait + Sync, W: Wire + Send>(
     }
     match unfiltered(rt, alloc, group, tasks, next, endpoints, block, wires) {
         Err(error) => Err(error),
-        Ok(found) => left_joined(alloc, before.as_slice(), found, group),
+        Ok(found) => left_joined(alloc, before, found, group),
     }
 }
 
@@ -280,7 +280,7 @@ fn optional_run<R: Threads + Wait + Sync, W: Wire + Send>(
 {
     known_to_rise(before.as_slice());
     if !has_pattern(group) {
-        return filters_alone(alloc, before.as_slice(), group);
+        return filters_alone(alloc, before, group);
     }
     match after_run(
         rt,
@@ -403,15 +403,6 @@ pub(crate) fn one_row(alloc: Global) -> Result<Vec<Solution>, Memory>
     Ok(rows)
 }
 
-// The names of each row rise. It does nothing: proofs need to know.
-pub(crate) fn known_to_rise(rows: &[Solution])
-    ensures { All (λ s. IsTrue (rises s)) rows.now }
-{
-    for row in rows {
-        let _pairs = row.pairs();
-    }
-}
-
 // Whether an element is a triple pattern.
 fn is_pattern(element: &Element) -> bool
     ensures { result ≡ spec.is_run (part_patterns (part_of element.now)) }
@@ -466,7 +457,7 @@ fn filtered(alloc: Global, group: &Group, rows: Vec<Solution>) -> Result<Vec<Sol
     let Ok(filters) = filters_of(alloc, group) else {
         return Err(RowsError::Flow(FlowError::Memory));
     };
-    match filter(alloc, rows.as_slice(), filters.as_slice()) {
+    match filter(alloc, rows, filters.as_slice()) {
         Ok(kept) => Ok(kept),
         Err(Memory) => Err(RowsError::Flow(FlowError::Memory)),
     }
@@ -503,10 +494,10 @@ fn with_rows(
 
 fn lessened(
     alloc: Global,
-    before: &[Solution],
+    before: Vec<Solution>,
     found: Vec<Solution>,
 ) -> Result<Vec<Solution>, RowsError>
-    ensures given { IfOk result (λ rows. rows.items ≡ minus_of before.now found.items) }
+    ensures given { IfOk result (λ rows. rows.items ≡ minus_of before.items found.items) }
     ensures memory { IfErr result (λ e. e ≡ RowsError.Flow FlowError.Memory) }
 {
     match minus_with(alloc, before, found) {
@@ -547,11 +538,11 @@ fn with_inline(
 // The left join, with the filters of a group as its conditions.
 fn left_joined(
     alloc: Global,
-    before: &[Solution],
+    before: Vec<Solution>,
     found: Vec<Solution>,
     group: &Group,
 ) -> Result<Vec<Solution>, RowsError>
-    ensures given { IfOk result (λ rows. IsPermutation (left_join_of before.now found.items (group_of group.now).filters) rows.items) }
+    ensures given { IfOk result (λ rows. IsPermutation (left_join_of before.items found.items (group_of group.now).filters) rows.items) }
     ensures memory { IfErr result (λ e. e ≡ RowsError.Flow FlowError.Memory) }
 {
     let Ok(filters) = filters_of(alloc, group) else {
@@ -566,10 +557,10 @@ fn left_joined(
 // The left join with the one empty solution, for an OPTIONAL that has filters alone.
 fn filters_alone(
     alloc: Global,
-    before: &[Solution],
+    before: Vec<Solution>,
     group: &Group,
 ) -> Result<Vec<Solution>, RowsError>
-    ensures given { IfOk result (λ rows. IsPermutation (left_join_of before.now ([] ∷ []) (group_of group.now).filters) rows.items) }
+    ensures given { IfOk result (λ rows. IsPermutation (left_join_of before.items ([] ∷ []) (group_of group.now).filters) rows.items) }
     ensures memory { IfErr result (λ e. e ≡ RowsError.Flow FlowError.Memory) }
 {
     match one_row(alloc) {

@@ -10,9 +10,9 @@ ghost use Rattle.fx_member.specs.GroupRows.{AsksFor, IsAnswerOf};
 ghost use Rattle.fx_store.specs.Stores.{alone};
 
 use crate::groups::group_rows;
-use crate::known_rows::known_to_rise;
 use crate::places::first_here;
 use fx_algebra::{Answer, Element, Form, Inline, Query, Solution};
+use fx_solutions::known_rows::known_to_rise;
 use fx_solutions::laws::one_answer;
 use fx_solutions::{answer_of_rows, inline_rows, join_with};
 use fx_store::Store;

@@ -1,10 +1,9 @@
 //! The rows of groups (SPARQL 1.1 sections 18.2.2 and 18.6).
-ghost use Rattle.std.specs.Prelude.{◌≡◌, IfOk, OnOk};
-ghost use Rattle.fx_algebra.specs.Operators.{filtered as filtered_of};
+ghost use Rattle.std.specs.Prelude.{IfOk, OnOk};
 ghost use Rattle.fx_member.specs.GroupRows as spec;
 
-use crate::known_rows::known_to_rise;
 use fx_algebra::{Element, Expr, Group, Solution};
+use fx_solutions::known_rows::known_to_rise;
 use fx_solutions::{extend, filter, inline_rows, join_with, left_join_with, minus_with};
 use fx_store::Store;
 use fx_terms::Memory;
@@ -22,7 +21,7 @@ pub fn group_rows(alloc: Global, store: &Store, group: &Group) -> Result<Vec<Sol
 {
     let found = unfiltered(alloc, store, group)?;
     let filters = filters_of(alloc, group)?;
-    let rows = filtered(alloc, found, filters.as_slice())?;
+    let rows = filter(alloc, found, filters.as_slice())?;
     Ok(rows)
 }
 
@@ -59,7 +58,7 @@ fn after_element(
         Element::Optional(group) => {
             let found = unfiltered(alloc, store, group)?;
             let filters = filters_of(alloc, group)?;
-            let rows = left_join_with(alloc, before.as_slice(), found, filters.as_slice())?;
+            let rows = left_join_with(alloc, before, found, filters.as_slice())?;
             Ok(rows)
         }
         Element::Union(groups) => {
@@ -69,7 +68,7 @@ fn after_element(
         }
         Element::Minus(group) => {
             let found = group_rows(alloc, store, group)?;
-            let rows = minus_with(alloc, before.as_slice(), found)?;
+            let rows = minus_with(alloc, before, found)?;
             Ok(rows)
         }
         Element::Bind { expr, name } => {
@@ -121,13 +120,4 @@ fn add_filter(alloc: Global, filters: &mut Vec<Expr>, element: &Element) -> Resu
         filters.push(expr.copy(alloc)?)?;
     }
     Ok(())
-}
-
-fn filtered(alloc: Global, rows: Vec<Solution>, filters: &[Expr]) -> Result<Vec<Solution>, Memory>
-    ensures { IfOk result (λ kept. kept.items ≡ filtered_of filters.now rows.items) }
-{
-    if filters.is_empty() {
-        return Ok(rows);
-    }
-    filter(alloc, rows.as_slice(), filters)
 }

@@ -5,7 +5,6 @@ pub mod answering;
 pub mod fault_wires;
 pub mod graph_wires;
 pub mod groups;
-mod known_rows;
 mod places;
 pub mod serving;
 

@@ -1,22 +1,29 @@
 -- Rows that agree have the same terms under names that both bind.
-use Rattle.std.proofs.Common.{◌≡◌, ◌∙◌, ap, sym, refl, ℕ, ◌+◌, ◌≤◌, ◌<◌, Bool, true, false, ◌&&◌, cond, List, [], ◌∷◌, ◌++◌, map, length, get_or, Option, Some, None, is_some, inl, inr, IsPermutation, arith, subst}
-use Rattle.std.specs.List.{filter, flat_map, list_all}
+use Rattle.std.proofs.Common.{◌≡◌, ◌∙◌, ap, sym, refl, ℕ, ◌+◌, ◌≤◌, ◌<◌, suc, Bool, true, false, ◌&&◌, T, cond, List, [], ◌∷◌, ◌++◌, map, length, get_or, Option, Some, None, is_some, inl, inr, All, IsTrue, IsPermutation, append-nil, arith, subst}
+use Rattle.std.specs.Prelude.{◌==◌}
+use Rattle.std.specs.List.{AllByRecursion, filter, flat_map, list_all}
+use Rattle.std.specs.FinMap.Entries.{same_entries}
 use Rattle.std.specs.List.Sorted.{IsSortedBy, IsPartitionedBy}
 use Rattle.std.specs.declared.cmp.Ordering.{Ordering}
 use Rattle.std.specs.declared.cmp.Ordering.TheVariants.{Less, Equal, Greater}
 use Rattle.std.specs.Ordering.{is_eq, is_lt, is_le, ordering_reverse}
 use Rattle.std.specs.Cmp.Lexicographic.{slice_cmp}
 use Rattle.std.proofs.Common.{length-drop, drop}
+use Rattle.std.proofs.lemmas.Bool.Decides.{nat_tests}
 use Rattle.std.proofs.lemmas.List.{get_or-drop}
+use Rattle.std.proofs.lemmas.List.Elements.{recursion_from_All}
 use Rattle.std.proofs.lemmas.Cmp.{tied_itself, alike_right}
 use Rattle.std.proofs.lemmas.List.Sorted.{Contains-permutation, IsPermutation-refl, IsPermutation-sym, sorted_far, ranks_by}
+use Rattle.std.proofs.lemmas.Map.Lookups.{exact_bytes}
+use Rattle.fx_terms.specs.Texts.{text_cmp, texts_total}
 use Rattle.fx_terms.specs.declared.terms.Term.{Term}
 use Rattle.fx_terms.proofs.SetLemmas.{Among, among_from, contains_from}
-use Rattle.fx_algebra.specs.Solutions.{Bindings, term_of, agree, merge}
+use Rattle.fx_algebra.specs.Solutions.{Bindings, term_of, agree, merge, rises}
 use Rattle.fx_algebra.specs.Sequences.{cells, cell_cmp, row_cmp, rows_total}
 use Rattle.fx_algebra.specs.Operators.{merges, join}
-use Rattle.fx_algebra.proofs.JoinLemmas.{agree_has, same_join}
-use Rattle.fx_solutions.specs.Joins.{is_bound_in, is_shared, with_terms, merged}
+use Rattle.fx_algebra.proofs.JoinLemmas.{agree_has, find-merge, same_join}
+use Rattle.fx_algebra.proofs.PairLemmas.{rises_merge}
+use Rattle.fx_solutions.specs.Joins.{is_one_empty, is_bound_in, is_shared, with_terms, merged}
 
 both : (a b : Bool) → (a && b) ≡ true → (a ≡ true) × (b ≡ true)
 both true b h = (refl, h)
@@ -107,3 +114,35 @@ module _ (names : List (List ℕ)) (row : Bindings) where
 pub partitioned_drop : {X : Type 0} (p : X → Bool) (k : ℕ) (xs : List X) → IsPartitionedBy p xs → IsPartitionedBy p (drop k xs)
 partitioned_drop {X} p k xs h i j d a b e =
     subst (λ (t : X). p t ≡ true) (sym (get_or-drop k xs i d)) (h (k + i) (k + j) d (omega arith) (omega (arith, length-drop k xs)) (subst (λ (t : X). p t ≡ true) (get_or-drop k xs j d) e))
+
+-- ---- the join of the one empty row
+
+not_none : (n : ℕ) → (suc n == 0) ≡ true → ⊥
+not_none n h = grind (arith, nat_tests)
+
+only_empty : (rows : List Bindings) → is_one_empty rows ≡ true → rows ≡ [] ∷ []
+only_empty [] h = cc
+only_empty ([] ∷ []) h = refl
+only_empty ((e ∷ es) ∷ []) h = absurd (not_none (length es) h)
+only_empty (row ∷ other ∷ rows) h = cc
+
+to_T : (b : Bool) → b ≡ true → T b
+to_T true h = tt
+to_T false h = cc
+
+merge_nothing : (s : Bindings) → IsTrue (rises s) → merge [] s ≡ s
+merge_nothing s up = same_entries text_cmp texts_total exact_bytes (merge [] s) s (to_T (rises (merge [] s)) (rises_merge [] s refl)) (to_T (rises s) up) (λ n. find-merge [] s n)
+
+merges_nothing : (rows : List Bindings) → AllByRecursion (λ s. IsTrue (rises s)) rows → merges rows [] ≡ rows
+merges_nothing [] h = refl
+merges_nothing (s ∷ rows) h =
+    let here : merge [] s ≡ s = merge_nothing s h.0 in
+    let rest : merges rows [] ≡ rows = merges_nothing rows h.1 in
+    λ i. here i ∷ rest i
+
+-- rows joined with the one empty row are these rows
+pub joined_with_empty : (left right : List Bindings) → is_one_empty left ≡ true → All (λ s. IsTrue (rises s)) right → IsPermutation (join left right) right
+joined_with_empty left right one up =
+    let same : join left right ≡ right =
+    ap (λ (l : List Bindings). join l right) (only_empty left one) ∙ append-nil (merges right []) ∙ merges_nothing right (recursion_from_All (λ s. IsTrue (rises s)) right up) in
+    subst (λ (v : List Bindings). IsPermutation (join left right) v) same (IsPermutation-refl (join left right))

@@ -1,5 +1,5 @@
 -- How a join finds the rows that may agree.
-use Rattle.std.specs.Prelude.{ℕ, Bool, List, ◌&&◌, filter, is_some}
+use Rattle.std.specs.Prelude.{ℕ, Bool, false, List, [], ◌∷◌, ◌&&◌, ◌==◌, filter, is_some, length}
 use Rattle.std.specs.List.{flat_map, list_all}
 use Rattle.std.specs.Ordering.{is_eq}
 use Rattle.fx_algebra.specs.Operators.{merges}
@@ -7,6 +7,11 @@ use Rattle.fx_algebra.specs.Sequences.{row_cmp}
 use Rattle.fx_algebra.specs.Solutions.{Bindings, term_of}
 use Rattle.fx_algebra.specs.declared.expressions.Expr.{Expr}
 use Rattle.fx_algebra.specs.Operators.{stays, matches_or_itself}
+
+-- whether there is one row, which binds nothing
+abbrev pub is_one_empty : List Bindings → Bool
+is_one_empty (row ∷ []) = length row == 0
+is_one_empty _ = false
 
 -- whether each row binds a name
 abbrev pub is_bound_in : List Bindings → List ℕ → Bool

@@ -8,6 +8,7 @@ ghost use Rattle.fx_algebra.specs.Sequences.{row_cmp};
 ghost use Rattle.fx_algebra.specs.Solutions.{term_of};
 ghost use Rattle.fx_solutions.specs.Joins as spec;
 
+use crate::known_rows::known_to_rise;
 use crate::sequences::compare_rows;
 use fx_algebra::Solution;
 use fx_terms::{Memory, Name};
@@ -18,7 +19,7 @@ use std::cmp::Ordering;
 /// order (SPARQL 1.1 section 18.5).
 ///
 /// The rows of the right are sorted by the terms of the names that all rows of both sides bind, and for each row of the left
-/// those with its terms are found by halves.
+/// those with its terms are found by halves. Where the left is the one row that binds nothing, the join is the right.
 pub fn join(alloc: Global, left: &[Solution], right: &[Solution]) -> Result<Vec<Solution>, Memory>
     ensures { IfOk result (λ rows. IsPermutation (join_of left.now right.now) rows.items) }
 {
@@ -33,9 +34,23 @@ pub fn join_with(
 ) -> Result<Vec<Solution>, Memory>
     ensures { IfOk result (λ rows. IsPermutation (join_of left.now right.items) rows.items) }
 {
+    if is_one_empty(left) {
+        known_to_rise(right.as_slice());
+        return Ok(right);
+    }
     let shared = shared_names(alloc, left, right.as_slice())?;
     let index = by_terms(shared.as_slice(), right)?;
     merge_all(alloc, left, index.as_slice(), shared.as_slice())
+}
+
+// Whether there is one row, which binds nothing.
+fn is_one_empty(rows: &[Solution]) -> bool
+    ensures { result ≡ spec.is_one_empty rows.now }
+{
+    match rows {
+        [row] => row.pairs().is_empty(),
+        _ => false,
+    }
 }
 
 // Each row of the left, merged with those of the sorted rows that have its terms under the shared names and agree with it.

@@ -25,19 +25,20 @@ pub fn left_join(
 ) -> Result<Vec<Solution>, Memory>
     ensures { IfOk result (λ rows. IsPermutation (spec.left_join left.now right.now conditions.now) rows.items) }
 {
+    let left = copy_rows(alloc, left)?;
     left_join_with(alloc, left, copy_rows(alloc, right)?, conditions)
 }
 
-/// The left join, as `left_join` gives it, with rows that are handed over: no row of the right is copied.
+/// The left join, as `left_join` gives it, with rows that are handed over: no row is copied.
 pub fn left_join_with(
     alloc: Global,
-    left: &[Solution],
+    left: Vec<Solution>,
     right: Vec<Solution>,
     conditions: &[Expr],
 ) -> Result<Vec<Solution>, Memory>
-    ensures { IfOk result (λ rows. IsPermutation (spec.left_join left.now right.items conditions.now) rows.items) }
+    ensures { IfOk result (λ rows. IsPermutation (spec.left_join left.items right.items conditions.now) rows.items) }
 {
-    let shared = shared_names(alloc, left, right.as_slice())?;
+    let shared = shared_names(alloc, left.as_slice(), right.as_slice())?;
     let index = by_terms(shared.as_slice(), right)?;
     match_all(alloc, left, index.as_slice(), shared.as_slice(), conditions)
 }
@@ -45,23 +46,18 @@ pub fn left_join_with(
 // Each row of the left with its matches among the sorted rows that have its terms under the shared names, or itself.
 fn match_all(
     alloc: Global,
-    left: &[Solution],
+    left: Vec<Solution>,
     index: &[Solution],
     shared: &[Name],
     conditions: &[Expr],
 ) -> Result<Vec<Solution>, Memory>
     requires { IsSortedBy (λ a b. is_lt (row_cmp shared.now a b)) index.now }
-    ensures { IfOk result (λ rows. rows.items ≡ matched conditions.now shared.now index.now left.now) }
+    ensures { IfOk result (λ rows. rows.items ≡ matched conditions.now shared.now index.now left.items) }
 {
     let mut rows = Vec::new(alloc);
     for row in left {
-        add_matches(
-            alloc,
-            &mut rows,
-            row,
-            with_terms(index, shared, row),
-            conditions,
-        )?;
+        let others = with_terms(index, shared, &row);
+        add_matches(alloc, &mut rows, row, others, conditions)?;
     }
     Ok(rows)
 }
@@ -71,14 +67,14 @@ fn match_all(
 fn add_matches(
     alloc: Global,
     rows: &mut Vec<Solution>,
-    row: &Solution,
+    row: Solution,
     others: &[Solution],
     conditions: &[Expr],
 ) -> Result<(), Memory>
-    ensures { OnOk result (rows.new.items ≡ rows.old.items ++ spec.matches_or_itself conditions.now others.now row.now) }
+    ensures { OnOk result (rows.new.items ≡ rows.old.items ++ spec.matches_or_itself conditions.now others.now row) }
 {
-    let found = matches(alloc, row, others, conditions)?;
-    let mut found = or_itself(alloc, row, found)?;
+    let found = matches(alloc, &row, others, conditions)?;
+    let mut found = or_itself(row, found)?;
     rows.append(&mut found)?;
     Ok(())
 }
@@ -104,12 +100,12 @@ fn matches(
     Ok(found)
 }
 
-fn or_itself(alloc: Global, row: &Solution, found: Vec<Solution>) -> Result<Vec<Solution>, Memory>
-    ensures { IfOk result (λ rows. rows.items ≡ spec.or_itself row.now found.items) }
+fn or_itself(row: Solution, found: Vec<Solution>) -> Result<Vec<Solution>, Memory>
+    ensures { IfOk result (λ rows. rows.items ≡ spec.or_itself row found.items) }
 {
     let mut found = found;
     if found.is_empty() {
-        found.push(row.copy(alloc)?)?;
+        found.push(row)?;
     }
     Ok(found)
 }

@@ -3,6 +3,7 @@
 
 mod distinct_rows;
 pub mod joins;
+pub mod known_rows;
 pub mod laws;
 pub mod left_joins;
 pub mod ordered_rows;

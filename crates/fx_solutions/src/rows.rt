@@ -21,18 +21,21 @@ pub fn union(alloc: Global, left: &[Solution], right: &[Solution]) -> Result<Vec
     Ok(rows)
 }
 
-/// The rows on which every condition holds (section 18.5, Filter): an error removes the row.
+/// The rows on which every condition holds (section 18.5, Filter): an error removes the row. No row is copied.
 pub fn filter(
     alloc: Global,
-    rows: &[Solution],
+    rows: Vec<Solution>,
     conditions: &[Expr],
 ) -> Result<Vec<Solution>, Memory>
-    ensures { IfOk result (λ kept. kept.items ≡ spec.filtered conditions.now rows.now) }
+    ensures { IfOk result (λ kept. kept.items ≡ spec.filtered conditions.now rows.items) }
 {
+    if conditions.is_empty() {
+        return Ok(rows);
+    }
     let mut kept = Vec::new(alloc);
     for row in rows {
-        if holds(alloc, conditions, row)? {
-            kept.push(row.copy(alloc)?)?;
+        if holds(alloc, conditions, &row)? {
+            kept.push(row)?;
         }
     }
     Ok(kept)

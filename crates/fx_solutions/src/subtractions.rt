@@ -18,18 +18,18 @@ use std::alloc::Global;
 pub fn minus(alloc: Global, left: &[Solution], right: &[Solution]) -> Result<Vec<Solution>, Memory>
     ensures { IfOk result (λ rows. rows.items ≡ spec.minus left.now right.now) }
 {
-    minus_with(alloc, left, copy_rows(alloc, right)?)
+    minus_with(alloc, copy_rows(alloc, left)?, copy_rows(alloc, right)?)
 }
 
-/// The rows that `minus` gives, with rows that are handed over: no row of the right is copied.
+/// The rows that `minus` gives, with rows that are handed over: no row is copied.
 pub fn minus_with(
     alloc: Global,
-    left: &[Solution],
+    left: Vec<Solution>,
     right: Vec<Solution>,
 ) -> Result<Vec<Solution>, Memory>
-    ensures { IfOk result (λ rows. rows.items ≡ spec.minus left.now right.items) }
+    ensures { IfOk result (λ rows. rows.items ≡ spec.minus left.items right.items) }
 {
-    let shared = shared_names(alloc, left, right.as_slice())?;
+    let shared = shared_names(alloc, left.as_slice(), right.as_slice())?;
     let index = by_terms(shared.as_slice(), right)?;
     keep(alloc, left, index.as_slice(), shared.as_slice())
 }
@@ -37,17 +37,17 @@ pub fn minus_with(
 // The rows of the left that none of the sorted rows with their terms under the shared names removes.
 fn keep(
     alloc: Global,
-    left: &[Solution],
+    left: Vec<Solution>,
     index: &[Solution],
     shared: &[Name],
 ) -> Result<Vec<Solution>, Memory>
     requires { IsSortedBy (λ a b. is_lt (row_cmp shared.now a b)) index.now }
-    ensures { IfOk result (λ rows. rows.items ≡ kept shared.now index.now left.now) }
+    ensures { IfOk result (λ rows. rows.items ≡ kept shared.now index.now left.items) }
 {
     let mut rows = Vec::new(alloc);
     for row in left {
-        if stays(row, with_terms(index, shared, row)) {
-            rows.push(row.copy(alloc)?)?;
+        if stays(&row, with_terms(index, shared, &row)) {
+            rows.push(row)?;
         }
     }
     Ok(rows)

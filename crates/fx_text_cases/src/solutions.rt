@@ -32,7 +32,7 @@ fn inline(alloc: Global, block: &str) -> Option<String> {
 fn filtered(alloc: Global, rows: &str, conditions: &str) -> Option<String> {
     let rows = notation::solutions(alloc, rows)?;
     let conditions = notation::expressions(alloc, conditions)?;
-    text(alloc, filter(alloc, rows.as_slice(), conditions.as_slice()))
+    text(alloc, filter(alloc, rows, conditions.as_slice()))
 }
 
 fn extended(alloc: Global, rows: &str, name: &str, expression: &str) -> Option<String> {
@@ -76,7 +76,7 @@ fn of_two(alloc: Global, call: &str, left: &str, right: &str) -> Option<String> 
     match call {
         "union" => text(alloc, union(alloc, left.as_slice(), right.as_slice())),
         "minus" => text(alloc, minus(alloc, left.as_slice(), right.as_slice())),
-        "minus_with" => text(alloc, minus_with(alloc, left.as_slice(), right)),
+        "minus_with" => text(alloc, minus_with(alloc, left, right)),
         "join" => sorted(alloc, join(alloc, left.as_slice(), right.as_slice())),
         "join_with" => sorted(alloc, join_with(alloc, left.as_slice(), right)),
         _ => None,
@@ -93,9 +93,12 @@ fn of_left_join(
     let left = notation::solutions(alloc, left)?;
     let right = notation::solutions(alloc, right)?;
     let tests = notation::expressions(alloc, conditions)?;
-    let (left, tests) = (left.as_slice(), tests.as_slice());
+    let tests = tests.as_slice();
     match call {
-        "left_join" => sorted(alloc, left_join(alloc, left, right.as_slice(), tests)),
+        "left_join" => {
+            let (left, right) = (left.as_slice(), right.as_slice());
+            sorted(alloc, left_join(alloc, left, right, tests))
+        }
         "left_join_with" => sorted(alloc, left_join_with(alloc, left, right, tests)),
         _ => None,
     }

@@ -111,7 +111,7 @@ after_operator-returns-in-Minus g t c =
     let u = map g.W.Wire.seen c.group_rows.new.wires in
     subst (λ (e : Element). Asked {X = List Bindings} g.W.Wire.tells_log g.W.Wire.counts_alone s u c.args.endpoints.now c.args.tasks.now c.args.block (OperatorGiven c.args.endpoints.now c.args.block c.args.tasks.now c.args.next.now later e before) (OperatorDue c.args.endpoints.now c.args.block c.args.tasks.now c.args.next.now e before) (solutions_in c.lessened.result)) (sym c.in-Minus.is)
     (made_of g.W.Wire.tells_log g.W.Wire.counts_alone c.args.endpoints.now c.args.tasks.now c.args.block (GroupGiven c.args.endpoints.now c.args.block c.args.tasks.now c.args.next.now later it) (GroupDue c.args.endpoints.now c.args.block c.args.tasks.now c.args.next.now it) (OperatorGiven c.args.endpoints.now c.args.block c.args.tasks.now c.args.next.now later (Minus it) before) (OperatorDue c.args.endpoints.now c.args.block c.args.tasks.now c.args.next.now (Minus it) before) (λ rows. rows ≡ minus before found) s u found c.lessened.result
-    (subst (λ (v : List Bindings). IfOk c.lessened.result (λ rows. rows.items ≡ minus v found)) c.as_slice-in-Ok-group_rows.ensures.value c.lessened.ensures.given) c.lessened.ensures.memory
+    c.lessened.ensures.given c.lessened.ensures.memory
     (λ graphs wanted rows given e. of_minus c.args.endpoints.now c.args.block c.args.tasks.now c.args.next.now later graphs before rows wanted it found given e)
     (λ graphs wanted given. due_minus c.args.endpoints.now c.args.block c.args.tasks.now c.args.next.now graphs before wanted it (λ served number rest is. (given served number rest is).0.sent)) c.in-Ok-group_rows.ensures)
 
@@ -215,8 +215,8 @@ optional-returns-in-Err g t c =
     (OperatorGiven c.args.endpoints.now c.args.block c.args.tasks.now c.args.next.now later (Optional it) before) (OperatorDue c.args.endpoints.now c.args.block c.args.tasks.now c.args.next.now (Optional it) before) c.in-Err.error
     (λ graphs wanted due. due_optional c.args.endpoints.now c.args.block c.args.tasks.now c.args.next.now graphs before wanted it apart due) c.in-Err.ensures
 
-pub optional-returns : goal.optional-returns
-optional-returns g t c =
+pub optional-returns-in-Ok : goal.optional-returns-in-Ok
+optional-returns-in-Ok g t c =
     let it = c.args.group.now in
     let before = c.args.before.items in
     let found = c.in-Ok.found.items in
@@ -224,7 +224,7 @@ optional-returns g t c =
     let apart : (group_of it).is_simple ≡ false = sym c.is_simple.ensures ∙ c.if-is_simple.false in
     made_of g.W.Wire.tells_log g.W.Wire.counts_alone c.args.endpoints.now c.args.tasks.now c.args.block (UnfilteredGiven c.args.endpoints.now c.args.block c.args.tasks.now c.args.next.now later it) (GroupDue c.args.endpoints.now c.args.block c.args.tasks.now c.args.next.now it) (OperatorGiven c.args.endpoints.now c.args.block c.args.tasks.now c.args.next.now later (Optional it) before) (OperatorDue c.args.endpoints.now c.args.block c.args.tasks.now c.args.next.now (Optional it) before) (λ rows. IsPermutation (left_join before found (group_of it).filters) rows)
     (map g.W.Wire.seen c.args.wires.now) (map g.W.Wire.seen c.unfiltered.new.wires) found c.left_joined.result
-    (subst (λ (v : List Bindings). IfOk c.left_joined.result (λ rows. IsPermutation (left_join v found (group_of it).filters) rows.items)) c.as_slice.ensures.value c.left_joined.ensures.given) c.left_joined.ensures.memory
+    c.left_joined.ensures.given c.left_joined.ensures.memory
     (λ graphs wanted rows given p. of_optional c.args.endpoints.now c.args.block c.args.tasks.now c.args.next.now later graphs before rows wanted it found apart given p)
     (λ graphs wanted given. due_optional c.args.endpoints.now c.args.block c.args.tasks.now c.args.next.now graphs before wanted it apart (λ served number rest is. (given served number rest is).0.sent)) c.in-Ok.ensures
 

@@ -6,6 +6,4 @@ use Rattle.fx_engine.proofs.groups.filtered.Goals as goal
 
 pub returns-in-Ok-filter-clause-given : goal.returns-in-Ok-filter-clause-given
 returns-in-Ok-filter-clause-given c =
-    c.in-Ok-filter.ensures
-    ∙ ap (λ (es : List Expr). filtered_of es c.as_slice.result.now) (c.as_slice-2.ensures.value ∙ c.in-Ok.ensures ∙ own_filters c.args.group.now)
-    ∙ ap (filtered_of _) c.as_slice.ensures.value
+    c.in-Ok-filter.ensures ∙ ap (λ (es : List Expr). filtered_of es c.args.rows.items) (c.as_slice.ensures.value ∙ c.in-Ok.ensures ∙ own_filters c.args.group.now)

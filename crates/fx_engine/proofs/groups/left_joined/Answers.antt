@@ -6,4 +6,4 @@ use Rattle.fx_engine.proofs.groups.left_joined.Goals as goal
 
 pub returns-in-Ok-left_join_with-clause-given : goal.returns-in-Ok-left_join_with-clause-given
 returns-in-Ok-left_join_with-clause-given c =
-    subst (λ (es : List Expr). IsPermutation (left_join c.args.before.now c.args.found.items es) c.in-Ok-left_join_with.rows.items) (c.as_slice.ensures.value ∙ c.in-Ok.ensures ∙ own_filters c.args.group.now) c.in-Ok-left_join_with.ensures
+    subst (λ (es : List Expr). IsPermutation (left_join c.args.before.items c.args.found.items es) c.in-Ok-left_join_with.rows.items) (c.as_slice.ensures.value ∙ c.in-Ok.ensures ∙ own_filters c.args.group.now) c.in-Ok-left_join_with.ensures

@@ -1,18 +1,15 @@
-use Rattle.std.proofs.Common.{sym, subst, List, map, Ok, Err, All, IsTrue, IfOk, IsPermutation}
-use Rattle.fx_algebra.specs.Groups.{one_empty}
-use Rattle.fx_algebra.specs.Operators.{left_join}
+use Rattle.std.proofs.Common.{sym, subst, List, map, Ok, Err, All, IsTrue}
 use Rattle.fx_algebra.specs.Solutions.{Bindings, rises}
 use Rattle.fx_algebra.specs.declared.units.Row.{Row}
 use Rattle.fx_engine.specs.Asked.{Asked}
 use Rattle.fx_engine.specs.GroupsAsked.{RunDue, RunGiven}
-use Rattle.fx_engine.specs.SectionSteps.{group_of}
 use Rattle.fx_engine.proofs.EndLemmas.{optional_asked, optional_refused, optional_unasked}
 use Rattle.fx_engine.proofs.groups.optional_run.Goals as goal
 
 pub returns-then-not-has_pattern : goal.returns-then-not-has_pattern
 returns-then-not-has_pattern g c =
     optional_unasked g.W.Wire.tells_log g.W.Wire.counts_alone c.args.endpoints.now c.args.block c.args.tasks.now c.args.next.now c.args.before.items c.args.group.now c.requires.simple (map g.W.Wire.seen c.args.wires.now) (sym c.if-not-has_pattern.ensures) c.filters_alone.result
-    (subst (λ (v : List Bindings). IfOk c.filters_alone.result (λ rows. IsPermutation (left_join v one_empty (group_of c.args.group.now).filters) rows.items)) c.as_slice-then-not-has_pattern.ensures.value c.filters_alone.ensures.given) c.filters_alone.ensures.memory
+    c.filters_alone.ensures.given c.filters_alone.ensures.memory
 
 pub returns-in-Err : goal.returns-in-Err
 returns-in-Err g c =

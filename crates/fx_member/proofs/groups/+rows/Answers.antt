@@ -1,5 +1,5 @@
 use Rattle.std.proofs.Common.{◌∙◌, ap, sym, subst, refl, List, IsPermutation}
-use Rattle.fx_algebra.specs.Operators.{join, left_join, minus, filtered}
+use Rattle.fx_algebra.specs.Operators.{join, left_join, filtered}
 use Rattle.fx_algebra.specs.Solutions.{Bindings}
 use Rattle.fx_algebra.specs.declared.expressions.Expr.{Expr}
 use Rattle.fx_algebra.specs.declared.queries.Element.{Element}
@@ -14,8 +14,7 @@ after_element-returns-in_ok-rows-in-Optional t c =
     let found = c.in_ok-found-in-Optional.found.items in
     let filters = c.in_ok-filters-in-Optional.filters.items in
     let rows = c.in_ok-rows-in-Optional.rows.items in
-    let P : List Bindings → List Expr → Type 0 = λ left es. IsPermutation (left_join left found es) rows in
-    let joined : P before filters = subst (P before) c.as_slice-in-Optional-2.ensures.value (subst (λ (left : List Bindings). P left c.as_slice-in-Optional-2.result.now) c.as_slice-in-Optional.ensures.value c.in_ok-rows-in-Optional.ensures) in
+    let joined : IsPermutation (left_join before found filters) rows = subst (λ (es : List Expr). IsPermutation (left_join before found es) rows) c.as_slice-in-Optional.ensures.value c.in_ok-rows-in-Optional.ensures in
     subst (λ (e : Element). AreAfter e c.args.store.now before rows) (sym c.in-Optional.is)
     (after_optional c.args.store.now before rows c.in-Optional.group found filters c.in_ok-found-in-Optional.ensures c.in_ok-filters-in-Optional.ensures joined)
 
@@ -34,7 +33,7 @@ after_element-returns-in_ok-rows-in-Minus t c =
     let found = c.in_ok-found-in-Minus.found.items in
     let rows = c.in_ok-rows-in-Minus.rows.items in
     subst (λ (e : Element). AreAfter e c.args.store.now before rows) (sym c.in-Minus.is)
-    (after_minus c.args.store.now before rows c.in-Minus.group found c.in_ok-found-in-Minus.ensures (c.in_ok-rows-in-Minus.ensures ∙ ap (λ (left : List Bindings). minus left found) c.as_slice-in-Minus.ensures.value))
+    (after_minus c.args.store.now before rows c.in-Minus.group found c.in_ok-found-in-Minus.ensures c.in_ok-rows-in-Minus.ensures)
 
 pub after_element-returns-in-Service : goal.after_element-returns-in-Service
 after_element-returns-in-Service t c =

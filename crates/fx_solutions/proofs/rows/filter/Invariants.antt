@@ -1,6 +1,6 @@
-use Rattle.std.proofs.Common.{◌≡◌, take}
+use Rattle.std.proofs.Common.{◌≡◌}
 use Rattle.fx_algebra.specs.Operators as spec
 use Rattle.fx_solutions.proofs.rows.filter.Given as goal
 
 abbrev pub invariant-loop-row : goal.invariant-loop-row
-invariant-loop-row l = l.kept.items ≡ spec.filtered l.conditions (take l.row-index l.rows)
+invariant-loop-row l = l.kept.items ≡ spec.filtered l.conditions l.yielded

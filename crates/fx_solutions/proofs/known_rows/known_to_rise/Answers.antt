@@ -2,7 +2,7 @@ use Rattle.std.proofs.Common.{subst, All, IsTrue}
 use Rattle.std.proofs.lemmas.List.{take_all}
 use Rattle.std.proofs.lemmas.List.Elements.{All-more}
 use Rattle.fx_algebra.specs.Solutions.{Bindings, rises}
-use Rattle.fx_engine.proofs.groups.known_to_rise.Goals as goal
+use Rattle.fx_solutions.proofs.known_rows.known_to_rise.Goals as goal
 
 abbrev Rises : Bindings → Type 0
 Rises s = IsTrue (rises s)
