@@ -1,5 +1,5 @@
 -- A query's occurrences of SERVICE were invoked, and then its runs were asked for: its outcome, or the cause of a refusal.
-use Rattle.std.proofs.Common.{◌≡◌, ◌∙◌, ap, sym, subst, refl, ℕ, zero, suc, ◌+◌, ◌≤◌, Bool, List, [], ◌∷◌, ◌++◌, map, length, Some, All, Contains, IfErr, IfOk, IsTrue, Result, Ok, Err, append-nil, append_assoc, arith, slice_get}
+use Rattle.std.proofs.Common.{◌≡◌, ◌∙◌, ap, sym, subst, refl, ℕ, zero, suc, ◌+◌, ◌≤◌, Bool, List, [], ◌∷◌, ◌++◌, map, length, ◌⊎◌, Some, All, Contains, IfErr, IfOk, IsTrue, Result, Ok, Err, append-nil, append_assoc, arith, slice_get}
 use Rattle.std.specs.List.{AllByRecursion}
 use Rattle.std.proofs.lemmas.List.{length-map, map-append}
 use Rattle.std.proofs.lemmas.List.Elements.{All-from_recursion, Contains-append_right, recursion_from_All}
@@ -29,7 +29,8 @@ use Rattle.fx_engine.specs.GroupsAsked.{HasRows, Served, all_planned, units_in}
 use Rattle.fx_engine.specs.Invocations.{Calling}
 use Rattle.fx_engine.specs.Mediation.{Serve}
 use Rattle.fx_engine.specs.Noted.{places}
-use Rattle.fx_engine.specs.Outcomes.{HasOutcomeCause, Outcomed}
+use Rattle.fx_engine.specs.Order.{AreGiven}
+use Rattle.fx_engine.specs.Outcomes.{HasBatchRefusal, HasOutcomeCause, Outcomed}
 use Rattle.fx_engine.specs.RunsSent.{AreRunsSent}
 use Rattle.fx_engine.specs.Sections.{part_with, parts_with, section_of}
 use Rattle.fx_engine.specs.Tasks.{tasks_with}
@@ -53,7 +54,7 @@ passes_certain silent (told rows) h = tt
 passes_certain silent (failed why) h = tt
 passes_certain silent lost h = h
 
-each_certain : (calls : List Call) → AllByRecursion IsPassed calls → AllByRecursion (λ (c : Call). IsCertain c.came) calls
+pub each_certain : (calls : List Call) → AllByRecursion IsPassed calls → AllByRecursion (λ (c : Call). IsCertain c.came) calls
 each_certain [] h = tt
 each_certain (c ∷ cs) h = (passes_certain c.of.silent c.came h.0, each_certain cs h.1)
 
@@ -116,13 +117,16 @@ module _ (tells alone : Bool) (s t u : List Seen) (a : AllTell tells s) (b : All
         let known = subst (Knows (AnswerGiven es block tasks q) (AnswerDue es block tasks q) graphs k.wanted) same (behind_them graphs tell) in
         (known (served graphs tell is its serve) (tasks_are graphs tell is its serve) (rows_right graphs tell is its serve)).1
 
-    unfaulted : (o : Result Outcome FedError) → IfOk o (λ _. k.failed ≡ 0) → IfOk o (λ _. All IsPassed calls) → IsTrue alone → IfOk o (λ _. (address : List ℕ) → faults_at u address ≡ faults_at s address + failures_at address calls)
-    unfaulted (Ok outcome) none all is = λ address.
+    -- where no batch was refused, no faults are counted but those of the occurrences
+    pub none_but_theirs : k.failed ≡ 0 → AllByRecursion (λ (d : Call). IsCertain d.came) calls → IsTrue alone → (address : List ℕ) → faults_at u address ≡ faults_at s address + failures_at address calls
+    none_but_theirs none certain is address =
         let low : faults_at t address ≤ faults_at u address = gain_laws.never_fall t u address k.went.after_all in
         let high : faults_at u address ≤ faults_at t address + k.failed = k.went.counted is address in
-        let sure = All-from_recursion (λ (d : Call). IsCertain d.came) calls (each_certain calls (recursion_from_All IsPassed calls all)) in
-        let same : faults_at t address ≡ faults_at s address + failures_at address calls = c.exact is sure address in
+        let same : faults_at t address ≡ faults_at s address + failures_at address calls = c.exact is (All-from_recursion (λ (d : Call). IsCertain d.came) calls certain) address in
         omega (arith, low, high, same, none)
+
+    unfaulted : (o : Result Outcome FedError) → IfOk o (λ _. k.failed ≡ 0) → IfOk o (λ _. All IsPassed calls) → IsTrue alone → IfOk o (λ _. (address : List ℕ) → faults_at u address ≡ faults_at s address + failures_at address calls)
+    unfaulted (Ok outcome) none all is = λ address. none_but_theirs none (each_certain calls (recursion_from_All IsPassed calls all)) is address
     unfaulted (Err e) none all is = tt
 
     abbrev Among : List Exchange → List Exchange → Type 0
@@ -132,8 +136,9 @@ module _ (tells alone : Bool) (s t u : List Seen) (a : AllTell tells s) (b : All
         → IfOk o (λ outcome. (graphs : List (List Triple)) → TellAll s es graphs → plan ≡ parts_with (sources graphs) q → (its : List ℕ → List Triple) → Serve its es graphs → outcome.answer ≡ answer_of q (union graphs) its (places outcome.down))
         → IfOk o (λ _. All (IsBatchRead (Contains (units_in tasks))) k.exchanges)
         → ((all : List Exchange) → Among k.exchanges all → IfErr o (HasOutcomeCause s u es plan found block calls k.wanted all))
+        → ((all : List Exchange) → Among k.exchanges all → IfErr o (λ e. HasBatchRefusal s u es plan found block k.wanted all e ⊎ AreGiven alone s u calls (IsBatchRead (Contains (units_in tasks))) k.exchanges))
         → Outcomed tells alone s u es q plan block o
-    outcomed o none all_called all_passed down answer read cause =
+    outcomed o none all_called all_passed down answer read cause in_turn =
         let both = gained_both tells s t u c.exchanges k.exchanges c.gained k.went.gained in
         record {
           found = found;
@@ -164,6 +169,7 @@ module _ (tells alone : Bool) (s t u : List Seen) (a : AllTell tells s) (b : All
           runs = λ graphs tell is its serve. runs_for r graphs tell is its serve (behind_them graphs tell);
           answer = answer;
           cause = cause both.all (λ x m. Contains-permutation (c.exchanges ++ k.exchanges) both.all x both.same (Contains-append_right c.exchanges k.exchanges x m));
+          in_turn = in_turn both.all (λ x m. Contains-permutation (c.exchanges ++ k.exchanges) both.all x both.same (Contains-append_right c.exchanges k.exchanges x m));
         }
 
 -- ---- what goes before

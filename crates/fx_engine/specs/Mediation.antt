@@ -32,6 +32,7 @@ use Rattle.fx_wire.specs.Exchanges.{Exchange, Seen}
 use Rattle.fx_engine.specs.Asks.{IsAnsweredBy, IsAskRead, IsBadAsk, IsLongAsk}
 use Rattle.fx_engine.specs.Calls.{AreCalls, AreFirst, Call, IsPassed, down_in, failed, failures_at, occurrences}
 use Rattle.fx_engine.specs.Noted.{places}
+use Rattle.fx_engine.specs.Order.{AreGiven, AsksComeFirst}
 use Rattle.fx_engine.specs.RunsSent.{AreRunsSent}
 use Rattle.fx_engine.specs.Sections.{parts_by, parts_with, sections}
 use Rattle.fx_engine.specs.Unknown.{unknown_of}
@@ -181,7 +182,8 @@ Serve services (e ∷ endpoints) (graph ∷ graphs) = (services e.iri ≡ graph)
 -- occurrences of SERVICE that were invoked, which are the query's first, each once: what each came to, by its own exchanges. The other is ASKs and texts of batches
 -- that were wanted of the query, which where graphs are told are those of its runs; with an answer, each reply there was read without a fault. Together they are the
 -- query's traffic. With an answer: all occurrences were invoked, those that have no rows are silent, and are down; and the answer is that over the union of the graphs.
--- Else the cause. At each address as many faults at least were counted as exchanges with occurrences failed there, and with an answer no other by wires that count each
+-- Else the cause. ASKs come first: nothing else was asked for before each had its answer. And a refusal is that of an occurrence, and of no ASK and no batch, only
+-- where all that was asked for beside the occurrences was given. At each address as many faults at least were counted as exchanges with occurrences failed there, and with an answer no other by wires that count each
 -- address alone. And what the cache holds, which stays true of graphs.
 pub record Federated (tells alone : Bool) (before after : List Seen) (endpoints : List EndpointParts) (q : Query) (old new : List Entry) (block : ℕ) (result : Result Outcome FedError) : Type 0 where
   pub exchanges : List Exchange
@@ -213,6 +215,8 @@ pub record Federated (tells alone : Bool) (before after : List Seen) (endpoints 
       → outcome.answer ≡ answer q (union graphs) services (places outcome.down))
   pub known : KnowsServices endpoints q result
   pub cause : IfErr result (HasFedCause before after endpoints q old calls texts exchanges block)
+  pub asks_first : AsksComeFirst endpoints (missing q (length endpoints) old) calls texts exchanges
+  pub in_turn : IfErr result (λ e. HasFedCause before after endpoints q old [] texts exchanges block e ⊎ AreGiven alone before after calls (IsRead endpoints q old) of_others)
   pub held : HoldsBehind endpoints q old new exchanges result
   pub stays_true : (graphs : List (List Triple)) → AreKnown before endpoints old graphs → All (source.Tells graphs) new
 
