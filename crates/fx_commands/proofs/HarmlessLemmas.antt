@@ -243,7 +243,7 @@ all_is_well w es asked graphs graph_at entries block result are_told serve fed w
     record {
       each_harmless = each;
       texts_short = short (places (down_in calls)) down fed.texts
-          (runs_are_stations es graphs block (stations asked) (seeds asked (union graphs) graph_at (places (down_in calls))) fed.texts (fed.of_runs graphs (known_from_nothing w.before es graphs are_told) graph_at serve));
+          (runs_are_stations es graphs block (stations asked) (seeds asked (union graphs) graph_at (places (down_in calls))) fed.texts (fed.of_runs graphs (known_from_nothing w.before es graphs are_told) graph_at serve (places (down_in calls)) (λ k c there passes. refl)));
     }
 
 -- no occurrence without SILENT has a bad reply, or a text that is too long

@@ -28,7 +28,7 @@ use Rattle.fx_traffic.proofs.GainLemmas.{gain_laws}
 use Rattle.fx_traffic.proofs.SentLemmas.{sent_laws}
 use Rattle.fx_wire.specs.Exchanges.{Exchange, Seen}
 use Rattle.fx_engine.specs.Asks.{AskedAll, IsAskRead}
-use Rattle.fx_engine.specs.Calls.{AreCalls, Call, IsPassed, Occurrence, down_in, failures_at, occurrences}
+use Rattle.fx_engine.specs.Calls.{AgreesWith, AreCalls, Call, IsPassed, Occurrence, down_in, failures_at, occurrences}
 use Rattle.fx_engine.specs.Mediation.{AreKnown, Federated, HasFedCause, HasPlanCause, HoldsBehind, IsNamed, IsRead, IsUnitOf, KnowsServices, Serve}
 use Rattle.fx_engine.specs.Noted.{places}
 use Rattle.fx_engine.specs.GroupsAsked.{CanBeAsked, units_in}
@@ -119,12 +119,12 @@ federated_unasked tells alone wires es q old block e known cause = record {
   asked = none_asked es q old;
   texts = [];
   of_batches = All-nil (IsBatchText es block (IsUnitOf q));
-  of_runs = λ graphs known services serve. no_run_sent es graphs block (stations q) (seeds q (union graphs) services []) (seeds_for_each q (union graphs) services []);
+  of_runs = λ graphs known services serve down agrees. no_run_sent es graphs block (stations q) (seeds q (union graphs) services down) (seeds_for_each q (union graphs) services down);
   left = [];
   sent = IsPermutation-refl [];
   faultless = tt;
-  traffic = λ graphs known services serve.
-      traffic_of es graphs block services [] q old wires [] [] [] [] (occurrences q) [] [] [] (none_asked es q old) (no_run_sent es graphs block (stations q) (seeds q (union graphs) services []) (seeds_for_each q (union graphs) services [])) (IsPermutation-refl []) refl refl (IsPermutation-refl []);
+  traffic = λ graphs known services serve down agrees.
+      traffic_of es graphs block services down q old wires [] [] [] [] (occurrences q) [] [] [] (none_asked es q old) (no_run_sent es graphs block (stations q) (seeds q (union graphs) services down) (seeds_for_each q (union graphs) services down)) (IsPermutation-refl []) refl refl (IsPermutation-refl []);
   answer = tt;
   known = known;
   cause = cause;
@@ -189,12 +189,12 @@ module _ (tells alone : Bool) (s t : List Seen) (es : List EndpointParts) (q : Q
         asked = asked;
         texts = [];
         of_batches = All-nil (IsBatchText es block (IsUnitOf q));
-        of_runs = λ graphs known services serve. no_run_sent es graphs block (stations q) (seeds q (union graphs) services []) (seeds_for_each q (union graphs) services []);
+        of_runs = λ graphs known services serve down agrees. no_run_sent es graphs block (stations q) (seeds q (union graphs) services down) (seeds_for_each q (union graphs) services down);
         left = h.left;
         sent = sent;
         faultless = tt;
-        traffic = λ graphs known services serve.
-            traffic_of es graphs block services [] q old s h.wanted [] h.left [] (occurrences q) h.exchanges [] h.exchanges asked (no_run_sent es graphs block (stations q) (seeds q (union graphs) services []) (seeds_for_each q (union graphs) services [])) sent refl refl
+        traffic = λ graphs known services serve down agrees.
+            traffic_of es graphs block services down q old s h.wanted [] h.left [] (occurrences q) h.exchanges [] h.exchanges asked (no_run_sent es graphs block (stations q) (seeds q (union graphs) services down) (seeds_for_each q (union graphs) services down)) sent refl refl
             (subst (λ (v : List Exchange). IsPermutation v h.exchanges) (sym own) (IsPermutation-refl h.exchanges));
         answer = tt;
         known = known_named Outcome es q why e n known;
@@ -212,8 +212,8 @@ module _ (tells alone : Bool) (s t : List Seen) (es : List EndpointParts) (q : Q
     by_graphs : (graphs : List (List Triple)) → AreKnown s es old graphs → parts ≡ parts_with (sources graphs) q
     by_graphs graphs known = are ∙ parts_are_by_graphs s es q old graphs truths known.told known.entries_are h.many (h.told graphs known.told)
 
-    runs_sent : (graphs : List (List Triple)) → AreKnown s es old graphs → (services : List ℕ → List Triple) → Serve services es graphs → AreRunsSent es graphs block (stations q) (seeds q (union graphs) services (places (down_in k.calls))) k.texts
-    runs_sent graphs known services serve = k.runs graphs (still_tell_all s t h.after_all es graphs known.told) (by_graphs graphs known) services serve
+    runs_sent : (graphs : List (List Triple)) → AreKnown s es old graphs → (services : List ℕ → List Triple) → Serve services es graphs → (down : List ℕ) → AgreesWith down k.calls → AreRunsSent es graphs block (stations q) (seeds q (union graphs) services down) k.texts
+    runs_sent graphs known services serve down agrees = k.runs graphs (still_tell_all s t h.after_all es graphs known.told) (by_graphs graphs known) services serve down agrees
 
     abbrev Answered : Result Outcome FedError → Type 0
     Answered o = IfOk o (λ outcome. (graphs : List (List Triple)) → AreKnown s es old graphs → (services : List ℕ → List Triple) → Serve services es graphs → outcome.answer ≡ answer_of q (union graphs) services (places outcome.down))
@@ -289,8 +289,8 @@ module _ (tells alone : Bool) (s t : List Seen) (es : List EndpointParts) (q : Q
           left = h.left ++ k.left;
           sent = sent;
           faultless = faultless o read;
-          traffic = λ graphs known services serve.
-              traffic_of es graphs block services (places (down_in k.calls)) q old s h.wanted k.texts (h.left ++ k.left) k.calls k.first.others (h.exchanges ++ k.of_runs) k.of_calls both.all asked (runs_sent graphs known services serve) sent k.first.are called parted;
+          traffic = λ graphs known services serve down agrees.
+              traffic_of es graphs block services down q old s h.wanted k.texts (h.left ++ k.left) k.calls k.first.others (h.exchanges ++ k.of_runs) k.of_calls both.all asked (runs_sent graphs known services serve down agrees) sent k.first.are called parted;
           answer = answer;
           known = knows;
           cause = cause both.all (λ x m. Contains-permutation (h.exchanges ++ k.exchanges) both.all x both.same (Contains-append_right h.exchanges k.exchanges x m));

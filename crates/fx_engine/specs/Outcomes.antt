@@ -18,7 +18,7 @@ use Rattle.fx_traffic.specs.Batches.{IsBatchText}
 use Rattle.fx_traffic.specs.Gains.{AreAfter, HaveGained, TellAll, faults_at}
 use Rattle.fx_traffic.specs.Sent.{Sent, Sends}
 use Rattle.fx_wire.specs.Exchanges.{Exchange, Seen}
-use Rattle.fx_engine.specs.Calls.{AreCalls, AreFirst, Call, IsPassed, down_in, failures_at, occurrences}
+use Rattle.fx_engine.specs.Calls.{AgreesWith, AreCalls, AreFirst, Call, IsPassed, down_in, failures_at, occurrences}
 use Rattle.fx_engine.specs.GroupsAsked.{units_in}
 use Rattle.fx_engine.specs.Mediation.{AtNamed, HasName, HasPlain, IsNamed, Serve}
 use Rattle.fx_engine.specs.Noted.{places}
@@ -114,7 +114,7 @@ pub record Outcomed (tells alone : Bool) (before after : List Seen) (endpoints :
   pub sent : Sends texts left of_runs
   pub faultless : IfOk result (λ _. All (IsBatchRead (Contains (units_in (tasks_with plan found)))) of_runs)
   pub runs : (graphs : List (List Triple)) → TellAll before endpoints graphs → plan ≡ parts_with (sources graphs) q → (services : List ℕ → List Triple) → Serve services endpoints graphs
-      → AreRunsSent endpoints graphs block (stations q) (seeds q (union graphs) services (places (down_in calls))) texts
+      → (down : List ℕ) → AgreesWith down calls → AreRunsSent endpoints graphs block (stations q) (seeds q (union graphs) services down) texts
   pub answer : IfOk result (λ outcome. (graphs : List (List Triple)) → TellAll before endpoints graphs → plan ≡ parts_with (sources graphs) q → (services : List ℕ → List Triple) → Serve services endpoints graphs
       → outcome.answer ≡ answer q (union graphs) services (places outcome.down))
   pub cause : IfErr result (HasOutcomeCause before after endpoints plan found block calls texts exchanges)
