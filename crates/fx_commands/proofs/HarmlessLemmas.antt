@@ -1,8 +1,8 @@
 -- What the occurrences of SERVICE come to where nothing fails and nothing is too long.
-use Rattle.std.proofs.Common.{◌≡◌, ◌≢◌, ◌∙◌, ap, sym, subst, refl, ℕ, suc, ◌+◌, ◌≤◌, ◌<◌, Bool, true, false, cond, if◌then◌else◌, bytes_eq, List, [], ◌∷◌, ◌++◌, map, All, Result, length, inl, inr, arith}
+use Rattle.std.proofs.Common.{◌≡◌, ◌≢◌, ◌∙◌, ap, sym, subst, refl, ℕ, zero, suc, ◌+◌, ◌≤◌, ◌<◌, ◌||◌, ◌==◌, Bool, true, false, cond, if◌then◌else◌, bytes_eq, Some, slice_get, List, [], ◌∷◌, ◌++◌, map, All, Result, length, inl, inr, arith}
 use Rattle.std.specs.Prelude.{Contains}
 use Rattle.std.specs.List.{flat_map, list_any}
-use Rattle.std.proofs.lemmas.List.Elements.{All-contains, All-cons, All-nil, Contains-append_left, Contains-append_right}
+use Rattle.std.proofs.lemmas.List.Elements.{All-contains, Contains-append_left, Contains-append_right}
 use Rattle.std.proofs.lemmas.List.Sorted.{Contains-permutation}
 use Rattle.std.proofs.lemmas.Slice.Eq.{bytes_eq-Decides}
 use Rattle.fx_terms.specs.declared.triples.Triple.{Triple}
@@ -11,6 +11,7 @@ use Rattle.fx_outside.specs.Endpoints.{EndpointParts}
 use Rattle.fx_algebra.specs.Answers.{is_empty_list}
 use Rattle.fx_algebra.specs.Cuts.{seeds, stations}
 use Rattle.fx_algebra.specs.Graphs.{union}
+use Rattle.fx_algebra.specs.Groups.{is_down}
 use Rattle.fx_algebra.specs.Solutions.{Bindings}
 use Rattle.fx_algebra.specs.Stations.{Station}
 use Rattle.fx_algebra.specs.Stations as station
@@ -25,7 +26,7 @@ use Rattle.fx_traffic.specs.Sent.{Sent}
 use Rattle.fx_traffic.specs.Traffic.{AreStationsSent, IsStationSent, SentUnless}
 use Rattle.fx_traffic.proofs.CutLemmas.{batch_laws}
 use Rattle.fx_wire.specs.Exchanges.{Exchange, Seen, exchanged}
-use Rattle.fx_engine.specs.Calls.{AreCalls, Call, Came, HasComeTo, Occurrence, down_from, down_if, down_in, failed, failure_of, failures_at, lost, occurrence_in, occurrences, told}
+use Rattle.fx_engine.specs.Calls.{AgreesWith, AreCalls, Call, Came, HasComeTo, IsPassed, Occurrence, Passes, down_in, failed, failure_of, failures_at, lost, occurrence_in, occurrences, told}
 use Rattle.fx_engine.specs.Mediation.{Federated, HasPlain, Serve}
 use Rattle.fx_engine.specs.Noted.{places}
 use Rattle.fx_engine.specs.RunsSent.{AreRunsSent, IsSentForRun}
@@ -35,18 +36,14 @@ use Rattle.fx_engine.specs.declared.mediator.DownCause.{DownCause}
 use Rattle.fx_engine.specs.declared.mediator.DownCause.TheVariants as cause
 use Rattle.fx_engine.specs.declared.mediator.FedError.{FedError}
 use Rattle.fx_engine.specs.declared.mediator.Outcome.{Outcome}
-use Rattle.fx_engine.proofs.RegisteredLemmas.{unregistered_by}
+use Rattle.fx_engine.proofs.DownLemmas.{down_at, has_gone}
+use Rattle.fx_engine.proofs.NotedLemmas.{apart_below, the_same}
+use Rattle.fx_engine.proofs.RegisteredLemmas.{registered_by, unregistered_by}
 use Rattle.fx_commands.specs.Asking.{WiresSeen}
 use Rattle.fx_commands.specs.Completeness.{AreRepliesShort, AreTextsShort, AreWell}
 use Rattle.fx_commands.specs.Silent.{unregistered}
 use Rattle.fx_commands.proofs.HeadlineLemmas.{of_query}
 use Rattle.fx_commands.proofs.QueryLemmas.{known_from_nothing}
-
--- ---- what is so of all
-
-all_from : {X : Type 0} (P : X → Type 0) (xs : List X) → ((x : X) → Among x xs → P x) → All P xs
-all_from P [] h = All-nil P
-all_from P (x ∷ xs) h = All-cons P x xs (h x (inl refl)) (all_from P xs (λ y m. h y (inr m)))
 
 -- the text that is sent isn't longer than it may be
 abbrev pub IsShort : Sent → Type 0
@@ -124,32 +121,63 @@ module _ (before : List Seen) (es : List EndpointParts) (graphs : List (List Tri
 
 -- ---- which are down
 
-module _ (es : List EndpointParts) where
-  behind : (b : Bool) (n k : ℕ) (numbers : List ℕ) → Among k numbers → Among k (if b then numbers else n ∷ numbers)
-  behind true n k numbers m = m
-  behind false n k numbers m = inr m
+apart_above : (n k : ℕ) → n < k → (n == k) ≡ false
+apart_above n k high = grind (arith, high)
 
-  down_one : (n : ℕ) (silent : Bool) (o : Occurrence) (came : Came) (cs : List Call) (os : List Occurrence) → IsHarmless es o.iri came → ((k : ℕ) → Among k (places (down_from (suc n) cs)) → Among k (unregistered es (suc n) os))
-      → (k : ℕ) → Among k (places (down_if n silent o.iri came ++ down_from (suc n) cs)) → Among k (unregistered es n (o ∷ os))
-  down_one n silent o (told rows) cs os h rest k m = behind (is_registered es o.iri) n k (unregistered es (suc n) os) (rest k m)
-  down_one n true o (failed cause.Unknown) cs os h rest k m =
+-- a number that isn't among others isn't among them with one more in front, if that is another
+not_there : (b : Bool) (m k : ℕ) (numbers : List ℕ) → (m == k) ≡ false → is_down numbers k ≡ false → is_down (if b then numbers else m ∷ numbers) k ≡ false
+not_there true m k numbers apart h = h
+not_there false m k numbers apart h = ap (λ (b : Bool). b || is_down numbers k) apart ∙ h
+
+above : (es : List EndpointParts) (m k : ℕ) (os : List Occurrence) → k < m → is_down (unregistered es m os) k ≡ false
+above es m k [] low = refl
+above es m k (o ∷ os) low = not_there (is_registered es o.iri) m k (unregistered es (suc m) os) (apart_below m k low) (above es (suc m) k os (omega (arith, low)))
+
+module _ (before : List Seen) (es : List EndpointParts) where
+  -- the numbers from one on, where the first occurrence has it
+  abbrev Numbers : ℕ → Occurrence → List Occurrence → List ℕ
+  Numbers n o os = unregistered es n (o ∷ os)
+
+  -- an occurrence that passed is down exactly where no endpoint has its IRI
+  first_agrees : (n : ℕ) (silent : Bool) (o : Occurrence) (came : Came) (os : List Occurrence) (own : List Exchange) → HasComeTo before es o.iri o.group came own → IsHarmless es o.iri came → Passes silent came → is_down (Numbers n o os) n ≡ has_gone silent came
+  first_agrees n silent o (told rows) os own h harm passes =
       let others = unregistered es (suc n) os in
-      subst (λ (b : Bool). Among k (if b then others else n ∷ others)) (sym (unregistered_by es o.iri h)) (either m)
-    where
-      either : Among k (n ∷ places (down_from (suc n) cs)) → Among k (n ∷ unregistered es (suc n) os)
-      either (inl same) = inl same
-      either (inr m) = inr (rest k m)
-  down_one n true o (failed cause.Failed) cs os h rest k m = absurd h
-  down_one n true o (failed (cause.Bad bad)) cs os h rest k m = absurd h
-  down_one n true o (failed (cause.TooLong size)) cs os h rest k m = absurd h
-  down_one n false o (failed why) cs os h rest k m = behind (is_registered es o.iri) n k (unregistered es (suc n) os) (rest k m)
-  down_one n silent o lost cs os h rest k m = behind (is_registered es o.iri) n k (unregistered es (suc n) os) (rest k m)
+      ap (λ (b : Bool). is_down (if b then others else n ∷ others) n) (registered_by es o.iri h.0 h.1 h.2) ∙ above es (suc n) n os (omega arith)
+  first_agrees n true o (failed cause.Unknown) os own h harm passes =
+      let others = unregistered es (suc n) os in
+      ap (λ (b : Bool). is_down (if b then others else n ∷ others) n) (unregistered_by es o.iri h.0) ∙ ap (λ (b : Bool). b || is_down others n) (the_same n)
+  first_agrees n true o (failed cause.Failed) os own h harm passes = absurd harm
+  first_agrees n true o (failed (cause.Bad bad)) os own h harm passes = absurd harm
+  first_agrees n true o (failed (cause.TooLong size)) os own h harm passes = absurd harm
+  first_agrees n false o (failed why) os own h harm passes = absurd (cc)
+  first_agrees n silent o lost os own h harm passes = absurd passes
 
-  -- what is down of the first occurrences names no endpoint
-  down_unregistered : (n : ℕ) (calls : List Call) (others : List Occurrence) → ((c : Call) → Among c calls → IsHarmless es c.of.iri c.came)
-      → (k : ℕ) → Among k (places (down_from n calls)) → Among k (unregistered es n (map (λ c. c.of) calls ++ others))
-  down_unregistered n [] others h k m = absurd m
-  down_unregistered n (c ∷ cs) others h k m = down_one n c.of.silent c.of c.came cs (map (λ c. c.of) cs ++ others) (h c (inl refl)) (down_unregistered (suc n) cs others (λ d m. h d (inr m))) k m
+  -- the numbers behind the first
+  behind_first : (n k : ℕ) (o : Occurrence) (os : List Occurrence) → n < k → is_down (Numbers n o os) k ≡ is_down (unregistered es (suc n) os) k
+  behind_first n k o os high = by (is_registered es o.iri)
+    where
+      by : (b : Bool) → is_down (if b then unregistered es (suc n) os else n ∷ unregistered es (suc n) os) k ≡ is_down (unregistered es (suc n) os) k
+      by true = refl
+      by false = ap (λ (b : Bool). b || is_down (unregistered es (suc n) os) k) (apart_above n k high)
+
+  -- so are all that passed
+  each_agrees : (n : ℕ) (calls : List Call) (others : List Occurrence) (xs : List Exchange) → AreCalls before es calls xs → ((c : Call) → Among c calls → IsHarmless es c.of.iri c.came) → (i : ℕ) (c : Call) → slice_get calls i ≡ Some c → IsPassed c
+      → is_down (unregistered es n (map (λ c. c.of) calls ++ others)) (n + i) ≡ has_gone c.of.silent c.came
+  each_agrees n [] others xs h harm i c is passes = absurd (cc)
+  each_agrees n (d ∷ calls) others xs h harm zero c is passes =
+      let same : d ≡ c = cc in
+      let none : n + 0 ≡ n = omega arith in
+      let all = unregistered es n (d.of ∷ (map (λ c. c.of) calls ++ others)) in
+      ap (is_down all) none
+      ∙ first_agrees n d.of.silent d.of d.came (map (λ c. c.of) calls ++ others) h.0 h.3 (harm d (inl refl)) (subst IsPassed (sym same) passes)
+      ∙ ap (λ (v : Call). has_gone v.of.silent v.came) same
+  each_agrees n (d ∷ calls) others xs h harm (suc i) c is passes =
+      let next : n + suc i ≡ suc n + i = omega arith in
+      let high : n < suc n + i = omega arith in
+      let all = unregistered es n (d.of ∷ (map (λ c. c.of) calls ++ others)) in
+      ap (is_down all) next
+      ∙ behind_first n (suc n + i) d.of (map (λ c. c.of) calls ++ others) high
+      ∙ each_agrees (suc n) calls others h.1 h.5 (λ e m. harm e (inr m)) i c is passes
 
 -- ---- texts of occurrences
 
@@ -200,10 +228,11 @@ module _ (es : List EndpointParts) (graphs : List (List Triple)) (block : ℕ) w
 -- no text of an occurrence of an endpoint is longer than it may be
 short_for : (es : List EndpointParts) (graphs : List (List Triple)) (graph_at : List ℕ → List Triple) (block : ℕ) (asked : Query) (o : Occurrence) → AreTextsShort es graphs graph_at block asked → Contains (occurrences asked) o → IsShortFor es o
 short_for es graphs graph_at block asked o short among e known same =
-    let rows = seeds asked (union graphs) graph_at [] in
+    let down = unregistered es 0 (occurrences asked) in
+    let rows = seeds asked (union graphs) graph_at down in
     let x : Sent = text_to es graphs block e o in
-    let sent = text_sent_alone es graphs block (stations asked) rows o e (seeds_for_each asked (union graphs) graph_at []) (among_from (occurrences asked) o among) known same in
-    All-contains IsShort (x ∷ []) x (short [] (All-nil (Contains (unregistered es 0 (occurrences asked)))) (x ∷ []) sent) (contains_from (x ∷ []) x (inl refl)) (service_text o.group) refl
+    let sent = text_sent_alone es graphs block (stations asked) rows o e (seeds_for_each asked (union graphs) graph_at down) (among_from (occurrences asked) o among) known same in
+    All-contains IsShort (x ∷ []) x (short (x ∷ []) sent) (contains_from (x ∷ []) x (inl refl)) (service_text o.group) refl
 
 -- ---- runs
 
@@ -237,13 +266,15 @@ all_is_well w es asked graphs graph_at entries block result are_told serve fed w
     let fit : AreShort fed.of_calls = λ x among.
     All-contains (λ (y : Exchange). length y.reply ≤ 67108864) xs x (replies xs (fed.gained well.0)) (Contains-permutation (fed.of_others ++ fed.of_calls) xs x fed.parted (Contains-append_right fed.of_others fed.of_calls x among)) in
     let each = harmless w.before es graphs are_told calls fed.of_calls fed.are_calls none fit (λ c m. short_for es graphs graph_at block asked c.of short (of_query asked calls c fed.first (contains_from calls c m))) in
-    let numbers : (k : ℕ) → Among k (places (down_in calls)) → Among k (unregistered es 0 (occurrences asked)) = λ k m.
-    subst (λ (l : List Occurrence). Among k (unregistered es 0 l)) fed.first.are (down_unregistered es 0 calls fed.first.others each k m) in
-    let down : All (Contains (unregistered es 0 (occurrences asked))) (places (down_in calls)) = all_from (Contains (unregistered es 0 (occurrences asked))) (places (down_in calls)) (λ k m. contains_from (unregistered es 0 (occurrences asked)) k (numbers k m)) in
+    let down = unregistered es 0 (occurrences asked) in
+    let agrees : AgreesWith down calls = λ k c there passes.
+    let same : 0 + k ≡ k = omega arith in
+    let theirs = each_agrees w.before es 0 calls fed.first.others fed.of_calls fed.are_calls each k c there passes in
+    let so : is_down down (0 + k) ≡ has_gone c.of.silent c.came = subst (λ (l : List Occurrence). is_down (unregistered es 0 l) (0 + k) ≡ has_gone c.of.silent c.came) fed.first.are theirs in
+    ap (is_down down) (sym same) ∙ so ∙ sym (down_at 0 calls k c there) ∙ ap (is_down (places (down_in calls))) same in
     record {
       each_harmless = each;
-      texts_short = short (places (down_in calls)) down fed.texts
-          (runs_are_stations es graphs block (stations asked) (seeds asked (union graphs) graph_at (places (down_in calls))) fed.texts (fed.of_runs graphs (known_from_nothing w.before es graphs are_told) graph_at serve));
+      texts_short = short fed.texts (runs_are_stations es graphs block (stations asked) (seeds asked (union graphs) graph_at down) fed.texts (fed.of_runs graphs (known_from_nothing w.before es graphs are_told) graph_at serve down agrees));
     }
 
 -- no occurrence without SILENT has a bad reply, or a text that is too long

@@ -1,6 +1,6 @@
 -- That a run comes to its end: where its files are accepted, each SERVICE is such as it can take, nothing fails and nothing is too long, it is done, or memory
 -- ran out.
-use Rattle.std.specs.Prelude.{◌≡◌, ◌≤◌, ◌⊎◌, ℕ, List, [], length, All, Contains, IsTrue, None, Option, Some}
+use Rattle.std.specs.Prelude.{◌≡◌, ◌≤◌, ◌⊎◌, ℕ, List, [], length, All, IsTrue, None, Option, Some}
 use Rattle.fx_terms.specs.declared.triples.Triple.{Triple}
 use Rattle.fx_outside.specs.Doors.{DoorSeen}
 use Rattle.fx_outside.specs.Endpoints.{EndpointParts}
@@ -55,11 +55,10 @@ AreRepliesShort w = (exchanges : List Exchange) → HaveGained w.before w.after 
 abbrev pub AreAsksShort : List EndpointParts → Query → Type 0
 AreAsksShort endpoints asked = All (λ (p : Probe). length (ask_text p.key.pattern) ≤ 67108864) (missing asked (length endpoints) [])
 
--- Nor any text that may be sent for the query over these graphs, where each IRI has a graph, whichever are down of the occurrences of SERVICE that name no endpoint: a run
--- that ends early comes to the first of these alone.
+-- nor any text that may be sent for the query over these graphs, where each IRI has a graph, and those occurrences of SERVICE are down that name no endpoint
 abbrev pub AreTextsShort : List EndpointParts → List (List Triple) → (List ℕ → List Triple) → ℕ → Query → Type 0
 AreTextsShort endpoints graphs graph_at block asked =
-    (down : List ℕ) → All (Contains (unregistered endpoints 0 (occurrences asked))) down → (texts : List Sent) → AreStationsSent endpoints graphs block (stations asked) (seeds asked (union graphs) graph_at down) texts
+    (texts : List Sent) → AreStationsSent endpoints graphs block (stations asked) (seeds asked (union graphs) graph_at (unregistered endpoints 0 (occurrences asked))) texts
     → All (λ (x : Sent). (text : List ℕ) → x.request ≡ request_of x.at text → length text ≤ 67108864) texts
 
 -- ---- each command

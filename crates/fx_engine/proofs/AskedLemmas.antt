@@ -22,7 +22,7 @@ use Rattle.fx_pool.specs.RunFlows.{HasFlowCause, IsFlowCause}
 use Rattle.fx_pool.specs.declared.flows.FlowError.{FlowError}
 use Rattle.fx_pool.specs.declared.flows.FlowError.TheVariants as flow
 use Rattle.fx_pool.proofs.WireLemmas.{after_itself}
-use Rattle.fx_engine.specs.Asked.{Asked, HasRowsCause, Knows, Went}
+use Rattle.fx_engine.specs.Asked.{Asked, HasRowsCause, IfGiven, IfRefused, Knows, Went}
 use Rattle.fx_engine.specs.GroupsAsked.{solutions_in, units_in}
 use Rattle.fx_engine.specs.declared.tasks.RowsError.{RowsError}
 use Rattle.fx_engine.specs.declared.tasks.RowsError.TheVariants as rows_error
@@ -61,6 +61,11 @@ went_both tells alone failed before between after xs ys a b h k =
 -- replies that are read of batches of some units are so of batches of more
 pub read_of_more : (Of Of_also : unit.Unit → Type 0) → ((u : unit.Unit) → Of u → Of_also u) → (xs : List Exchange) → All (IsBatchRead Of) xs → All (IsBatchRead Of_also) xs
 read_of_more Of Of_also more xs h = All-weaker (IsBatchRead Of) (IsBatchRead Of_also) (λ x r. record { unit = r.unit; of_these = more r.unit r.of_these; batch = r.batch; read = r.read }) xs h
+
+-- what is so anyway is so where no batch was refused
+so_if_refused : (P : Type 0) (e : RowsError) → P → IfRefused e P
+so_if_refused P (rows_error.Flow e) p = tt
+so_if_refused P rows_error.Refused p = p
 
 -- ---- the cause of a refusal is one of all that was done before it, too
 
@@ -142,13 +147,13 @@ module _ (tells alone : Bool) (endpoints : List EndpointParts) (tasks : List Tas
     exchanges = [];
     failed = 0;
     few = zero-le;
-    unfailed = tt;
+    unfailed = so_if_refused (0 ≡ 0) e refl;
     went = went_nowhere tells alone wires;
     wanted = [];
     left = [];
     sent = IsPermutation-refl [];
     of_batches = All-nil (IsBatchText endpoints block (Contains (units_in tasks)));
-    faultless = tt;
+    faultless = so_if_refused (All (IsBatchRead (Contains (units_in tasks))) []) e (All-nil (IsBatchRead (Contains (units_in tasks))));
     known = λ graphs told. f graphs;
     cause = cause;
   }
@@ -201,13 +206,13 @@ module _ (tells alone : Bool) (endpoints : List EndpointParts) (tasks : List Tas
       exchanges = h.exchanges;
       failed = h.failed;
       few = h.few;
-      unfailed = tt;
+      unfailed = h.unfailed;
       went = h.went;
       wanted = h.wanted;
       left = h.left;
       sent = h.sent;
       of_batches = h.of_batches;
-      faultless = tt;
+      faultless = h.faultless;
       known = λ graphs told. f graphs h.wanted (h.known graphs told);
       cause = h.cause;
     }
@@ -238,9 +243,13 @@ module _ (tells alone : Bool) (endpoints : List EndpointParts) (tasks : List Tas
           cause = cause both.all both.same r k.cause;
         }
       where
-        faultless : (all : List Exchange) → IsPermutation (h.exchanges ++ k.exchanges) all → (o : Result Y RowsError) → IfOk o (λ _. All (IsBatchRead (Contains (units_in tasks))) k.exchanges) → IfOk o (λ _. All (IsBatchRead (Contains (units_in tasks))) all)
-        faultless all same (Ok y) g = All-permutation (IsBatchRead (Contains (units_in tasks))) (h.exchanges ++ k.exchanges) all same (All-append (IsBatchRead (Contains (units_in tasks))) h.exchanges k.exchanges h.faultless g)
-        faultless all same (Err e) g = tt
+        both_read : (all : List Exchange) → IsPermutation (h.exchanges ++ k.exchanges) all → All (IsBatchRead (Contains (units_in tasks))) k.exchanges → All (IsBatchRead (Contains (units_in tasks))) all
+        both_read all same g = All-permutation (IsBatchRead (Contains (units_in tasks))) (h.exchanges ++ k.exchanges) all same (All-append (IsBatchRead (Contains (units_in tasks))) h.exchanges k.exchanges h.faultless g)
+
+        faultless : (all : List Exchange) → IsPermutation (h.exchanges ++ k.exchanges) all → (o : Result Y RowsError) → IfGiven o (All (IsBatchRead (Contains (units_in tasks))) k.exchanges) → IfGiven o (All (IsBatchRead (Contains (units_in tasks))) all)
+        faultless all same (Ok y) g = both_read all same g
+        faultless all same (Err (rows_error.Flow e)) g = tt
+        faultless all same (Err rows_error.Refused) g = both_read all same g
 
         known : (o : Result Y RowsError) (graphs : List (List Triple)) → Given graphs h.wanted x → Knows Given_next Due_next graphs k.wanted o → Knows Given_both Due_both graphs (h.wanted ++ k.wanted) o
         known (Ok y) graphs g n = f graphs h.wanted k.wanted y g n

@@ -28,11 +28,12 @@ use Rattle.fx_traffic.proofs.GainLemmas.{gain_laws}
 use Rattle.fx_traffic.proofs.SentLemmas.{sent_laws}
 use Rattle.fx_wire.specs.Exchanges.{Exchange, Seen}
 use Rattle.fx_engine.specs.Asks.{AskedAll, IsAskRead}
-use Rattle.fx_engine.specs.Calls.{AreCalls, Call, IsPassed, Occurrence, down_in, failures_at, occurrences}
+use Rattle.fx_engine.specs.Calls.{AgreesWith, AreCalls, Call, IsPassed, Occurrence, down_in, failures_at, occurrences}
 use Rattle.fx_engine.specs.Mediation.{AreKnown, Federated, HasFedCause, HasPlanCause, HoldsBehind, IsNamed, IsRead, IsUnitOf, KnowsServices, Serve}
 use Rattle.fx_engine.specs.Noted.{places}
 use Rattle.fx_engine.specs.GroupsAsked.{CanBeAsked, units_in}
-use Rattle.fx_engine.specs.Outcomes.{HasOutcomeCause, HasRefusal, Outcomed}
+use Rattle.fx_engine.specs.Order.{AreAnswered, AreGiven}
+use Rattle.fx_engine.specs.Outcomes.{HasBatchRefusal, HasOutcomeCause, HasRefusal, Outcomed}
 use Rattle.fx_engine.specs.RunsSent.{AreRunsSent}
 use Rattle.fx_engine.specs.Sections.{parts_by, parts_with, sections}
 use Rattle.fx_engine.specs.Tasks.{tasks_with}
@@ -118,15 +119,17 @@ federated_unasked tells alone wires es q old block e known cause = record {
   asked = none_asked es q old;
   texts = [];
   of_batches = All-nil (IsBatchText es block (IsUnitOf q));
-  of_runs = λ graphs known services serve. no_run_sent es graphs block (stations q) (seeds q (union graphs) services []) (seeds_for_each q (union graphs) services []);
+  of_runs = λ graphs known services serve down agrees. no_run_sent es graphs block (stations q) (seeds q (union graphs) services down) (seeds_for_each q (union graphs) services down);
   left = [];
   sent = IsPermutation-refl [];
   faultless = tt;
-  traffic = λ graphs known services serve.
-      traffic_of es graphs block services [] q old wires [] [] [] [] (occurrences q) [] [] [] (none_asked es q old) (no_run_sent es graphs block (stations q) (seeds q (union graphs) services []) (seeds_for_each q (union graphs) services [])) (IsPermutation-refl []) refl refl (IsPermutation-refl []);
+  traffic = λ graphs known services serve down agrees.
+      traffic_of es graphs block services down q old wires [] [] [] [] (occurrences q) [] [] [] (none_asked es q old) (no_run_sent es graphs block (stations q) (seeds q (union graphs) services down) (seeds_for_each q (union graphs) services down)) (IsPermutation-refl []) refl refl (IsPermutation-refl []);
   answer = tt;
   known = known;
   cause = cause;
+  asks_first = inl (refl, refl);
+  in_turn = inl cause;
   held = stays Outcome es q old [] e;
   stays_true = λ graphs is. is.entries_are;
 }
@@ -186,16 +189,18 @@ module _ (tells alone : Bool) (s t : List Seen) (es : List EndpointParts) (q : Q
         asked = asked;
         texts = [];
         of_batches = All-nil (IsBatchText es block (IsUnitOf q));
-        of_runs = λ graphs known services serve. no_run_sent es graphs block (stations q) (seeds q (union graphs) services []) (seeds_for_each q (union graphs) services []);
+        of_runs = λ graphs known services serve down agrees. no_run_sent es graphs block (stations q) (seeds q (union graphs) services down) (seeds_for_each q (union graphs) services down);
         left = h.left;
         sent = sent;
         faultless = tt;
-        traffic = λ graphs known services serve.
-            traffic_of es graphs block services [] q old s h.wanted [] h.left [] (occurrences q) h.exchanges [] h.exchanges asked (no_run_sent es graphs block (stations q) (seeds q (union graphs) services []) (seeds_for_each q (union graphs) services [])) sent refl refl
+        traffic = λ graphs known services serve down agrees.
+            traffic_of es graphs block services down q old s h.wanted [] h.left [] (occurrences q) h.exchanges [] h.exchanges asked (no_run_sent es graphs block (stations q) (seeds q (union graphs) services down) (seeds_for_each q (union graphs) services down)) sent refl refl
             (subst (λ (v : List Exchange). IsPermutation v h.exchanges) (sym own) (IsPermutation-refl h.exchanges));
         answer = tt;
         known = known_named Outcome es q why e n known;
         cause = fed_cause s t es q old block [] h.exchanges [] e (plan_cause es q old s t h.exchanges why e h.cause n);
+        asks_first = inl (refl, refl);
+        in_turn = inl (fed_cause s t es q old block [] h.exchanges [] e (plan_cause es q old s t h.exchanges why e h.cause n));
         held = stays Outcome es q old h.exchanges e;
         stays_true = λ graphs is. is.entries_are;
       }
@@ -207,8 +212,8 @@ module _ (tells alone : Bool) (s t : List Seen) (es : List EndpointParts) (q : Q
     by_graphs : (graphs : List (List Triple)) → AreKnown s es old graphs → parts ≡ parts_with (sources graphs) q
     by_graphs graphs known = are ∙ parts_are_by_graphs s es q old graphs truths known.told known.entries_are h.many (h.told graphs known.told)
 
-    runs_sent : (graphs : List (List Triple)) → AreKnown s es old graphs → (services : List ℕ → List Triple) → Serve services es graphs → AreRunsSent es graphs block (stations q) (seeds q (union graphs) services (places (down_in k.calls))) k.texts
-    runs_sent graphs known services serve = k.runs graphs (still_tell_all s t h.after_all es graphs known.told) (by_graphs graphs known) services serve
+    runs_sent : (graphs : List (List Triple)) → AreKnown s es old graphs → (services : List ℕ → List Triple) → Serve services es graphs → (down : List ℕ) → AgreesWith down k.calls → AreRunsSent es graphs block (stations q) (seeds q (union graphs) services down) k.texts
+    runs_sent graphs known services serve down agrees = k.runs graphs (still_tell_all s t h.after_all es graphs known.told) (by_graphs graphs known) services serve down agrees
 
     abbrev Answered : Result Outcome FedError → Type 0
     Answered o = IfOk o (λ outcome. (graphs : List (List Triple)) → AreKnown s es old graphs → (services : List ℕ → List Triple) → Serve services es graphs → outcome.answer ≡ answer_of q (union graphs) services (places outcome.down))
@@ -218,26 +223,39 @@ module _ (tells alone : Bool) (s t : List Seen) (es : List EndpointParts) (q : Q
         subst (λ (o : Result Outcome FedError). IfOk o (λ (c : Outcome). (graphs : List (List Triple)) → TellAll t es graphs → parts ≡ parts_with (sources graphs) q → (services : List ℕ → List Triple) → Serve services es graphs → c.answer ≡ answer_of q (union graphs) services (places c.down))) same k.answer graphs
         (still_tell_all s t h.after_all es graphs known.told) (by_graphs graphs known) services serve
 
-    exactly : (o : Result Outcome FedError) → (IsTrue alone → IfOk o (λ _. (address : List ℕ) → faults_at u address ≡ faults_at t address + failures_at address k.calls)) → IsTrue alone → IfOk o (λ _. (address : List ℕ) → faults_at u address ≡ faults_at s address + failures_at address k.calls)
-    exactly (Ok outcome) f is = λ address.
-        let one : faults_at u address ≡ faults_at t address + failures_at address k.calls = f is address in
+    counted_so : ((address : List ℕ) → faults_at u address ≡ faults_at t address + failures_at address k.calls) → IsTrue alone → (address : List ℕ) → faults_at u address ≡ faults_at s address + failures_at address k.calls
+    counted_so f is address =
+        let one : faults_at u address ≡ faults_at t address + failures_at address k.calls = f address in
         let same : faults_at t address ≡ faults_at s address = h.quiet is address in
         omega (arith, one, same)
+
+    exactly : (o : Result Outcome FedError) → (IsTrue alone → IfOk o (λ _. (address : List ℕ) → faults_at u address ≡ faults_at t address + failures_at address k.calls)) → IsTrue alone → IfOk o (λ _. (address : List ℕ) → faults_at u address ≡ faults_at s address + failures_at address k.calls)
+    exactly (Ok outcome) f is = counted_so (f is) is
     exactly (Err e) f is = tt
 
-    faultless : (o : Result Outcome FedError) → IfOk o (λ _. All (IsBatchRead (IsUnitOf q)) k.of_runs) → IfOk o (λ _. All (IsRead es q old) (h.exchanges ++ k.of_runs))
-    faultless (Ok outcome) read =
+    each_read : All (IsBatchRead (IsUnitOf q)) k.of_runs → All (IsRead es q old) (h.exchanges ++ k.of_runs)
+    each_read read =
         All-append (IsRead es q old) h.exchanges k.of_runs (All-weaker (IsAskRead probes) (IsRead es q old) (λ x r. inl r) h.exchanges h.faultless) (All-weaker (IsBatchRead (IsUnitOf q)) (IsRead es q old) (λ x r. inr r) k.of_runs read)
+
+    faultless : (o : Result Outcome FedError) → IfOk o (λ _. All (IsBatchRead (IsUnitOf q)) k.of_runs) → IfOk o (λ _. All (IsRead es q old) (h.exchanges ++ k.of_runs))
+    faultless (Ok outcome) read = each_read read
     faultless (Err e) read = tt
 
     abbrev Among : List Exchange → List Exchange → Type 0
     Among xs all = (x : Exchange) → Contains xs x → Contains all x
 
+    -- each ASK has its answer
+    answered : (all : List Exchange) → Among h.exchanges all → AreAnswered es probes all
+    answered all among =
+        let its = has_learned es q old h.exchanges all among truths h.many h.answered (learned old probes truths) refl in
+        record { truths = its.truths; many = its.many; answered = its.answered }
+
     pub federated : (o : Result Outcome FedError) (new : List Entry) → IfOk o (λ _. map (λ c. c.of) k.calls ≡ occurrences q) → IfOk o (λ _. All IsPassed k.calls) → IfOk o (λ outcome. outcome.down ≡ down_in k.calls)
         → (IsTrue alone → IfOk o (λ _. (address : List ℕ) → faults_at u address ≡ faults_at t address + failures_at address k.calls)) → Answered o
         → ((all : List Exchange) → Among k.exchanges all → IfErr o (HasFedCause s u es q old k.calls k.texts all block)) → ((all : List Exchange) → Among h.exchanges all → HoldsBehind es q old new all o)
+        → ((all : List Exchange) → Among k.exchanges all → IfErr o (λ e. HasFedCause s u es q old [] k.texts all block e ⊎ AreGiven alone s u k.calls (IsRead es q old) (h.exchanges ++ k.of_runs)))
         → All (IsBatchText es block (IsUnitOf q)) k.texts → IfOk o (λ _. All (IsBatchRead (IsUnitOf q)) k.of_runs) → KnowsServices es q o → StaysTrue new → Federated tells alone s u es q old new block o
-    federated o new all_called passed down exact answer cause held of_batches read knows still =
+    federated o new all_called passed down exact answer cause held in_turn of_batches read knows still =
         let both = gained_both tells s t u h.exchanges k.exchanges h.gained k.gained in
         let asked : AreAsked es q old h.wanted = record { probes = h.asked; unasked = h.unasked; lacked = h.split; texts = h.texts } in
         let sent : Sends (h.wanted ++ k.texts) (h.left ++ k.left) (h.exchanges ++ k.of_runs) = sent_laws.together h.wanted h.left k.texts k.left h.exchanges k.of_runs h.sent k.sent in
@@ -271,11 +289,13 @@ module _ (tells alone : Bool) (s t : List Seen) (es : List EndpointParts) (q : Q
           left = h.left ++ k.left;
           sent = sent;
           faultless = faultless o read;
-          traffic = λ graphs known services serve.
-              traffic_of es graphs block services (places (down_in k.calls)) q old s h.wanted k.texts (h.left ++ k.left) k.calls k.first.others (h.exchanges ++ k.of_runs) k.of_calls both.all asked (runs_sent graphs known services serve) sent k.first.are called parted;
+          traffic = λ graphs known services serve down agrees.
+              traffic_of es graphs block services down q old s h.wanted k.texts (h.left ++ k.left) k.calls k.first.others (h.exchanges ++ k.of_runs) k.of_calls both.all asked (runs_sent graphs known services serve down agrees) sent k.first.are called parted;
           answer = answer;
           known = knows;
           cause = cause both.all (λ x m. Contains-permutation (h.exchanges ++ k.exchanges) both.all x both.same (Contains-append_right h.exchanges k.exchanges x m));
+          asks_first = inr (answered both.all (λ x m. Contains-permutation (h.exchanges ++ k.exchanges) both.all x both.same (Contains-append_left h.exchanges k.exchanges x m)));
+          in_turn = in_turn both.all (λ x m. Contains-permutation (h.exchanges ++ k.exchanges) both.all x both.same (Contains-append_right h.exchanges k.exchanges x m));
           held = held both.all (λ x m. Contains-permutation (h.exchanges ++ k.exchanges) both.all x both.same (Contains-append_left h.exchanges k.exchanges x m));
           stays_true = still;
         }
@@ -307,6 +327,12 @@ module _ (tells alone : Bool) (s t : List Seen) (es : List EndpointParts) (q : Q
       refusal_known (fed.UnknownService iri) c = absurd c
       refusal_known fed.Memory c = tt
 
+      -- a refusal is of a batch, or all batches were given
+      in_turn_so : (e : FedError) → HasBatchRefusal t u es parts k.found block k.texts k.exchanges e ⊎ AreGiven alone t u k.calls (IsBatchRead (Contains (units_in tasks))) k.of_runs → (all : List Exchange) → Among k.exchanges all
+          → HasFedCause s u es q old [] k.texts all block e ⊎ AreGiven alone s u k.calls (IsRead es q old) (h.exchanges ++ k.of_runs)
+      in_turn_so e (inl c) all among = inl (batch_cause_behind es q old (length es) entries k.found tasks tasks_are (can k.found) block s t u h.after_all k.exchanges all among [] k.texts c.0 e c.1 c.2)
+      in_turn_so e (inr g) all among = inr (record { read = each_read (read_of_query es q (length es) entries k.found tasks tasks_are (can k.found) k.of_runs g.read); exact = λ is. counted_so (g.exact is) is })
+
       knows_so : (e : FedError) → HasOutcomeCause t u es parts k.found block k.calls k.texts k.exchanges e → KnowsServices {X = Outcome} es q (Err e)
       knows_so e (inl c) = known_named Outcome es q c.0 e c.2 known
       knows_so e (inr c) = refusal_known e c
@@ -314,16 +340,18 @@ module _ (tells alone : Bool) (s t : List Seen) (es : List EndpointParts) (q : Q
       pub federated_stopped : (e : FedError) → r ≡ Err e → Federated tells alone s u es q old old block (Err e)
       federated_stopped e same =
           let why = subst (λ (o : Result Outcome FedError). IfErr o (HasOutcomeCause t u es parts k.found block k.calls k.texts k.exchanges)) same k.cause in
-          federated (Err e) old tt tt tt (λ is. tt) tt (cause_so e why) (λ all among. stays Outcome es q old all e) its_texts tt (knows_so e why) (λ graphs is. is.entries_are)
+          let turn =
+          subst (λ (o : Result Outcome FedError). IfErr o (λ (x : FedError). HasBatchRefusal t u es parts k.found block k.texts k.exchanges x ⊎ AreGiven alone t u k.calls (IsBatchRead (Contains (units_in tasks))) k.of_runs)) same k.in_turn in
+          federated (Err e) old tt tt tt (λ is. tt) tt (cause_so e why) (λ all among. stays Outcome es q old all e) (in_turn_so e turn) its_texts tt (knows_so e why) (λ graphs is. is.entries_are)
 
       pub federated_lost : (new : List Entry) → All (λ (x : Entry). Contains old x ⊎ Contains (zip probes truths) x) new → Federated tells alone s u es q old new block (Err fed.Memory)
       federated_lost new kept =
-          federated (Err fed.Memory) new tt tt tt (λ is. tt) tt (λ all among. tt) (λ all among. has_kept es q old h.exchanges all among truths h.answered new kept) its_texts tt tt (kept_true tells alone s t es q old known truths h new kept)
+          federated (Err fed.Memory) new tt tt tt (λ is. tt) tt (λ all among. tt) (λ all among. has_kept es q old h.exchanges all among truths h.answered new kept) (λ all among. inl tt) its_texts tt tt (kept_true tells alone s t es q old known truths h new kept)
 
       pub federated_given : (outcome : Outcome) → r ≡ Ok outcome → (new : List Entry) → new ≡ learned old probes truths → Federated tells alone s u es q old new block (Ok outcome)
       federated_given outcome same new so =
           let of_ok : (P : Outcome → Type 0) → IfOk r P → P outcome = λ P p. subst (λ (o : Result Outcome FedError). IfOk o P) same p in
           federated (Ok outcome) new (of_ok (λ c. map (λ c. c.of) k.calls ≡ occurrences q) k.all_called) (of_ok (λ c. All IsPassed k.calls) k.passed) (of_ok (λ c. c.down ≡ down_in k.calls) k.down)
           (λ is. of_ok (λ c. (address : List ℕ) → faults_at u address ≡ faults_at t address + failures_at address k.calls) (k.exact is)) (is_answered outcome same) (λ all among. tt)
-          (λ all among. has_learned es q old h.exchanges all among truths h.many h.answered new so) its_texts
+          (λ all among. has_learned es q old h.exchanges all among truths h.many h.answered new so) (λ all among. tt) its_texts
           (read_of_query es q (length es) entries k.found tasks tasks_are (can k.found) k.of_runs (of_ok (λ c. All (IsBatchRead (Contains (units_in tasks))) k.of_runs) k.faultless)) known (learned_true tells alone s t es q old known truths h new so)

@@ -1,5 +1,5 @@
 -- A query's occurrences of SERVICE were invoked, and then its runs were asked for: its outcome, or the cause of a refusal.
-use Rattle.std.proofs.Common.{◌≡◌, ◌∙◌, ap, sym, subst, refl, ℕ, zero, suc, ◌+◌, ◌≤◌, Bool, List, [], ◌∷◌, ◌++◌, map, length, Some, All, Contains, IfErr, IfOk, IsTrue, Result, Ok, Err, append-nil, append_assoc, arith, slice_get}
+use Rattle.std.proofs.Common.{◌≡◌, ◌∙◌, ap, sym, subst, refl, ℕ, zero, suc, ◌+◌, ◌≤◌, Bool, List, [], ◌∷◌, ◌++◌, map, length, ◌⊎◌, Some, All, Contains, IfErr, IfOk, IsTrue, Result, Ok, Err, append-nil, append_assoc, arith, slice_get}
 use Rattle.std.specs.List.{AllByRecursion}
 use Rattle.std.proofs.lemmas.List.{length-map, map-append}
 use Rattle.std.proofs.lemmas.List.Elements.{All-from_recursion, Contains-append_right, recursion_from_All}
@@ -24,12 +24,13 @@ use Rattle.fx_traffic.proofs.NumberLemmas.{stations_have_the_numbers}
 use Rattle.fx_wire.specs.Exchanges.{Exchange, Seen}
 use Rattle.fx_engine.specs.AnswersAsked.{AnswerDue, AnswerGiven}
 use Rattle.fx_engine.specs.Asked.{Asked, Knows}
-use Rattle.fx_engine.specs.Calls.{AreCalls, AreFirst, Call, Came, IsCertain, IsPassed, Occurrence, Passes, down_in, failed, failures_at, lost, occurrences, rows_of, told}
+use Rattle.fx_engine.specs.Calls.{AgreesWith, AreCalls, AreFirst, Call, Came, IsCertain, IsPassed, Occurrence, Passes, down_in, failed, failures_at, lost, occurrences, rows_of, told}
 use Rattle.fx_engine.specs.GroupsAsked.{HasRows, Served, all_planned, units_in}
 use Rattle.fx_engine.specs.Invocations.{Calling}
 use Rattle.fx_engine.specs.Mediation.{Serve}
 use Rattle.fx_engine.specs.Noted.{places}
-use Rattle.fx_engine.specs.Outcomes.{HasOutcomeCause, Outcomed}
+use Rattle.fx_engine.specs.Order.{AreGiven}
+use Rattle.fx_engine.specs.Outcomes.{HasBatchRefusal, HasOutcomeCause, Outcomed}
 use Rattle.fx_engine.specs.RunsSent.{AreRunsSent}
 use Rattle.fx_engine.specs.Sections.{part_with, parts_with, section_of}
 use Rattle.fx_engine.specs.Tasks.{tasks_with}
@@ -48,12 +49,17 @@ in_front [] ys i x h = absurd (cc)
 in_front (y ∷ xs) ys zero x h = h
 in_front (y ∷ xs) ys (suc i) x h = in_front xs ys i x h
 
+passed_at : (calls : List Call) → AllByRecursion IsPassed calls → (i : ℕ) (c : Call) → slice_get calls i ≡ Some c → IsPassed c
+passed_at [] h i c is = absurd (cc)
+passed_at (d ∷ calls) h zero c is = let same : d ≡ c = cc in subst IsPassed same h.0
+passed_at (d ∷ calls) h (suc i) c is = passed_at calls h.1 i c is
+
 passes_certain : (silent : Bool) (came : Came) → Passes silent came → IsCertain came
 passes_certain silent (told rows) h = tt
 passes_certain silent (failed why) h = tt
 passes_certain silent lost h = h
 
-each_certain : (calls : List Call) → AllByRecursion IsPassed calls → AllByRecursion (λ (c : Call). IsCertain c.came) calls
+pub each_certain : (calls : List Call) → AllByRecursion IsPassed calls → AllByRecursion (λ (c : Call). IsCertain c.came) calls
 each_certain [] h = tt
 each_certain (c ∷ cs) h = (passes_certain c.of.silent c.came h.0, each_certain cs h.1)
 
@@ -67,9 +73,9 @@ module _ (tells alone : Bool) (s t u : List Seen) (a : AllTell tells s) (b : All
 
   -- ---- how SERVICE is served
 
-  module _ (graphs : List (List Triple)) (tell : TellAll s es graphs) (plan_is : plan ≡ parts_with (sources graphs) q) (its : List ℕ → List Triple) (serve : Serve its es graphs) where
+  module _ (graphs : List (List Triple)) (tell : TellAll s es graphs) (plan_is : plan ≡ parts_with (sources graphs) q) (its : List ℕ → List Triple) (serve : Serve its es graphs) (down : List ℕ) (agrees : AgreesWith down calls) where
     abbrev served : Served
-    served = record { graphs = its; down = places (down_in calls); rows = λ i. slice_get found i }
+    served = record { graphs = its; down = down; rows = λ i. slice_get found i }
 
     front_fits : AllByRecursion (Fits its) front
     front_fits = by front rest c.in_turn (recursion_from_All IsPassed front passed) c.are_calls
@@ -78,8 +84,14 @@ module _ (tells alone : Bool) (s t u : List Seen) (a : AllTell tells s) (b : All
         by [] ys all p h = tt
         by (x ∷ xs) ys all p h = ((calls_fit s es graphs its tell serve (x ∷ []) h.0 (p.0, tt) (h.0, [], sym (append-nil h.0), h.3, h.4, refl)).0, by xs ys h.1 p.1 h.5)
 
+    down_so : (i : ℕ) (d : Call) → slice_get front i ≡ Some d → is_down down (0 + i) ≡ has_gone d.of.silent d.came
+    down_so i d is =
+        let same : 0 + i ≡ i = omega arith in
+        let there = in_front front rest i d is in
+        ap (is_down down) same ∙ agrees i d there (passed_at front (recursion_from_All IsPassed front passed) i d is) ∙ ap (is_down (places (down_in calls))) (sym same) ∙ down_at 0 calls i d there
+
     at_numbers : ((i : ℕ) → served.rows (0 + i) ≡ slice_get (map rows_of front) i) × ((i : ℕ) (c : Call) → slice_get front i ≡ Some c → is_down served.down (0 + i) ≡ has_gone c.of.silent c.came)
-    at_numbers = ((λ i. let same : 0 + i ≡ i = omega arith in ap (λ (n : ℕ). slice_get found n) same ∙ ap (λ (v : List (List Bindings)). slice_get v i) rows_are), λ i d is. down_at 0 calls i d (in_front front rest i d is))
+    at_numbers = ((λ i. let same : 0 + i ≡ i = omega arith in ap (λ (n : ℕ). slice_get found n) same ∙ ap (λ (v : List (List Bindings)). slice_get v i) rows_are), λ i d is. down_so i d is)
 
     behind_front : map (λ (c : Call). c.of) front ++ (map (λ (c : Call). c.of) rest ++ first.others) ≡ occurrences q
     behind_front =
@@ -105,24 +117,32 @@ module _ (tells alone : Bool) (s t u : List Seen) (a : AllTell tells s) (b : All
     behind_them : (graphs : List (List Triple)) → TellAll s es graphs → Knows (AnswerGiven es block tasks q) (AnswerDue es block tasks q) graphs k.wanted r
     behind_them graphs tell = k.known graphs (still_tell_all s t c.after_all es graphs tell)
 
-    runs_for : (o : Result Answer RowsError) (graphs : List (List Triple)) (tell : TellAll s es graphs) (is : plan ≡ parts_with (sources graphs) q) (its : List ℕ → List Triple) (serve : Serve its es graphs) → Knows (AnswerGiven es block tasks q) (AnswerDue es block tasks q) graphs k.wanted o
-        → AreRunsSent es graphs block (stations q) (seeds q (union graphs) its (places (down_in calls))) k.wanted
-    runs_for (Ok answer) graphs tell is its serve known = (known (served graphs tell is its serve) (tasks_are graphs tell is its serve) (rows_right graphs tell is its serve)).0
-    runs_for (Err why) graphs tell is its serve known = known (served graphs tell is its serve) (tasks_are graphs tell is its serve) (rows_right graphs tell is its serve)
+    runs_for : (o : Result Answer RowsError) (graphs : List (List Triple)) (tell : TellAll s es graphs) (is : plan ≡ parts_with (sources graphs) q) (its : List ℕ → List Triple) (serve : Serve its es graphs) (down : List ℕ) (agrees : AgreesWith down calls)
+        → Knows (AnswerGiven es block tasks q) (AnswerDue es block tasks q) graphs k.wanted o → AreRunsSent es graphs block (stations q) (seeds q (union graphs) its down) k.wanted
+    runs_for (Ok answer) graphs tell is its serve down agrees known = (known (served graphs tell is its serve down agrees) (tasks_are graphs tell is its serve down agrees) (rows_right graphs tell is its serve down agrees)).0
+    runs_for (Err why) graphs tell is its serve down agrees known = known (served graphs tell is its serve down agrees) (tasks_are graphs tell is its serve down agrees) (rows_right graphs tell is its serve down agrees)
+
+    -- what is down of them agrees with itself
+    itself : AgreesWith (places (down_in calls)) calls
+    itself i d there passes = refl
 
     pub its_answer : (answer : Answer) → r ≡ Ok answer → (graphs : List (List Triple)) (tell : TellAll s es graphs) (is : plan ≡ parts_with (sources graphs) q) (its : List ℕ → List Triple) (serve : Serve its es graphs)
         → answer ≡ answer_of q (union graphs) its (places (down_in calls))
     its_answer answer same graphs tell is its serve =
         let known = subst (Knows (AnswerGiven es block tasks q) (AnswerDue es block tasks q) graphs k.wanted) same (behind_them graphs tell) in
-        (known (served graphs tell is its serve) (tasks_are graphs tell is its serve) (rows_right graphs tell is its serve)).1
+        let gone = places (down_in calls) in
+        (known (served graphs tell is its serve gone itself) (tasks_are graphs tell is its serve gone itself) (rows_right graphs tell is its serve gone itself)).1
 
-    unfaulted : (o : Result Outcome FedError) → IfOk o (λ _. k.failed ≡ 0) → IfOk o (λ _. All IsPassed calls) → IsTrue alone → IfOk o (λ _. (address : List ℕ) → faults_at u address ≡ faults_at s address + failures_at address calls)
-    unfaulted (Ok outcome) none all is = λ address.
+    -- where no batch was refused, no faults are counted but those of the occurrences
+    pub none_but_theirs : k.failed ≡ 0 → AllByRecursion (λ (d : Call). IsCertain d.came) calls → IsTrue alone → (address : List ℕ) → faults_at u address ≡ faults_at s address + failures_at address calls
+    none_but_theirs none certain is address =
         let low : faults_at t address ≤ faults_at u address = gain_laws.never_fall t u address k.went.after_all in
         let high : faults_at u address ≤ faults_at t address + k.failed = k.went.counted is address in
-        let sure = All-from_recursion (λ (d : Call). IsCertain d.came) calls (each_certain calls (recursion_from_All IsPassed calls all)) in
-        let same : faults_at t address ≡ faults_at s address + failures_at address calls = c.exact is sure address in
+        let same : faults_at t address ≡ faults_at s address + failures_at address calls = c.exact is (All-from_recursion (λ (d : Call). IsCertain d.came) calls certain) address in
         omega (arith, low, high, same, none)
+
+    unfaulted : (o : Result Outcome FedError) → IfOk o (λ _. k.failed ≡ 0) → IfOk o (λ _. All IsPassed calls) → IsTrue alone → IfOk o (λ _. (address : List ℕ) → faults_at u address ≡ faults_at s address + failures_at address calls)
+    unfaulted (Ok outcome) none all is = λ address. none_but_theirs none (each_certain calls (recursion_from_All IsPassed calls all)) is address
     unfaulted (Err e) none all is = tt
 
     abbrev Among : List Exchange → List Exchange → Type 0
@@ -132,8 +152,9 @@ module _ (tells alone : Bool) (s t u : List Seen) (a : AllTell tells s) (b : All
         → IfOk o (λ outcome. (graphs : List (List Triple)) → TellAll s es graphs → plan ≡ parts_with (sources graphs) q → (its : List ℕ → List Triple) → Serve its es graphs → outcome.answer ≡ answer_of q (union graphs) its (places outcome.down))
         → IfOk o (λ _. All (IsBatchRead (Contains (units_in tasks))) k.exchanges)
         → ((all : List Exchange) → Among k.exchanges all → IfErr o (HasOutcomeCause s u es plan found block calls k.wanted all))
+        → ((all : List Exchange) → Among k.exchanges all → IfErr o (λ e. HasBatchRefusal s u es plan found block k.wanted all e ⊎ AreGiven alone s u calls (IsBatchRead (Contains (units_in tasks))) k.exchanges))
         → Outcomed tells alone s u es q plan block o
-    outcomed o none all_called all_passed down answer read cause =
+    outcomed o none all_called all_passed down answer read cause in_turn =
         let both = gained_both tells s t u c.exchanges k.exchanges c.gained k.went.gained in
         record {
           found = found;
@@ -161,9 +182,10 @@ module _ (tells alone : Bool) (s t u : List Seen) (a : AllTell tells s) (b : All
           left = k.left;
           sent = k.sent;
           faultless = read;
-          runs = λ graphs tell is its serve. runs_for r graphs tell is its serve (behind_them graphs tell);
+          runs = λ graphs tell is its serve down agrees. runs_for r graphs tell is its serve down agrees (behind_them graphs tell);
           answer = answer;
           cause = cause both.all (λ x m. Contains-permutation (c.exchanges ++ k.exchanges) both.all x both.same (Contains-append_right c.exchanges k.exchanges x m));
+          in_turn = in_turn both.all (λ x m. Contains-permutation (c.exchanges ++ k.exchanges) both.all x both.same (Contains-append_right c.exchanges k.exchanges x m));
         }
 
 -- ---- what goes before

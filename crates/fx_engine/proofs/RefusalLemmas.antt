@@ -1,6 +1,8 @@
 -- The outcome of a query whose occurrences of SERVICE all passed, or of which one was refused.
 use Rattle.std.proofs.Common.{◌≡◌, ◌∙◌, ap, sym, subst, refl, inl, inr, ◌⊎◌, ℕ, ◌+◌, ◌<◌, ◌≤◌, Bool, true, false, cond, List, [], ◌∷◌, ◌++◌, map, length, None, Some, All, Contains, Result, Ok, Err, append-nil, append_assoc, arith, bytes_eq, slice_get}
 use Rattle.std.proofs.lemmas.List.{map-append}
+use Rattle.std.specs.List.{AllByRecursion}
+use Rattle.std.proofs.lemmas.List.Elements.{recursion_from_All}
 use Rattle.std.proofs.lemmas.Slice.Eq.{bytes_eq-Decides}
 use Rattle.fx_terms.proofs.SetLemmas.{Among, contains_from}
 use Rattle.fx_outside.specs.Endpoints.{EndpointParts}
@@ -14,20 +16,21 @@ use Rattle.fx_algebra.proofs.CutLemmas.{seeds_for_each}
 use Rattle.fx_algebra.proofs.MemberLemmas.{among_right}
 use Rattle.fx_grammar.specs.Accepted.{Accepted}
 use Rattle.fx_plan.specs.declared.parts.Part.{Part}
+use Rattle.fx_pool.specs.Flows.{IsBatchRead}
 use Rattle.fx_pool.specs.declared.flows.FlowError.{FlowError}
 use Rattle.fx_pool.specs.declared.flows.FlowError.TheVariants as flow
 use Rattle.fx_pool.specs.declared.jobs.BadReply.{BadReply}
 use Rattle.fx_traffic.specs.Gains.{faults_at}
 use Rattle.fx_traffic.proofs.GainLemmas.{gain_laws}
-use Rattle.fx_wire.specs.Exchanges.{Seen}
+use Rattle.fx_wire.specs.Exchanges.{Exchange, Seen}
 use Rattle.fx_engine.specs.AnswersAsked.{AnswerDue, AnswerGiven}
 use Rattle.fx_engine.specs.Asked.{Asked}
-use Rattle.fx_engine.specs.Calls.{AreFirst, Call, IsPassed, Occurrence, down_in, failed, failure_of, failures_at, occurrences, rows_of}
+use Rattle.fx_engine.specs.Calls.{AreFirst, Call, IsCertain, IsPassed, Occurrence, down_in, failed, failure_of, failures_at, occurrences, rows_of}
 use Rattle.fx_engine.specs.GroupsAsked.{units_in}
 use Rattle.fx_engine.specs.Invocations.{AreInvoked, Calling, IsAt, IsRefusedBy, IsStopped}
 use Rattle.fx_engine.specs.Mediation.{IsNamed}
 use Rattle.fx_engine.specs.Noted.{cause_of, places}
-use Rattle.fx_engine.specs.Outcomes.{HasRefusal, IsPlacedOrLost, IsTold, Outcomed, is_lost}
+use Rattle.fx_engine.specs.Outcomes.{HasBatchRefusal, HasRefusal, IsPlacedOrLost, IsTold, Outcomed, is_lost}
 use Rattle.fx_engine.specs.Tasks.{tasks_with}
 use Rattle.fx_engine.specs.Unknown.{unknown_of}
 use Rattle.fx_engine.specs.declared.mediator.Down.{Down}
@@ -44,7 +47,7 @@ use Rattle.fx_engine.proofs.AskedLemmas.{flow_cause_behind, unasked}
 use Rattle.fx_engine.proofs.CallLemmas.{failures_behind}
 use Rattle.fx_engine.proofs.ChoiceLemmas.{found_here, get_below}
 use Rattle.fx_engine.proofs.KnownLemmas.{plain_is_known}
-use Rattle.fx_engine.proofs.OutcomeLemmas.{its_answer, outcomed}
+use Rattle.fx_engine.proofs.OutcomeLemmas.{each_certain, its_answer, none_but_theirs, outcomed}
 use Rattle.fx_engine.proofs.StationLemmas.{no_run_sent}
 use Rattle.fx_pool.proofs.WiresLemmas.{AllTell}
 
@@ -81,12 +84,13 @@ module _ (tells alone : Bool) (s t u : List Seen) (a : AllTell tells s) (b : All
         (λ graphs tell is its serve.
         same
         ∙ its_answer tells alone s t u a b es q text accepted plan block found i.calls [] i.passed i.rows_are its_calling first_all (Ok answer) k answer refl graphs tell is its serve
-        ∙ ap (λ (v : List Down). answer_of q (union graphs) its (places v)) (sym is_down)) k.faultless (λ all among. tt)
+        ∙ ap (λ (v : List Down). answer_of q (union graphs) its (places v)) (sym is_down)) k.faultless (λ all among. tt) (λ all among. tt)
 
     pub all_refused : (why : FlowError) (e : FedError) (k : Came (Err (rows_error.Flow why))) → IsNamed es why e → Outcomed tells alone s u es q plan block (Err e)
     all_refused why e k n =
-        outcomed tells alone s t u a b es q text accepted plan block found i.calls [] i.passed i.rows_are its_calling first_all (Err (rows_error.Flow why)) k (Err e) tt tt tt tt tt tt
-        (λ all among. inl (why, flow_cause_behind s t u i.calling.after_all k.exchanges all among es (units_in (tasks_with plan found)) block [] k.wanted why k.cause, n))
+        let refused : (all : List Exchange) → ((x : Exchange) → Contains k.exchanges x → Contains all x) → HasBatchRefusal s u es plan found block k.wanted all e =
+        λ all among. (why, flow_cause_behind s t u i.calling.after_all k.exchanges all among es (units_in (tasks_with plan found)) block [] k.wanted why k.cause, n) in
+        outcomed tells alone s t u a b es q text accepted plan block found i.calls [] i.passed i.rows_are its_calling first_all (Err (rows_error.Flow why)) k (Err e) tt tt tt tt tt tt (λ all among. inl (refused all among)) (λ all among. inl (refused all among))
 
   -- ---- one was refused
 
@@ -168,15 +172,35 @@ module _ (tells alone : Bool) (s t u : List Seen) (a : AllTell tells s) (b : All
       refusal_so (error.TooLong at size) why (fed.BadReply name bad) low same of is told = absurd told
       refusal_so (error.TooLong at size) why (fed.UnknownService iri) low same of is told = absurd told
 
-      pub told_refused : (v : Result Answer RowsError) (k : Came v) (fe : FedError) → IsTold es e fe → Outcomed tells alone s u es q plan block (Err fe)
-      told_refused v k fe told =
+      -- memory didn't run out while they were invoked
+      all_certain : AllByRecursion (λ (d : Call). IsCertain d.came) their_calls
+      all_certain = behind h.front (each_certain h.front (recursion_from_All IsPassed h.front h.passed))
+        where
+          last_certain : IsCertain h.last.came
+          last_certain = subst IsCertain (sym r.came) tt
+
+          behind : (front : List Call) → AllByRecursion (λ (d : Call). IsCertain d.came) front → AllByRecursion (λ (d : Call). IsCertain d.came) (front ++ h.last ∷ [])
+          behind [] k = (last_certain, tt)
+          behind (c ∷ cs) k = (k.0, behind cs k.1)
+
+      told_refused : (v : Result Answer RowsError) (k : Came v) → k.failed ≡ 0 → All (IsBatchRead (Contains (units_in (tasks_with plan found)))) k.exchanges → (fe : FedError) → IsTold es e fe → Outcomed tells alone s u es q plan block (Err fe)
+      told_refused v k none read fe told =
           outcomed tells alone s t u a b es q text accepted plan block found h.front (h.last ∷ []) h.passed r.rows_are h.calling first_some v k (Err fe) tt tt tt tt tt tt
           (λ all among. inr (refusal_so e r.why fe (λ address. gain_laws.never_fall t u address k.went.after_all) refl r.of_error refl told))
+          (λ all among. inr (record { read = read; exact = λ is. none_but_theirs tells alone s t u a b es q text accepted plan block found h.front (h.last ∷ []) h.passed r.rows_are h.calling first_some v k none all_certain is }))
+
+      -- it was come to behind the runs before it, or these were all of them
+      pub told_behind : (k : Came (Err rows_error.Refused)) (fe : FedError) → IsTold es e fe → Outcomed tells alone s u es q plan block (Err fe)
+      told_behind k fe told = told_refused (Err rows_error.Refused) k k.unfailed k.faultless fe told
+
+      pub told_at_the_end : (answer : Answer) (k : Came (Ok answer)) (fe : FedError) → IsTold es e fe → Outcomed tells alone s u es q plan block (Err fe)
+      told_at_the_end answer k fe told = told_refused (Ok answer) k k.unfailed k.faultless fe told
 
       pub run_refused : (why : FlowError) (fe : FedError) (k : Came (Err (rows_error.Flow why))) → IsNamed es why fe → Outcomed tells alone s u es q plan block (Err fe)
       run_refused why fe k n =
-          outcomed tells alone s t u a b es q text accepted plan block found h.front (h.last ∷ []) h.passed r.rows_are h.calling first_some (Err (rows_error.Flow why)) k (Err fe) tt tt tt tt tt tt
-          (λ all among. inl (why, flow_cause_behind s t u h.calling.after_all k.exchanges all among es (units_in (tasks_with plan found)) block [] k.wanted why k.cause, n))
+          let refused : (all : List Exchange) → ((x : Exchange) → Contains k.exchanges x → Contains all x) → HasBatchRefusal s u es plan found block k.wanted all fe =
+          λ all among. (why, flow_cause_behind s t u h.calling.after_all k.exchanges all among es (units_in (tasks_with plan found)) block [] k.wanted why k.cause, n) in
+          outcomed tells alone s t u a b es q text accepted plan block found h.front (h.last ∷ []) h.passed r.rows_are h.calling first_some (Err (rows_error.Flow why)) k (Err fe) tt tt tt tt tt tt (λ all among. inl (refused all among)) (λ all among. inl (refused all among))
 
 -- ---- memory ran out while they were invoked
 
@@ -189,7 +213,7 @@ lost_outcomed tells alone s t a b es q text accepted plan block down found e h =
     unasked tells alone es tasks block (AnswerGiven es block tasks q) (AnswerDue es block tasks q) t
     (λ graphs served is right. no_run_sent es graphs block (stations q) (seeds q (union graphs) served.graphs served.down) (seeds_for_each q (union graphs) served.graphs served.down)) in
     outcomed tells alone s t t a b es q text accepted plan block rows h.front (h.last ∷ []) h.passed refl h.calling (first_some tells alone s t t a b es q text accepted plan block found down e h) (Err (rows_error.Flow flow.Memory)) k (Err fed.Memory) tt tt tt tt tt tt
-    (λ all among. inr tt)
+    (λ all among. inr tt) (λ all among. inl (flow.Memory, tt, tt))
 
 -- ---- the number in a reason
 

@@ -1,11 +1,11 @@
 -- The occurrences of SERVICE of a query, and what each of them came to when it was invoked (SPARQL 1.1 Federated Query, sections 2 and 4).
-use Rattle.std.specs.Prelude.{◌≡◌, ◌≢◌, ◌<◌, ◌≤◌, ◌+◌, ◌⊎◌, ℕ, Bool, true, false, List, [], ◌∷◌, ◌++◌, map, All, Contains, length, bytes_eq, cond}
+use Rattle.std.specs.Prelude.{◌≡◌, ◌≢◌, ◌<◌, ◌≤◌, ◌+◌, ◌⊎◌, ℕ, Bool, true, false, List, [], ◌∷◌, ◌++◌, map, All, Contains, length, bytes_eq, cond, Some, slice_get}
 use Rattle.std.proofs.Common.{suc}
 use Rattle.std.specs.List.{flat_map}
 use Rattle.fx_terms.specs.declared.triples.Triple.{Triple}
 use Rattle.fx_outside.specs.Endpoints.{EndpointParts}
 use Rattle.fx_algebra.specs.Cuts.{stations}
-use Rattle.fx_algebra.specs.Groups.{one_empty}
+use Rattle.fx_algebra.specs.Groups.{is_down, one_empty}
 use Rattle.fx_algebra.specs.Solutions.{Bindings}
 use Rattle.fx_algebra.specs.Stations.{Station}
 use Rattle.fx_algebra.specs.Stations as station
@@ -15,7 +15,7 @@ use Rattle.fx_traffic.specs.Gains.{Tell}
 use Rattle.fx_traffic.specs.Sent.{Sent, Sends}
 use Rattle.fx_traffic.specs.Traffic.{IsServiceSent}
 use Rattle.fx_wire.specs.Exchanges.{Exchange, Seen}
-use Rattle.fx_engine.specs.Noted.{down_of}
+use Rattle.fx_engine.specs.Noted.{down_of, places}
 use Rattle.fx_engine.specs.ServicesAsked.{AreRowsOver, IsBadService, IsToldBy, service_text}
 use Rattle.fx_engine.specs.declared.mediator.Down.{Down}
 use Rattle.fx_engine.specs.declared.mediator.DownCause.{DownCause}
@@ -83,6 +83,11 @@ down_from number (c ∷ cs) = down_if number c.of.silent c.of.iri c.came ++ down
 -- of the occurrences of a query
 abbrev pub down_in : List Call → List Down
 down_in calls = down_from 0 calls
+
+-- The numbers have those of the occurrences that passed which are down, and no other of these. Of the other occurrences, which were refused or not invoked, any may be
+-- among them.
+abbrev pub AgreesWith : List ℕ → List Call → Type 0
+AgreesWith down calls = (k : ℕ) (c : Call) → slice_get calls k ≡ Some c → IsPassed c → is_down down k ≡ is_down (places (down_in calls)) k
 
 -- ---- faults
 

@@ -11,6 +11,7 @@ pub mod Laws
 pub mod LeftRows
 pub mod Mediation
 pub mod Noted
+pub mod Order
 pub mod Outcomes
 pub mod RunsSent
 pub mod SectionSteps

@@ -30,8 +30,9 @@ use Rattle.fx_traffic.specs.Sent.{Sent, Sends}
 use Rattle.fx_traffic.specs.Traffic.{AreAsked, IsTraffic}
 use Rattle.fx_wire.specs.Exchanges.{Exchange, Seen}
 use Rattle.fx_engine.specs.Asks.{IsAnsweredBy, IsAskRead, IsBadAsk, IsLongAsk}
-use Rattle.fx_engine.specs.Calls.{AreCalls, AreFirst, Call, IsPassed, down_in, failed, failures_at, occurrences}
+use Rattle.fx_engine.specs.Calls.{AgreesWith, AreCalls, AreFirst, Call, IsPassed, down_in, failed, failures_at, occurrences}
 use Rattle.fx_engine.specs.Noted.{places}
+use Rattle.fx_engine.specs.Order.{AreGiven, AsksComeFirst}
 use Rattle.fx_engine.specs.RunsSent.{AreRunsSent}
 use Rattle.fx_engine.specs.Sections.{parts_by, parts_with, sections}
 use Rattle.fx_engine.specs.Unknown.{unknown_of}
@@ -180,8 +181,9 @@ Serve services (e ∷ endpoints) (graph ∷ graphs) = (services e.iri ≡ graph)
 -- A query was asked over wires, in batches of so many rows at most: what was exchanged, one wire's part behind the other's. Of that the one part is for the
 -- occurrences of SERVICE that were invoked, which are the query's first, each once: what each came to, by its own exchanges. The other is ASKs and texts of batches
 -- that were wanted of the query, which where graphs are told are those of its runs; with an answer, each reply there was read without a fault. Together they are the
--- query's traffic. With an answer: all occurrences were invoked, those that have no rows are silent, and are down; and the answer is that over the union of the graphs.
--- Else the cause. At each address as many faults at least were counted as exchanges with occurrences failed there, and with an answer no other by wires that count each
+-- query's traffic, whichever are down of the occurrences that didn't pass. With an answer: all occurrences were invoked, those that have no rows are silent, and are down; and the answer is that over the union of the graphs.
+-- Else the cause. ASKs come first: nothing else was asked for before each had its answer. And a refusal is that of an occurrence, and of no ASK and no batch, only
+-- where all that was asked for beside the occurrences was given. At each address as many faults at least were counted as exchanges with occurrences failed there, and with an answer no other by wires that count each
 -- address alone. And what the cache holds, which stays true of graphs.
 pub record Federated (tells alone : Bool) (before after : List Seen) (endpoints : List EndpointParts) (q : Query) (old new : List Entry) (block : ℕ) (result : Result Outcome FedError) : Type 0 where
   pub exchanges : List Exchange
@@ -203,16 +205,18 @@ pub record Federated (tells alone : Bool) (before after : List Seen) (endpoints 
   pub texts : List Sent
   pub of_batches : All (IsBatchText endpoints block (IsUnitOf q)) texts
   pub of_runs : (graphs : List (List Triple)) → AreKnown before endpoints old graphs → (services : List ℕ → List Triple) → Serve services endpoints graphs
-      → AreRunsSent endpoints graphs block (stations q) (seeds q (union graphs) services (places (down_in calls))) texts
+      → (down : List ℕ) → AgreesWith down calls → AreRunsSent endpoints graphs block (stations q) (seeds q (union graphs) services down) texts
   pub left : List Sent
   pub sent : Sends (asks ++ texts) left of_others
   pub faultless : IfOk result (λ _. All (IsRead endpoints q old) of_others)
   pub traffic : (graphs : List (List Triple)) → AreKnown before endpoints old graphs → (services : List ℕ → List Triple) → Serve services endpoints graphs
-      → (unsent : List Sent) × IsTraffic endpoints graphs block services (places (down_in calls)) q old unsent exchanges
+      → (down : List ℕ) → AgreesWith down calls → (unsent : List Sent) × IsTraffic endpoints graphs block services down q old unsent exchanges
   pub answer : IfOk result (λ outcome. (graphs : List (List Triple)) → AreKnown before endpoints old graphs → (services : List ℕ → List Triple) → Serve services endpoints graphs
       → outcome.answer ≡ answer q (union graphs) services (places outcome.down))
   pub known : KnowsServices endpoints q result
   pub cause : IfErr result (HasFedCause before after endpoints q old calls texts exchanges block)
+  pub asks_first : AsksComeFirst endpoints (missing q (length endpoints) old) calls texts exchanges
+  pub in_turn : IfErr result (λ e. HasFedCause before after endpoints q old [] texts exchanges block e ⊎ AreGiven alone before after calls (IsRead endpoints q old) of_others)
   pub held : HoldsBehind endpoints q old new exchanges result
   pub stays_true : (graphs : List (List Triple)) → AreKnown before endpoints old graphs → All (source.Tells graphs) new
 

@@ -18,10 +18,11 @@ use Rattle.fx_traffic.specs.Batches.{IsBatchText}
 use Rattle.fx_traffic.specs.Gains.{AreAfter, HaveGained, TellAll, faults_at}
 use Rattle.fx_traffic.specs.Sent.{Sent, Sends}
 use Rattle.fx_wire.specs.Exchanges.{Exchange, Seen}
-use Rattle.fx_engine.specs.Calls.{AreCalls, AreFirst, Call, IsPassed, down_in, failures_at, occurrences}
+use Rattle.fx_engine.specs.Calls.{AgreesWith, AreCalls, AreFirst, Call, IsPassed, down_in, failures_at, occurrences}
 use Rattle.fx_engine.specs.GroupsAsked.{units_in}
 use Rattle.fx_engine.specs.Mediation.{AtNamed, HasName, HasPlain, IsNamed, Serve}
 use Rattle.fx_engine.specs.Noted.{places}
+use Rattle.fx_engine.specs.Order.{AreGiven}
 use Rattle.fx_engine.specs.RunsSent.{AreRunsSent}
 use Rattle.fx_engine.specs.Sections.{part_with, parts_with, sections}
 use Rattle.fx_engine.specs.Tasks.{tasks_with}
@@ -42,10 +43,13 @@ HasRefusal before after endpoints calls (fed.RequestTooLong name size) = AtNamed
 HasRefusal before after endpoints calls fed.Memory = Unit {0}
 HasRefusal before after endpoints calls e = ⊥
 
--- that, or the refusal of a batch of the plan's units, with the name of the endpoint
+-- a batch of the plan's units was refused, at the endpoint that has the name
+abbrev pub HasBatchRefusal : List Seen → List Seen → List EndpointParts → List Part → List (List Bindings) → ℕ → List Sent → List Exchange → FedError → Type 0
+HasBatchRefusal before after endpoints plan found block texts xs e = (why : FlowError) × HasFlowCause before after endpoints (units_in (tasks_with plan found)) block texts xs why × IsNamed endpoints why e
+
+-- the one or the other
 abbrev pub HasOutcomeCause : List Seen → List Seen → List EndpointParts → List Part → List (List Bindings) → ℕ → List Call → List Sent → List Exchange → FedError → Type 0
-HasOutcomeCause before after endpoints plan found block calls texts xs e =
-    ((why : FlowError) × HasFlowCause before after endpoints (units_in (tasks_with plan found)) block texts xs why × IsNamed endpoints why e) ⊎ HasRefusal before after endpoints calls e
+HasOutcomeCause before after endpoints plan found block calls texts xs e = HasBatchRefusal before after endpoints plan found block texts xs e ⊎ HasRefusal before after endpoints calls e
 
 -- the number that the reason names is that of an endpoint, and memory didn't run out
 abbrev pub IsPlacedAt : ℕ → ServiceError → Type 0
@@ -110,7 +114,8 @@ pub record Outcomed (tells alone : Bool) (before after : List Seen) (endpoints :
   pub sent : Sends texts left of_runs
   pub faultless : IfOk result (λ _. All (IsBatchRead (Contains (units_in (tasks_with plan found)))) of_runs)
   pub runs : (graphs : List (List Triple)) → TellAll before endpoints graphs → plan ≡ parts_with (sources graphs) q → (services : List ℕ → List Triple) → Serve services endpoints graphs
-      → AreRunsSent endpoints graphs block (stations q) (seeds q (union graphs) services (places (down_in calls))) texts
+      → (down : List ℕ) → AgreesWith down calls → AreRunsSent endpoints graphs block (stations q) (seeds q (union graphs) services down) texts
   pub answer : IfOk result (λ outcome. (graphs : List (List Triple)) → TellAll before endpoints graphs → plan ≡ parts_with (sources graphs) q → (services : List ℕ → List Triple) → Serve services endpoints graphs
       → outcome.answer ≡ answer q (union graphs) services (places outcome.down))
   pub cause : IfErr result (HasOutcomeCause before after endpoints plan found block calls texts exchanges)
+  pub in_turn : IfErr result (λ e. HasBatchRefusal before after endpoints plan found block texts exchanges e ⊎ AreGiven alone before after calls (IsBatchRead (Contains (units_in (tasks_with plan found)))) of_runs)
