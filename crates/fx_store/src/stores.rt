@@ -100,7 +100,7 @@ impl Store {
         ensures merged { IfOk result (λ more. more.items ≡ merges (bgp self.now (alone pattern.now)) solution.now) }
         ensures steps { steps.new ≤ steps.old + most_steps self.now pattern.now solution.now }
     {
-        // Its contract tells that its names rise.
+        // That the names of a solution rise is what its pairs promise.
         let _pairs = solution.pairs();
         rows_of(alloc, &self.orders, pattern, solution, steps)
     }
@@ -193,7 +193,7 @@ impl Store {
         ensures merged { result ≡ has_rows (merges (bgp self.now (alone pattern.now)) solution.now) }
         ensures steps { steps.new ≤ steps.old + most_tries self.now pattern.now solution.now }
     {
-        // Its contract tells that its names rise.
+        // As in `matches_counted`, the names rise.
         let _pairs = solution.pairs();
         some_fits(&self.orders, pattern, solution, steps)
     }
