@@ -1,11 +1,11 @@
 -- What workers with two halves of the wires did is what workers with all of them did.
-use Rattle.std.proofs.Common.{◌≡◌, ◌∙◌, ap, sym, subst, ℕ, ◌+◌, ◌-◌, ◌/◌, ◌≤◌, Bool, List, [], ◌∷◌, ◌++◌, map, All, IfOk, IfSome, IsOkAnd, Option, Some, None, Ok, Err, Result, Vec, length, ltb, slice_get, arith}
+use Rattle.std.proofs.Common.{◌≡◌, ◌∙◌, ap, sym, subst, refl, ℕ, ◌+◌, ◌-◌, ◌/◌, ◌≤◌, Bool, List, [], ◌∷◌, ◌++◌, map, All, IfOk, IfSome, IsOkAnd, Option, Some, None, Ok, Err, Result, Vec, length, ltb, slice_get, arith, append-nil}
 use Rattle.std.specs.List.{AllByRecursion}
 use Rattle.std.specs.declared.alloc.Global.{Global}
 use Rattle.std.proofs.lemmas.Grind.{flat_map-append}
 use Rattle.std.proofs.lemmas.List.{map-append}
 use Rattle.std.proofs.lemmas.List.Elements.{All-append, All-from_recursion, All-weaker, filter-append, recursion_from_All}
-use Rattle.std.proofs.lemmas.List.Sorted.{IsPermutation-append}
+use Rattle.std.proofs.lemmas.List.Sorted.{IsPermutation-append, IsPermutation-refl}
 use Rattle.fx_terms.specs.declared.allocation.Memory.{Memory}
 use Rattle.fx_outside.specs.Endpoints.{EndpointParts}
 use Rattle.fx_traffic.specs.Gains.{AreAfter, faults_at}
@@ -19,6 +19,7 @@ use Rattle.fx_pool.specs.declared.claims.Drawn.{Drawn}
 use Rattle.fx_pool.specs.declared.jobs.Done.{Done}
 use Rattle.fx_pool.specs.declared.jobs.Job.{Job}
 use Rattle.fx_pool.specs.declared.jobs.JobReply.{JobReply}
+use Rattle.fx_pool.proofs.WireLemmas.{after_itself}
 use Rattle.fx_pool.proofs.RunLemmas.{done_both, failures_both, jobs_both, of_both}
 
 -- ---- wires beside wires
@@ -168,3 +169,38 @@ both_worked see tells alone es jobs v l m r s j whole ws vs xs ys a b c parts le
             ∙ ap (below (length jobs)) (sym numbers),
       ));
     }
+
+-- wires that did nothing
+idle_did : (tells alone : Bool) (es : List EndpointParts) (wires : List Seen) → WiresDid tells alone wires wires es [] (Some [])
+idle_did tells alone es wires = record {
+  exchanges = [];
+  gained = λ told. gain_laws.nothing wires;
+  honest = All-from_recursion (IsHonestOver wires) [] tt;
+  left = after_itself wires;
+  of_jobs = record { wanted = []; of_jobs = refl; left = []; sent = IsPermutation-refl [] };
+  done = ([], refl, IsPermutation-refl []);
+  counted = λ address. let none : failures_at es address [] [] ≡ 0 = refl in omega (arith, none);
+  few = λ is address. omega arith;
+  exact = λ is address. let none : failures_at es address [] [] ≡ 0 = refl in omega (arith, none);
+}
+
+-- some of the wires were worked with
+pub beside_idle : {W : Type 0} (see : W → Seen) (tells alone : Bool) (es : List EndpointParts) (jobs : List Job) (v j : SeatView) (whole used later idle : List W) (r : Result DoneList Memory)
+    → whole ≡ used ++ idle → HaveWorked tells alone (map see used) (map see later) es jobs v j r → HaveWorked tells alone (map see whole) (map see (later ++ idle)) es jobs v j r
+beside_idle see tells alone es jobs v j whole used later idle r parts h =
+    let before : map see whole ≡ map see used ++ map see idle = ap (map see) parts ∙ map-append see used idle in
+    let after : map see (later ++ idle) ≡ map see later ++ map see idle = map-append see later idle in
+    let drawn = jobs_of jobs j.0.numbers in
+    let did = beside tells alone es (map see used) (map see later) (map see idle) (map see idle) drawn [] (replies_in r) (Some []) (replies_in r) (with_none (replies_in r)) h.did (idle_did tells alone es (map see idle)) in
+    record {
+      seat = h.seat;
+      did =
+          subst (λ (w : List Seen). WiresDid tells alone w (map see (later ++ idle)) es drawn (replies_in r)) (sym before)
+          (subst (λ (w : List Seen). WiresDid tells alone (map see used ++ map see idle) w es drawn (replies_in r)) (sym after)
+          (subst (λ (w : List Job). WiresDid tells alone (map see used ++ map see idle) (map see later ++ map see idle) es w (replies_in r)) (append-nil drawn) did));
+      all = h.all;
+    }
+  where
+    with_none : (o : Option (List JobReply)) → AreBoth o (Some []) o
+    with_none None = tt
+    with_none (Some rs) = sym (append-nil rs)

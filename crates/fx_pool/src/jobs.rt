@@ -4,7 +4,7 @@ ghost use Rattle.std.specs.Prelude.{◌≡◌, string_bytes};
 use crate::faults::ReplyFault;
 use fx_algebra::Solution;
 use fx_bound::{Batch, Found};
-use fx_terms::{Items, Name};
+use fx_terms::{Boxed, Items, Name};
 use std::marker::Model;
 
 /// The text of a request. Contracts see its bytes.
@@ -53,7 +53,7 @@ pub enum Work {
     },
     /// What the rows of a batch are found to join with. A batch without a branch has no text, and isn't one to ask for.
     Batch {
-        batch: Batch,
+        batch: Boxed<Batch>,
     },
     /// The rows of a SERVICE that asks for these columns.
     Service {
@@ -114,7 +114,7 @@ impl Work {
     {
         match self {
             Work::Ask { text } => text.as_str(),
-            Work::Batch { batch } => batch.text().unwrap_or(""),
+            Work::Batch { batch } => batch.get().text().unwrap_or(""),
             Work::Service { text, columns: _ } => text.as_str(),
         }
     }

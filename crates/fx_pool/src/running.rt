@@ -21,7 +21,7 @@ use std::sync::Wait;
 use std::thread::Threads;
 
 /// Does jobs for endpoints over wires, each wire by a worker of its own, and gives one reply for each, in their order. A worker that is free does the
-/// next job that no other has begun.
+/// next job that no other has begun. No more workers are started than there are jobs.
 ///
 /// A job whose text has more than 67,108,864 bytes is `TooLong`, and nothing is sent for it. Else its text is sent to its endpoint, once: the
 /// reply is `Failed` where that exchange failed, which its wire counted as a fault at the endpoint's address; `Bad` with the first fault of what
@@ -45,13 +45,23 @@ pub fn run_jobs<R: Threads + Wait + Sync, W: Wire + Send>(
     let Ok((claims, mut me)) = opened(alloc, jobs.len() as u64) else {
         return Err(Memory);
     };
-    let done = share(rt, &alloc, &claims, &mut me, endpoints, jobs, wires);
+    let count = wanted(jobs.len(), wires.len());
+    let (used, _idle) = wires.split_at_mut(count);
+    let done = share(rt, &alloc, &claims, &mut me, endpoints, jobs, used);
     // Each number below the word was drawn once: no job was done twice, and where memory didn't run out none is left.
     let _word = known(&claims, &mut me);
     match done {
         Ok(done) => in_order(alloc, done),
         Err(Memory) => Err(Memory),
     }
+}
+
+// How many wires jobs can use: no more than there are jobs, and one where there is none.
+fn wanted(jobs: usize, wires: usize) -> usize
+    requires { 0 < wires }
+    ensures { (0 < result) × (result ≤ wires) }
+{
+    jobs.max(1).min(wires)
 }
 
 /// Does one job over a wire.
@@ -110,7 +120,7 @@ fn read_as(alloc: Global, work: &Work, reply: &[u8]) -> Result<JobReply, ReadErr
 {
     match work {
         Work::Ask { text: _ } => truth_of(alloc, reply),
-        Work::Batch { batch } => found_of(alloc, reply, batch),
+        Work::Batch { batch } => found_of(alloc, reply, batch.get()),
         Work::Service { text: _, columns } => table_of(alloc, reply, columns.as_slice()),
     }
 }

@@ -156,7 +156,7 @@ fn spaces(alloc: Global, count: usize) -> Option<String> {
 
 fn batch_work(alloc: Global, asked: &str) -> Option<Work> {
     let (run, rows) = asked.split_once(" | ")?;
-    let batch = batch_of(alloc, run, rows)?.into_inner();
+    let batch = batch_of(alloc, run, rows)?;
     Some(Work::Batch { batch })
 }
 
