@@ -18,13 +18,33 @@ pub fn answer(alloc: Global, call: &str, inputs: &[&str]) -> Option<String> {
         ("Solution::get", [row, name]) => get(alloc, row, name),
         ("Solution::merge", [left, right]) => merge(alloc, left, right),
         ("Solution::project", [row, columns]) => project(alloc, row, columns),
+        _ => of_names(alloc, call, inputs),
+    }
+}
+
+// The calls on names, and after them those on queries and their parts.
+fn of_names(alloc: Global, call: &str, inputs: &[&str]) -> Option<String> {
+    match (call, inputs) {
         ("scopes::once", [names]) => once(alloc, names),
         ("scopes::is_among", [names, name]) => is_among(alloc, names, name),
         ("copy_names", [names]) => copied_names(alloc, names),
+        _ => of_queries(alloc, call, inputs),
+    }
+}
+
+// The calls on queries and their parts, and after them the copies.
+fn of_queries(alloc: Global, call: &str, inputs: &[&str]) -> Option<String> {
+    match (call, inputs) {
         ("scope", [group]) => scope_of(alloc, group),
         ("services", [query]) => services_of(alloc, query),
         ("patterns_of", [group]) => patterns(alloc, group),
         ("is_plain", [query]) => plain(alloc, query),
+        _ => of_copies(alloc, call, inputs),
+    }
+}
+
+fn of_copies(alloc: Global, call: &str, inputs: &[&str]) -> Option<String> {
+    match (call, inputs) {
         ("Query::copy", [query]) => copy_query(alloc, query),
         ("Answer::copy", [rows]) => copy_answer(alloc, rows),
         ("Unit::copy", [group, members, kind]) => copy_unit(alloc, group, members, kind),
@@ -52,7 +72,13 @@ fn bindings(alloc: Global, columns: &[Name], row: &[Option<Term>]) -> Option<Sol
     Some(solution)
 }
 
-fn bound(alloc: Global, solution: &Solution, name: &Name, term: &Term) -> Option<Solution> {
+/// The solution with one more pair, where its name is unbound.
+pub(crate) fn bound(
+    alloc: Global,
+    solution: &Solution,
+    name: &Name,
+    term: &Term,
+) -> Option<Solution> {
     match solution.get(name) {
         Some(_) => None,
         None => solution.with(alloc, name, term).ok(),
@@ -237,10 +263,17 @@ fn unit(alloc: Global, parts: &Group, members: &str, group: bool) -> Option<Unit
 
 fn numbers(alloc: Global, field: &str) -> Option<Items<u32>> {
     let mut numbers = Items::new(alloc);
-    for member in field.split_whitespace() {
-        numbers.push(member.parse::<u32>().ok()?).ok()?;
+    for word in field.split_whitespace() {
+        push_number(&mut numbers, word)?;
     }
     Some(numbers)
+}
+
+fn push_number(numbers: &mut Items<u32>, word: &str) -> Option<()> {
+    match word.parse::<u32>() {
+        Ok(number) => numbers.push(number).ok(),
+        Err(_) => None,
+    }
 }
 
 fn filters(alloc: Global, parts: &Group) -> Option<Items<Expr>> {

@@ -1,5 +1,6 @@
 //! The calls of `fx_expr`.
 
+use crate::algebra::bound;
 use fx_algebra::{Expr, Solution};
 use fx_expr::{compare_keys, holds, truth, value};
 use fx_notation::{escapes, notation, shown};
@@ -44,13 +45,6 @@ fn solution(alloc: Global) -> Option<Solution> {
     let name = Name::read(alloc, "i").ok()?;
     let seven = notation::term(alloc, "7")?;
     bound(alloc, &Solution::empty(alloc), &name, &seven)
-}
-
-fn bound(alloc: Global, solution: &Solution, name: &Name, term: &Term) -> Option<Solution> {
-    match solution.get(name) {
-        Some(_) => None,
-        None => solution.with(alloc, name, term).ok(),
-    }
 }
 
 // A letter for the value with each operand in the place of `#`: T for true, F for false, E for the error.

@@ -16,6 +16,13 @@ pub fn answer(alloc: Global, call: &str, inputs: &[&str]) -> Option<String> {
         ("Literal::typed", [form, datatype]) => typed(alloc, form, datatype),
         ("Literal::tagged", [form, tag]) => tagged(alloc, form, tag),
         ("is_tag", [tag]) => shown::truth(alloc, is_tag(tag)),
+        _ => of_terms(alloc, call, inputs),
+    }
+}
+
+// The calls on terms, and on what is made of them.
+fn of_terms(alloc: Global, call: &str, inputs: &[&str]) -> Option<String> {
+    match (call, inputs) {
         ("Term::compare", [terms]) => compare(alloc, terms),
         ("Graph::of", [graph]) => graph_of(alloc, graph),
         ("Graph::copy", [graph]) => copy_graph(alloc, graph),
