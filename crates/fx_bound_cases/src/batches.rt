@@ -7,7 +7,7 @@ ghost use Rattle.fx_bound.specs.Answers.{numbers};
 use crate::runs::unit_of;
 use fx_algebra::{Row, Solution, Unit};
 use fx_bound::{Batch, BatchError, Branch, Found, batch_text, read_batch, unite};
-use fx_notation::{notation, shown};
+use fx_notation::{fields, notation, shown};
 use fx_terms::{Boxed, Items};
 use std::alloc::Global;
 use std::fmt::Write;
@@ -47,10 +47,8 @@ fn blocks_of(alloc: Global, unit: &Unit, rows: &[Row], block: usize) -> Option<S
 {
     let mut text = String::new(alloc);
     for rows in rows.chunks(block) {
-        if !text.is_empty() {
-            text.push_str(" ;; ").ok()?;
-        }
-        text.push_str(block_text(alloc, unit, rows)?.as_str()).ok()?;
+        let block = block_text(alloc, unit, rows)?;
+        fields::add_behind(&mut text, " ;; ", block.as_str())?;
     }
     Some(text)
 }
@@ -76,14 +74,12 @@ fn push_branch(text: &mut String, branch: &Branch) -> Option<()> {
     let number = branch.number;
     write!(text, " | {number}").ok()?;
     if let Some(name) = &branch.checked {
-        text.push(' ').ok()?;
-        text.push_str(name.text()).ok()?;
+        let name = name.text();
+        write!(text, " {name}").ok()?;
     }
     for (other, own) in branch.sent.as_slice() {
-        text.push(' ').ok()?;
-        text.push_str(other.text()).ok()?;
-        text.push('=').ok()?;
-        text.push_str(own.text()).ok()?;
+        let (other, own) = (other.text(), own.text());
+        write!(text, " {other}={own}").ok()?;
     }
     Some(())
 }

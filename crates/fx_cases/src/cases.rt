@@ -23,8 +23,21 @@ pub fn answer<R: Threads + Wait + Sync>(
     inputs: &[&str],
 ) -> Option<String> {
     match table {
+        "jobs" => jobs::answer(rt, alloc, call, inputs),
+        "engine" => engine::answer(rt, alloc, call, inputs),
+        "mediations" => mediations::answer(rt, alloc, call, inputs),
+        "commands" => commands::answer(rt, alloc, call, inputs),
+        "served" => served::answer(rt, alloc, call, inputs),
+        "devices" => devices::answer(rt, alloc, call, inputs),
+        "runs" | "hostile" | "drawn" => runs::answer(rt, alloc, call, inputs),
+        _ => of_one_thread(alloc, table, call, inputs),
+    }
+}
+
+// What a call gives that starts no threads.
+fn of_one_thread(alloc: Global, table: &str, call: &str, inputs: &[&str]) -> Option<String> {
+    match table {
         "terms" => terms::answer(alloc, call, inputs),
-        "outside" => outside::answer(alloc, call, inputs),
         "ntriples" => ntriples::answer(alloc, call, inputs),
         "tokens" => tokens::answer(alloc, call, inputs),
         "algebra" => algebra::answer(alloc, call, inputs),
@@ -32,8 +45,15 @@ pub fn answer<R: Threads + Wait + Sync>(
         "syntax" => syntax::answer(alloc, call, inputs),
         "print" => print::answer(alloc, call, inputs),
         "results" => results::answer(alloc, call, inputs),
-        "requests" => requests::answer(alloc, call, inputs),
         "solutions" => solutions::answer(alloc, call, inputs),
+        _ => of_members_and_plans(alloc, table, call, inputs),
+    }
+}
+
+fn of_members_and_plans(alloc: Global, table: &str, call: &str, inputs: &[&str]) -> Option<String> {
+    match table {
+        "outside" => outside::answer(alloc, call, inputs),
+        "requests" => requests::answer(alloc, call, inputs),
         "stores" => stores::answer(alloc, call, inputs),
         "wires" => wires::answer(alloc, call, inputs),
         "members" => members::answer(alloc, call, inputs),
@@ -41,15 +61,6 @@ pub fn answer<R: Threads + Wait + Sync>(
         "sources" => sources::answer(alloc, call, inputs),
         "plans" => plans::answer(alloc, call, inputs),
         "batches" => batches::answer(alloc, call, inputs),
-        "jobs" => jobs::answer(rt, alloc, call, inputs),
-        "engine" => engine::answer(rt, alloc, call, inputs),
-        "mediations" => mediations::answer(rt, alloc, call, inputs),
-        "commands" => commands::answer(rt, alloc, call, inputs),
-        "runs" => runs::answer(rt, alloc, call, inputs),
-        "hostile" => runs::answer(rt, alloc, call, inputs),
-        "served" => served::answer(rt, alloc, call, inputs),
-        "devices" => devices::answer(rt, alloc, call, inputs),
-        "drawn" => runs::answer(rt, alloc, call, inputs),
         _ => None,
     }
 }

@@ -8,6 +8,7 @@ use fx_commands::count_rows;
 use fx_commands::reports::write_fed_error;
 use fx_engine::FedError;
 use fx_member::{FaultWire, GraphWire};
+use fx_notation::fields::numbers;
 use fx_wire::Wire;
 use std::alloc::Global;
 use std::str::from_utf8;
@@ -26,11 +27,8 @@ pub fn counted<R: Threads + Wait + Sync>(
 }
 
 fn wire(alloc: Global, failing: &str, fields: &[&str]) -> Option<FaultWire> {
-    let mut fails = Vec::new(alloc);
-    for number in failing.split_whitespace() {
-        fails.push(number.parse::<u64>().ok()?).ok()?;
-    }
     let wire = GraphWire::new(alloc, graphs(alloc, fields)?).ok()?;
+    let fails = numbers(alloc, failing)?;
     FaultWire::new(alloc, wire, fails, Vec::new(alloc)).ok()
 }
 

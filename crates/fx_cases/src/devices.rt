@@ -1,11 +1,13 @@
 //! Calls of `fx_commands::run` over devices of which one fails. The calls of `runs` stand in their table too.
 //!
 //! Words, files and graphs are as in `runs`. Each wire is over all members, and the first fails at its exchange of one number.
+ghost use Rattle.std.specs.Prelude.{◌<◌, length};
 
 use crate::runs;
 use crate::runs::{STEP, graphs, over_wires};
 use crate::watched::WatchedWire;
 use fx_member::{FaultWire, GraphWire};
+use fx_notation::fields;
 use std::alloc::Global;
 use std::sync::Wait;
 use std::thread::Threads;
@@ -60,11 +62,8 @@ fn ends<R: Threads + Wait + Sync>(
     let whole = given_by(rt, alloc, words, 1, fields)?;
     let mut text = String::new(alloc);
     for number in 1..=most.parse::<u64>().ok()? {
-        if number > 1 {
-            text.push(' ').ok()?;
-        }
         let end = end_at(rt, alloc, words, 1, number, whole.as_str(), fields)?;
-        text.push_str(end.as_str()).ok()?;
+        fields::add_behind(&mut text, " ", end.as_str())?;
     }
     Some(text)
 }
@@ -98,8 +97,21 @@ fn end_at<R: Threads + Wait + Sync>(
     if wires.is_empty() {
         return None;
     }
-    let given = over_wires(rt, alloc, words, "", STEP, fields, wires.as_mut_slice())?;
-    let failed = failed_at(alloc, wires.as_slice())?;
+    end_over(rt, alloc, words, whole, fields, wires.as_mut_slice())
+}
+
+fn end_over<R: Threads + Wait + Sync>(
+    rt: &R,
+    alloc: Global,
+    words: &str,
+    whole: &str,
+    fields: &[&str],
+    wires: &mut [WatchedWire],
+) -> Option<String>
+    requires { 0 < length wires.old }
+{
+    let given = over_wires(rt, alloc, words, "", STEP, fields, wires)?;
+    let failed = failed_at(alloc, wires)?;
     end_text(alloc, given.as_str(), whole, failed.as_str())
 }
 
@@ -122,10 +134,7 @@ fn failed_at(alloc: Global, wires: &[WatchedWire]) -> Option<String> {
     let mut text = String::new(alloc);
     for wire in wires {
         for name in wire.failed() {
-            if !text.is_empty() {
-                text.push(' ').ok()?;
-            }
-            text.push_str(name.as_str()).ok()?;
+            fields::add_behind(&mut text, " ", name.as_str())?;
         }
     }
     Some(text)

@@ -8,7 +8,7 @@ ghost use Rattle.std.specs.Prelude.{◌<◌, length};
 
 use fx_commands::{Status, run};
 use fx_member::{FaultWire, GraphWire};
-use fx_notation::escapes;
+use fx_notation::{escapes, fields};
 use fx_ntriples::read_graph;
 use fx_outside::{MemoryDoor, MemoryFiles, MemorySink};
 use fx_terms::{Graph, Iri};
@@ -44,21 +44,21 @@ pub fn answer<R: Threads + Wait + Sync>(
         ("run with each write failing", [words, step, most, files @ ..]) => {
             with_each_write_failing(rt, alloc, words, step, most, files)
         }
-        ("run over blanks", [words, name, count, files @ ..]) => {
-            over_blanks(rt, alloc, words, name, count, "", STEP, files)
+        ("run over replies with the log", [words, fields @ ..]) => {
+            over_replies_with_log(rt, alloc, words, fields)
         }
-        ("run over blanks with failing calls", [words, name, count, failing, step, files @ ..]) => {
-            over_blanks(
-                rt,
-                alloc,
-                words,
-                name,
-                count,
-                failing,
-                step.parse::<u64>().ok()?,
-                files,
-            )
-        }
+        _ => over_others(rt, alloc, call, inputs),
+    }
+}
+
+// What a call gives over members that answer by their graphs, or over long files.
+fn over_others<R: Threads + Wait + Sync>(
+    rt: &R,
+    alloc: Global,
+    call: &str,
+    inputs: &[&str],
+) -> Option<String> {
+    match (call, inputs) {
         ("run over graphs", [words, failing, fields @ ..]) => over_graphs(
             rt, alloc, words, failing, STEP, fields,
         ),
@@ -76,8 +76,31 @@ pub fn answer<R: Threads + Wait + Sync>(
         ("run over graphs with the log", [words, fields @ ..]) => {
             over_graphs_with_log(rt, alloc, words, fields)
         }
-        ("run over replies with the log", [words, fields @ ..]) => {
-            over_replies_with_log(rt, alloc, words, fields)
+        _ => over_long(rt, alloc, call, inputs),
+    }
+}
+
+fn over_long<R: Threads + Wait + Sync>(
+    rt: &R,
+    alloc: Global,
+    call: &str,
+    inputs: &[&str],
+) -> Option<String> {
+    match (call, inputs) {
+        ("run over blanks", [words, name, count, files @ ..]) => {
+            over_blanks(rt, alloc, words, name, count, "", STEP, files)
+        }
+        ("run over blanks with failing calls", [words, name, count, failing, step, files @ ..]) => {
+            over_blanks(
+                rt,
+                alloc,
+                words,
+                name,
+                count,
+                failing,
+                step.parse::<u64>().ok()?,
+                files,
+            )
         }
         ("run over long files", [words, count, fields @ ..]) => {
             over_long_files(rt, alloc, words, count, fields)
@@ -165,8 +188,7 @@ fn push_log(text: &mut String, log: &[Answered]) -> Option<()> {
     text.push_str(" | log").ok()?;
     for exchange in log {
         let port = exchange.at.port();
-        let request = from_utf8(exchange.request.as_slice()).ok()?;
-        let (_, body) = request.split_once("\r\n\r\n")?;
+        let body = fields::body(exchange.request.as_slice())?;
         write!(text, " {port} {body};").ok()?;
     }
     Some(())
@@ -200,8 +222,7 @@ fn over_blanks<R: Threads + Wait + Sync>(
     fields: &[&str],
 ) -> Option<String> {
     let mut files = files_of(alloc, failing, with_blanks(alloc, name, count, fields)?)?;
-    let mut wires = [ScriptWire::new(alloc, Vec::new(alloc)).ok()?];
-    ran(rt, alloc, words, failing, step, &mut files, &mut wires)
+    by_replies(rt, alloc, words, failing, step, &mut files, Vec::new(alloc))
 }
 
 // Where `{long}` stands once at most in each file and in each reply, for so many letters.
@@ -212,19 +233,44 @@ fn over_long_files<R: Threads + Wait + Sync>(
     count: &str,
     fields: &[&str],
 ) -> Option<String> {
+    let mut files = files_of(alloc, "", long_contents(alloc, count, fields)?)?;
+    by_replies(
+        rt,
+        alloc,
+        words,
+        "",
+        STEP,
+        &mut files,
+        replies(alloc, fields, count)?,
+    )
+}
+
+// Over one wire with these replies.
+fn by_replies<R: Threads + Wait + Sync>(
+    rt: &R,
+    alloc: Global,
+    words: &str,
+    failing: &str,
+    step: u64,
+    files: &mut MemoryFiles,
+    replies: Vec<(Iri, Vec<u8>)>,
+) -> Option<String> {
+    let mut wires = [ScriptWire::new(alloc, replies).ok()?];
+    ran(rt, alloc, words, failing, step, files, &mut wires)
+}
+
+fn long_contents(alloc: Global, count: &str, fields: &[&str]) -> Option<Vec<(String, Vec<u8>)>> {
     let mut contents = Vec::new(alloc);
     for field in fields {
         let (name, content) = field.split_once('=')?;
         if !is_address(name) {
-            let name = String::from_str(alloc, name).ok()?;
+            let content = lengthened(alloc, content, count)?;
             contents
-                .push((name, lengthened(alloc, content, count)?))
+                .push((String::from_str(alloc, name).ok()?, content))
                 .ok()?;
         }
     }
-    let mut files = files_of(alloc, "", contents)?;
-    let mut wires = [ScriptWire::new(alloc, replies(alloc, fields, count)?).ok()?];
-    ran(rt, alloc, words, "", STEP, &mut files, &mut wires)
+    Some(contents)
 }
 
 fn lengthened(alloc: Global, content: &str, count: &str) -> Option<Vec<u8>> {
@@ -264,17 +310,45 @@ fn with_each_write_failing<R: Threads + Wait + Sync>(
 ) -> Option<String> {
     let step = step.parse::<u64>().ok()?;
     let whole = over_replies(rt, alloc, words, "", step, fields)?;
-    let mut written = 0u64;
     for call in 0..most.parse::<u64>().ok()? {
+        let wanted = cut_short(alloc, whole.as_str(), call.saturating_mul(step))?;
         let number = call.saturating_add(1);
-        let failing = format!(in alloc; "out={number}").ok()?;
-        let given = over_replies(rt, alloc, words, failing.as_str(), step, fields)?;
-        if given.as_str() != cut_short(alloc, whole.as_str(), written)?.as_str() {
-            return format!(in alloc; "at write {number} {given}").ok();
+        let amiss = amiss_at(rt, alloc, words, number, wanted.as_str(), step, fields)?;
+        if !amiss.is_empty() {
+            return Some(amiss);
         }
-        written = written.saturating_add(step);
     }
     Some(whole)
+}
+
+// What a run gives whose write of this number fails, with the number; an empty text where it gives what is wanted.
+fn amiss_at<R: Threads + Wait + Sync>(
+    rt: &R,
+    alloc: Global,
+    words: &str,
+    number: u64,
+    wanted: &str,
+    step: u64,
+    fields: &[&str],
+) -> Option<String> {
+    let given = with_write_failing(rt, alloc, words, number, step, fields)?;
+    if given.as_str() == wanted {
+        Some(String::new(alloc))
+    } else {
+        format!(in alloc; "at write {number} {given}").ok()
+    }
+}
+
+fn with_write_failing<R: Threads + Wait + Sync>(
+    rt: &R,
+    alloc: Global,
+    words: &str,
+    number: u64,
+    step: u64,
+    fields: &[&str],
+) -> Option<String> {
+    let failing = format!(in alloc; "out={number}").ok()?;
+    over_replies(rt, alloc, words, failing.as_str(), step, fields)
 }
 
 // What a run gives whose document ends behind so many bytes.
@@ -333,7 +407,22 @@ pub fn ran_at<R: Threads + Wait + Sync, W: Wire + Send>(
 {
     let mut out = sink_of(alloc, failing, "out", step)?;
     let mut err = sink_of(alloc, failing, "err", step)?;
-    let status = run(rt, alloc, words, files, wires, door, &mut out, &mut err);
+    ran_into(rt, alloc, words, files, wires, door, &mut out, &mut err)
+}
+
+fn ran_into<R: Threads + Wait + Sync, W: Wire + Send>(
+    rt: &R,
+    alloc: Global,
+    words: &[String],
+    files: &mut MemoryFiles,
+    wires: &mut [W],
+    door: &mut MemoryDoor,
+    out: &mut MemorySink,
+    err: &mut MemorySink,
+) -> Option<String>
+    requires { 0 < length wires.old }
+{
+    let status = run(rt, alloc, words, files, wires, door, out, err);
     ran_text(alloc, &status, out.bytes(), err.bytes())
 }
 

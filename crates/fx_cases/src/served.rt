@@ -42,7 +42,11 @@ fn served<R: Threads + Wait + Sync>(
         return Some(whole);
     }
     let cut = served_by(rt, alloc, words, file, failing, inputs, 1)?;
-    if cut.as_str() == whole.as_str() {
+    both_texts(alloc, whole, cut.as_str())
+}
+
+fn both_texts(alloc: Global, whole: String, cut: &str) -> Option<String> {
+    if cut == whole.as_str() {
         Some(whole)
     } else {
         format!(in alloc; "{whole} and byte by byte {cut}").ok()

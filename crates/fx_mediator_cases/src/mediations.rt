@@ -9,15 +9,14 @@ use fx_engine::{
     plan_parts,
 };
 use fx_member::{FaultWire, GraphWire};
-use fx_notation::{escapes, notation, shown};
+use fx_notation::{escapes, fields, notation, shown};
 use fx_plan::explain;
 use fx_sources::{AskCache, Registry};
 use fx_syntax::parse;
-use fx_terms::{Graph, Iri};
+use fx_terms::{Boxed, Graph, Iri};
 use fx_wire::Wire;
 use std::alloc::Global;
 use std::fmt::Write;
-use std::str::from_utf8;
 use std::sync::Wait;
 use std::thread::Threads;
 
@@ -68,9 +67,16 @@ fn asked<R: Threads + Wait + Sync>(
 {
     let block = block.parse::<u32>().ok()?;
     let registry = registry_of(alloc, members)?;
-    let text = escapes::text(alloc, query)?;
+    let query = parsed(alloc, query)?;
+    answered(rt, alloc, query.get(), block, &registry, wires)
+}
+
+fn parsed(alloc: Global, field: &str) -> Option<Boxed<Query>>
+    ensures { IfSome result (λ query. IsSpellable query) }
+{
+    let text = escapes::text(alloc, field)?;
     match parse(alloc, text.as_bytes()) {
-        Ok(query) => answered(rt, alloc, &query, block, &registry, wires),
+        Ok(query) => Boxed::new(alloc, query).ok(),
         Err(_) => None,
     }
 }
@@ -157,11 +163,8 @@ fn federated_in_turn<R: Threads + Wait + Sync>(
         let [query, fails] = step else {
             return None;
         };
-        if !text.is_empty() {
-            text.push_str(" || ").ok()?;
-        }
         let told = told_next(rt, alloc, query, fails, graphs, &registry, &mut cache)?;
-        text.push_str(told.as_str()).ok()?;
+        fields::add_behind(&mut text, " || ", told.as_str())?;
     }
     Some(text)
 }
@@ -177,11 +180,8 @@ fn told_next<R: Threads + Wait + Sync>(
     cache: &mut AskCache,
 ) -> Option<String> {
     let mut wires = [failing_wire(alloc, graphs, fails)?];
-    let text = escapes::text(alloc, query)?;
-    let answer = match parse(alloc, text.as_bytes()) {
-        Ok(query) => answered_by(rt, alloc, &query, 15, registry, cache, &mut wires)?,
-        Err(_) => return None,
-    };
+    let query = parsed(alloc, query)?;
+    let answer = answered_by(rt, alloc, query.get(), 15, registry, cache, &mut wires)?;
     let held = cache.len();
     format!(in alloc; "{answer} holds {held}").ok()
 }
@@ -209,11 +209,8 @@ fn explained<R: Threads + Wait + Sync>(
     requires { (0 < length wires.old) × (length wires.old ≤ 16) }
 {
     let registry = registry_of(alloc, members)?;
-    let text = escapes::text(alloc, query)?;
-    match parse(alloc, text.as_bytes()) {
-        Ok(query) => planned_by(rt, alloc, &query, &registry, wires),
-        Err(_) => None,
-    }
+    let query = parsed(alloc, query)?;
+    planned_by(rt, alloc, query.get(), &registry, wires)
 }
 
 fn planned_by<R: Threads + Wait + Sync>(
@@ -278,9 +275,7 @@ fn sent_to(wires: &[GraphWire], port: u16) -> Option<(u64, u64)> {
     for wire in wires {
         for exchange in wire.log() {
             if exchange.at.port() == port {
-                let request = from_utf8(exchange.request.as_slice()).ok()?;
-                let (_, body) = request.split_once("\r\n\r\n")?;
-                if body.starts_with("ASK ") {
+                if fields::body(exchange.request.as_slice())?.starts_with("ASK ") {
                     asks = plus_one(asks)?;
                 } else {
                     others = plus_one(others)?;
@@ -328,27 +323,23 @@ fn registry_of(alloc: Global, members: usize) -> Option<Registry> {
 fn wires_of(alloc: Global, fields: &[&str]) -> Option<Vec<GraphWire>>
     ensures { IfSome result (λ wires. length wires.items ≡ 1) }
 {
+    let mut wires = Vec::new(alloc);
+    wires.push(wire_of(alloc, fields)?).ok()?;
+    Some(wires)
+}
+
+fn wire_of(alloc: Global, fields: &[&str]) -> Option<GraphWire> {
     let mut graphs = Vec::new(alloc);
     for (number, field) in fields.iter().enumerate() {
         graphs.push(addressed(alloc, number, field)?).ok()?;
     }
-    let mut wires = Vec::new(alloc);
-    wires.push(GraphWire::new(alloc, graphs).ok()?).ok()?;
-    Some(wires)
+    GraphWire::new(alloc, graphs).ok()
 }
 
 // A wire over all members whose exchanges with these numbers fail.
 fn failing_wire(alloc: Global, fields: &[&str], fails: &str) -> Option<FaultWire> {
-    let mut graphs = Vec::new(alloc);
-    for (number, field) in fields.iter().enumerate() {
-        graphs.push(addressed(alloc, number, field)?).ok()?;
-    }
-    let mut numbers = Vec::new(alloc);
-    for number in fails.split_whitespace() {
-        numbers.push(number.parse::<u64>().ok()?).ok()?;
-    }
-    let wire = GraphWire::new(alloc, graphs).ok()?;
-    FaultWire::new(alloc, wire, numbers, Vec::new(alloc)).ok()
+    let wire = wire_of(alloc, fields)?;
+    FaultWire::new(alloc, wire, fields::numbers(alloc, fails)?, Vec::new(alloc)).ok()
 }
 
 fn addressed(alloc: Global, number: usize, field: &str) -> Option<(Iri, Graph)> {

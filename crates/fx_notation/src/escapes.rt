@@ -7,15 +7,26 @@ use std::alloc::Global;
 pub fn field_of(alloc: Global, text: &str) -> Option<String> {
     let mut field = String::new(alloc);
     for character in text.chars() {
-        match character {
-            '\t' => field.push_str("\\t").ok()?,
-            '\n' => field.push_str("\\n").ok()?,
-            '\r' => field.push_str("\\r").ok()?,
-            '\\' => field.push_str("\\\\").ok()?,
-            _ => field.push(character).ok()?,
-        }
+        push_character(&mut field, character)?;
     }
     Some(field)
+}
+
+fn push_character(field: &mut String, character: char) -> Option<()> {
+    match escape_of(character) {
+        Some(escape) => field.push_str(escape).ok(),
+        None => field.push(character).ok(),
+    }
+}
+
+fn escape_of(character: char) -> Option<&'static str> {
+    match character {
+        '\t' => Some("\\t"),
+        '\n' => Some("\\n"),
+        '\r' => Some("\\r"),
+        '\\' => Some("\\\\"),
+        _ => None,
+    }
 }
 
 /// The text that a field stands for. Gives nothing where its bytes aren't UTF-8, or it has an escape of another form.

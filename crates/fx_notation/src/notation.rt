@@ -1,6 +1,7 @@
 //! Values that are written as SPARQL writes them, with the prefixes `e:` for `http://e/`, `x:` for `x:`, `rdf:` and `xsd:`.
 
 use crate::escapes::bytes;
+use crate::fields::repeated;
 use fx_algebra::{Answer, Element, Expr, Group, Inline, Query, Solution};
 use fx_solutions::inline_rows;
 use fx_syntax::parse;
@@ -201,9 +202,8 @@ fn table(alloc: Global, text: &str) -> Option<Answer> {
 pub fn nested(alloc: Global, parts: &[&str]) -> Option<Vec<u8>> {
     match parts {
         [front, opening, count, middle, closing, back] => {
-            let count = count.parse::<usize>().ok()?;
-            let openings = opening.repeat(alloc, count).ok()?;
-            let closings = closing.repeat(alloc, count).ok()?;
+            let openings = repeated(alloc, opening, count)?;
+            let closings = repeated(alloc, closing, count)?;
             let text = format!(in alloc; "{front}{openings}{middle}{closings}{back}").ok()?;
             bytes(alloc, text.as_str())
         }

@@ -1,8 +1,10 @@
 //! Values as texts.
 
+use crate::fields::add_behind;
 use fx_algebra::{Answer, Solution};
 use fx_terms::{Graph, Name, Pattern, PatternTerm, Term, Triple, write_iri, write_term};
 use std::alloc::Global;
+use std::fmt::Write;
 
 /// A term as N-Triples writes it, with `xsd:integer` and the like for the datatypes of XML Schema.
 pub fn term(alloc: Global, term: &Term) -> Option<String> {
@@ -24,24 +26,22 @@ pub fn term(alloc: Global, term: &Term) -> Option<String> {
 pub fn solution(alloc: Global, solution: &Solution) -> Option<String> {
     let mut text = String::new(alloc);
     for (name, bound) in solution.pairs() {
-        if !text.is_empty() {
-            text.push(' ').ok()?;
-        }
-        text.push_str(name.text()).ok()?;
-        text.push('=').ok()?;
-        text.push_str(term(alloc, bound)?.as_str()).ok()?;
+        add_pair(alloc, &mut text, name.text(), bound)?;
     }
     Some(text)
+}
+
+fn add_pair(alloc: Global, text: &mut String, name: &str, bound: &Term) -> Option<()> {
+    let (between, bound) = (if text.is_empty() { "" } else { " " }, term(alloc, bound)?);
+    write!(text, "{between}{name}={bound}").ok()
 }
 
 /// Solutions, one after another.
 pub fn solutions(alloc: Global, rows: &[Solution]) -> Option<String> {
     let mut text = String::new(alloc);
     for row in rows {
-        if !text.is_empty() {
-            text.push_str(" ; ").ok()?;
-        }
-        text.push_str(solution(alloc, row)?.as_str()).ok()?;
+        let row = solution(alloc, row)?;
+        add_behind(&mut text, " ; ", row.as_str())?;
     }
     Some(text)
 }
@@ -50,10 +50,7 @@ pub fn solutions(alloc: Global, rows: &[Solution]) -> Option<String> {
 pub fn names(alloc: Global, names: &[Name]) -> Option<String> {
     let mut text = String::new(alloc);
     for name in names {
-        if !text.is_empty() {
-            text.push(' ').ok()?;
-        }
-        text.push_str(name.text()).ok()?;
+        add_behind(&mut text, " ", name.text())?;
     }
     Some(text)
 }
@@ -75,8 +72,7 @@ pub fn bytes(alloc: Global, bytes: &[u8]) -> Option<String> {
     }
     let mut text = word(alloc, "bytes")?;
     for byte in bytes {
-        let digits = format!(in alloc; " {byte:02X}").ok()?;
-        text.push_str(digits.as_str()).ok()?;
+        write!(text, " {byte:02X}").ok()?;
     }
     Some(text)
 }
@@ -127,8 +123,8 @@ fn push_part(text: &mut String, part: &PatternTerm) -> Option<()> {
 pub fn rows(alloc: Global, rows: &[Solution]) -> Option<String> {
     let mut text = String::new(alloc);
     for row in rows {
-        text.push_str(solution(alloc, row)?.as_str()).ok()?;
-        text.push(';').ok()?;
+        let row = solution(alloc, row)?;
+        write!(text, "{row};").ok()?;
     }
     Some(text)
 }

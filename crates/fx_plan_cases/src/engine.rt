@@ -9,16 +9,15 @@ use fx_engine::{
     Down, DownCause, FedError, Options, Outcome, ReplyFault, fault_code, fault_words, federate,
     plan_parts,
 };
-use fx_notation::escapes;
+use fx_notation::{escapes, fields};
 use fx_plan::explain;
 use fx_print::print;
 use fx_sources::{AskCache, Registry};
 use fx_syntax::parse;
-use fx_terms::{Iri, Name, Term};
+use fx_terms::{Boxed, Iri, Name, Term};
 use fx_wire::ScriptWire;
 use std::alloc::Global;
 use std::fmt::Write;
-use std::str::from_utf8;
 use std::sync::Wait;
 use std::thread::Threads;
 
@@ -42,9 +41,18 @@ pub fn answer<R: Threads + Wait + Sync>(
 
 // The printed text of a query.
 fn printed(alloc: Global, field: &str) -> Option<String> {
+    let query = parsed(alloc, field)?;
+    print(alloc, query.get()).ok()
+}
+
+fn parsed(alloc: Global, field: &str) -> Option<Boxed<Query>>
+    ensures { IfSome result (λ query. IsSpellable query) }
+{
     let text = escapes::text(alloc, field)?;
-    let query = parse(alloc, text.as_bytes()).ok()?;
-    print(alloc, &query).ok()
+    match parse(alloc, text.as_bytes()) {
+        Ok(query) => Boxed::new(alloc, query).ok(),
+        Err(_) => None,
+    }
 }
 
 // How many exchanges were answered, and the answer.
@@ -82,11 +90,8 @@ fn federated_in_turn<R: Threads + Wait + Sync>(
         let [query, first, second] = step else {
             return None;
         };
-        if !text.is_empty() {
-            text.push_str(" || ").ok()?;
-        }
         let told = told(rt, alloc, &mut cache, query, first, second)?;
-        text.push_str(told.as_str()).ok()?;
+        fields::add_behind(&mut text, " || ", told.as_str())?;
     }
     Some(text)
 }
@@ -118,11 +123,8 @@ fn answered<R: Threads + Wait + Sync>(
     requires { (0 < length wires.old) × (length wires.old ≤ 16) }
 {
     let registry = Registry::read(alloc, REGISTRY.as_bytes()).ok()?;
-    let text = escapes::text(alloc, field)?;
-    match parse(alloc, text.as_bytes()) {
-        Ok(query) => answered_by(rt, alloc, &query, &registry, cache, wires),
-        Err(_) => None,
-    }
+    let query = parsed(alloc, field)?;
+    answered_by(rt, alloc, query.get(), &registry, cache, wires)
 }
 
 fn answered_by<R: Threads + Wait + Sync>(
@@ -158,27 +160,23 @@ fn planned<R: Threads + Wait + Sync>(
     first: &str,
     second: &str,
 ) -> Option<String> {
-    let registry = Registry::read(alloc, REGISTRY.as_bytes()).ok()?;
     let mut wires = wires_of(alloc, first, second)?;
-    let text = escapes::text(alloc, field)?;
-    match parse(alloc, text.as_bytes()) {
-        Ok(query) => planned_by(rt, alloc, &query, &registry, wires.as_mut_slice()),
-        Err(_) => None,
-    }
+    let query = parsed(alloc, field)?;
+    planned_by(rt, alloc, query.get(), wires.as_mut_slice())
 }
 
 fn planned_by<R: Threads + Wait + Sync>(
     rt: &R,
     alloc: Global,
     query: &Query,
-    registry: &Registry,
     wires: &mut [ScriptWire],
 ) -> Option<String>
     requires wired { (0 < length wires.old) × (length wires.old ≤ 16) }
     requires spellable { IsSpellable query.now }
 {
+    let registry = Registry::read(alloc, REGISTRY.as_bytes()).ok()?;
     let mut cache = AskCache::new(alloc).ok()?;
-    match plan_parts(rt, alloc, query, registry, &mut cache, wires) {
+    match plan_parts(rt, alloc, query, &registry, &mut cache, wires) {
         Ok(parts) => explain(alloc, parts.as_slice(), registry.endpoints()).ok(),
         Err(error) => refusal_text(alloc, &error),
     }
@@ -189,8 +187,7 @@ fn sent(alloc: Global, wires: &[ScriptWire]) -> Option<String> {
     let mut text = String::new(alloc);
     for wire in wires {
         for exchange in wire.log() {
-            let request = from_utf8(exchange.request.as_slice()).ok()?;
-            let (_, body) = request.split_once("\r\n\r\n")?;
+            let body = fields::body(exchange.request.as_slice())?;
             let port = exchange.at.port();
             write!(text, "{port} {body};").ok()?;
         }

@@ -2,7 +2,7 @@
 
 use crate::registries;
 use fx_algebra::Query;
-use fx_notation::notation;
+use fx_notation::{fields, notation};
 use fx_sources::{AskCache, AskKey, Probe, Registry, Sources, ask_text, choose, missing};
 use fx_terms::{Boxed, Items};
 use std::alloc::Global;
@@ -67,11 +67,8 @@ fn choose_in_turn(
         let [query, yes] = asked else {
             return None;
         };
-        if !text.is_empty() {
-            text.push_str(" | ").ok()?;
-        }
         let told = told(alloc, &registry, cache, query, yes)?;
-        text.push_str(told.as_str()).ok()?;
+        fields::add_behind(&mut text, " | ", told.as_str())?;
     }
     push_count(&mut text, cache)?;
     Some(text)
@@ -129,10 +126,7 @@ fn truths(alloc: Global, text: &mut String, probes: &[Probe], yes: &str) -> Opti
     let mut truths = Vec::new(alloc);
     for probe in probes {
         let line = line(alloc, probe)?;
-        if !text.is_empty() {
-            text.push_str(" ; ").ok()?;
-        }
-        text.push_str(line.as_str()).ok()?;
+        fields::add_behind(text, " ; ", line.as_str())?;
         truths.push(is_yes(line.as_str(), yes)).ok()?;
     }
     if probes.is_empty() {

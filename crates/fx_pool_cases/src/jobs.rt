@@ -7,7 +7,7 @@ use crate::checks::{are_sendable, are_within};
 use crate::faults::fault_text;
 use crate::flows;
 use fx_bound_cases::batches::{batch_of, founds_text};
-use fx_notation::{notation, shown};
+use fx_notation::{fields, notation, shown};
 use fx_outside::Endpoint;
 use fx_pool::{BadReply, Job, JobKind, JobReply, RequestText, Work, run_jobs};
 use fx_terms::{Iri, Items};
@@ -166,8 +166,7 @@ fn replies_text(alloc: Global, replies: &[JobReply], log: &[Answered]) -> Option
     let mut text = String::new(alloc);
     for reply in replies {
         let reply = reply_text(alloc, reply, log)?;
-        text.push_str(reply.as_str()).ok()?;
-        text.push_str(" ;; ").ok()?;
+        write!(text, "{reply} ;; ").ok()?;
     }
     push_log(&mut text, log)?;
     Some(text)
@@ -209,8 +208,7 @@ fn kind_text(kind: JobKind) -> &'static str {
 fn push_log(text: &mut String, log: &[Answered]) -> Option<()> {
     text.push_str("log").ok()?;
     for exchange in log {
-        let request = std::str::from_utf8(exchange.request.as_slice()).ok()?;
-        let (_, body) = request.split_once("\r\n\r\n")?;
+        let body = fields::body(exchange.request.as_slice())?;
         let port = exchange.at.port();
         write!(text, " {port} {body};").ok()?;
     }

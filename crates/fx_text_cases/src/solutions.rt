@@ -74,11 +74,17 @@ fn of_two(alloc: Global, call: &str, left: &str, right: &str) -> Option<String> 
     let left = notation::solutions(alloc, left)?;
     let right = notation::solutions(alloc, right)?;
     match call {
-        "union" => text(alloc, union(alloc, left.as_slice(), right.as_slice())),
-        "minus" => text(alloc, minus(alloc, left.as_slice(), right.as_slice())),
         "minus_with" => text(alloc, minus_with(alloc, left, right)),
-        "join" => sorted(alloc, join(alloc, left.as_slice(), right.as_slice())),
         "join_with" => sorted(alloc, join_with(alloc, left.as_slice(), right)),
+        _ => of_slices(alloc, call, left.as_slice(), right.as_slice()),
+    }
+}
+
+fn of_slices(alloc: Global, call: &str, left: &[Solution], right: &[Solution]) -> Option<String> {
+    match call {
+        "union" => text(alloc, union(alloc, left, right)),
+        "minus" => text(alloc, minus(alloc, left, right)),
+        "join" => sorted(alloc, join(alloc, left, right)),
         _ => None,
     }
 }

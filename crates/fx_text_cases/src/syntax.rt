@@ -48,8 +48,10 @@ fn compared(alloc: Global, text: &str, other: &str) -> Option<String> {
 // The printed text of the query that a field is, which no other query has (`fx_spelling`).
 fn tree(alloc: Global, field: &str) -> Option<String> {
     let text = escapes::bytes(alloc, field)?;
-    let query = parse(alloc, text.as_slice()).ok()?;
-    print(alloc, &query).ok()
+    match parse(alloc, text.as_slice()) {
+        Ok(query) => print(alloc, &query).ok(),
+        Err(_) => None,
+    }
 }
 
 fn plain(alloc: Global, query: &str) -> Option<String> {

@@ -5,7 +5,7 @@ use crate::wires::{endpoint, reply_text};
 use fx_algebra::Query;
 use fx_http::request_bytes;
 use fx_member::{FaultWire, GraphWire, MemberError, ServeError, Served, serve_one};
-use fx_notation::{escapes, notation, shown};
+use fx_notation::{escapes, fields, notation, shown};
 use fx_outside::{Endpoint, MemoryLink};
 use fx_store::Store;
 use fx_terms::Iri;
@@ -182,11 +182,8 @@ fn fault_wire(alloc: Global, graph: &str, fails: &str) -> Option<FaultWire> {
 fn replies<W: Wire>(alloc: Global, wire: &mut W, exchanges: &[&str]) -> Option<String> {
     let mut text = String::new(alloc);
     for exchange in exchanges {
-        if !text.is_empty() {
-            text.push(' ').ok()?;
-        }
         let reply = reply(alloc, wire, exchange)?;
-        text.push_str(reply.as_str()).ok()?;
+        fields::add_behind(&mut text, " ", reply.as_str())?;
     }
     Some(text)
 }

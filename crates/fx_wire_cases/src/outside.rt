@@ -20,6 +20,12 @@ pub fn answer(alloc: Global, call: &str, inputs: &[&str]) -> Option<String> {
         }
         ("MemoryFiles::take", [held, fails, takes]) => take_all(alloc, held, fails, takes),
         ("MemoryDoor", [parts @ .., steps]) => visit(alloc, parts, steps),
+        _ => of_endpoint(alloc, call, inputs),
+    }
+}
+
+fn of_endpoint(alloc: Global, call: &str, inputs: &[&str]) -> Option<String> {
+    match (call, inputs) {
         ("Endpoint::is_sendable", [host, target]) => is_sendable(alloc, host, target),
         ("Endpoint::is_sendable of repeated", [host, piece, times]) => {
             is_long_sendable(alloc, host, piece, times)

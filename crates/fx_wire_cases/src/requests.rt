@@ -17,12 +17,19 @@ const WHOLE: u64 = 1_000_000;
 pub fn answer(alloc: Global, call: &str, inputs: &[&str]) -> Option<String> {
     match (call, inputs) {
         ("request_bytes", [port, text]) => posted(alloc, port, text),
-        ("reply_bytes", [status, body]) => replied(alloc, status, body),
         ("read_request", [bytes]) => asked_by_field(alloc, bytes),
         ("read_request of a long head", [count, size]) => asked_by_head(alloc, count, size),
         ("read_request of a long text", [size]) => asked_by_length(alloc, size),
         ("read_request with each read failing", [bytes]) => faults(alloc, bytes),
         ("read_request leaves", [bytes]) => left_behind(alloc, bytes),
+        _ => of_replies(alloc, call, inputs),
+    }
+}
+
+// The calls on replies, and on what is made of a request.
+fn of_replies(alloc: Global, call: &str, inputs: &[&str]) -> Option<String> {
+    match (call, inputs) {
+        ("reply_bytes", [status, body]) => replied(alloc, status, body),
         ("Asked::into_text", [bytes]) => text_taken_out(alloc, bytes),
         ("RequestError::status", [name]) => status_text(alloc, name),
         ("read_reply", [bytes]) => answered_by_field(alloc, bytes),

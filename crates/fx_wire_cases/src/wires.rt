@@ -24,8 +24,7 @@ fn exchanged_over(alloc: Global, wire: &mut ScriptWire, exchanges: &str) -> Opti
     let mut text = String::new(alloc);
     for exchange in exchanges.split(' ') {
         let reply = exchange_reply(alloc, wire, exchange)?;
-        text.push_str(reply.as_str()).ok()?;
-        text.push(' ').ok()?;
+        write!(text, "{reply} ").ok()?;
     }
     push_log(&mut text, wire)?;
     Some(text)
