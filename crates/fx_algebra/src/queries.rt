@@ -62,7 +62,6 @@ pub struct Order {
 }
 
 /// A query.
-#[derive(Drop)]
 pub struct Query {
     pub form: Form,
     pub group: Group,
@@ -73,6 +72,20 @@ pub struct Query {
     pub limit: Option<u64>,
     /// The VALUES that stands behind the query.
     pub inline: Option<Inline>,
+}
+
+// By hand, so that what drops a tree is proved here once, and not in each crate that drops a query.
+impl Drop for Query {
+    fn drop(self) {
+        let Query {
+            form: _form,
+            group: _group,
+            order: _order,
+            offset: _,
+            limit: _,
+            inline: _inline,
+        } = self;
+    }
 }
 
 impl Inline {

@@ -106,7 +106,7 @@ impl Solution {
         ensures { IfOk result (λ copy. copy ≡ self.now) }
     {
         Ok(Solution {
-            pairs: copy_pairs(alloc, self.pairs.as_slice())?,
+            pairs: copy_pairs(alloc, self.pairs.as_slice(), 0)?,
         })
     }
 }
@@ -198,10 +198,15 @@ fn is_or_none(term: &Term, other: Option<&Term>) -> bool
     }
 }
 
-fn copy_pairs(alloc: Global, pairs: &[(Name, Term)]) -> Result<Vec<(Name, Term)>, Memory>
+// Equal pairs, with room for so many more.
+fn copy_pairs(
+    alloc: Global,
+    pairs: &[(Name, Term)],
+    room: usize,
+) -> Result<Vec<(Name, Term)>, Memory>
     ensures { IfOk result (λ copies. copies.items ≡ pairs.now) }
 {
-    let mut copies = Vec::with_capacity(alloc, pairs.len())?;
+    let mut copies = Vec::with_capacity(alloc, pairs.len().saturating_add(room))?;
     for pair in pairs {
         let name = pair.0.copy()?;
         let term = pair.1.copy()?;
@@ -246,7 +251,7 @@ fn with_pair(
     requires { spec.term_of pairs.now name.now ≡ None }
     ensures { IfOk result (λ more. more.items ≡ spec.with_pair pairs.now name.now term.now) }
 {
-    let mut more = copy_pairs(alloc, pairs)?;
+    let mut more = copy_pairs(alloc, pairs, 1)?;
     put_pair(&mut more, name, term)?;
     Ok(more)
 }
@@ -258,7 +263,7 @@ fn merge_pairs(
 ) -> Result<Vec<(Name, Term)>, Memory>
     ensures { IfOk result (λ both. both.items ≡ spec.merge left.now right.now) }
 {
-    let mut both = copy_pairs(alloc, left)?;
+    let mut both = copy_pairs(alloc, left, right.len())?;
     for pair in right {
         put_new(&mut both, &pair.0, &pair.1)?;
     }

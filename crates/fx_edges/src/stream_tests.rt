@@ -1,6 +1,8 @@
 //! Streams of std. What they do is a function beside each test, which answers nothing where memory runs out.
 
-use fx_outside::{ReadFailed, Sink, Source, StdLink, StdSink, WriteFailed, read_front, write_all};
+use fx_outside::{
+    ReadAhead, ReadFailed, Sink, Source, StdLink, StdSink, WriteFailed, read_front, write_all,
+};
 use std::alloc::Global;
 use std::io;
 use std::io::{ErrorKind, Read, Write};
@@ -18,6 +20,11 @@ fn a_link_that_is_interrupted_reads_on_and_one_that_times_out_fails(rt: HostRunt
 #[test]
 fn the_front_of_a_reader_is_read_in_as_many_reads_as_it_takes(rt: HostRuntime) {
     assert_eq!(rt; first_front_amiss(rt.alloc()), None, "by the rows from 0");
+}
+
+#[test]
+fn a_stream_is_read_ahead_of_what_is_asked_for(rt: HostRuntime) {
+    assert_eq!(rt; reads_ahead(rt.alloc()), Some(true));
 }
 
 #[test]
@@ -74,6 +81,16 @@ fn gives_front(alloc: Global, mut reader: Pieces, most: usize, want: Option<&str
         (Err(_), None) => true,
         _ => false,
     }
+}
+
+// Whether one byte that is asked for takes the first five from the stream, and what is asked for next the other four of these.
+fn reads_ahead(alloc: Global) -> Option<bool> {
+    let mut ahead = ReadAhead::new(alloc, in_pieces(5, 0, 9)).ok()?;
+    let mut one = [0u8; 1];
+    let mut more = [0u8; 6];
+    let is_first = ahead.read(&mut one).ok()? == 1 && &one == b"a";
+    let are_next = ahead.read(&mut more).ok()? == 4 && &more == b"bcde\0\0";
+    Some(is_first && are_next && ahead.into_stream().left == b"fgh".as_slice())
 }
 
 fn takes_all(alloc: Global) -> bool {

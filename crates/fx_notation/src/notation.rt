@@ -27,7 +27,7 @@ fn parsed(alloc: Global, text: &[u8]) -> Option<Boxed<Query>> {
 /// A group, with its braces.
 pub fn group(alloc: Global, text: &str) -> Option<Group> {
     let text = format!(in alloc; "ASK {text}").ok()?;
-    Some(query(alloc, text.as_str())?.into_inner().group)
+    query(alloc, text.as_str())?.get().group.copy(alloc).ok()
 }
 
 /// An element of a group.

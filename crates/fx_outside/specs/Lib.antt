@@ -8,6 +8,7 @@ pub mod MemoryStreams
 pub mod NameCounts
 pub mod Patience
 pub mod Readers
+pub mod ReadsAhead
 pub mod Storage
 pub mod Streams
 pub mod SystemLinks

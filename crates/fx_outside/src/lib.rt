@@ -12,6 +12,7 @@ pub mod memory_storage;
 pub mod memory_streams;
 pub mod name_counts;
 pub mod patience;
+pub mod read_ahead;
 pub mod reading;
 pub mod storage;
 pub mod streams;
@@ -30,6 +31,7 @@ pub use memory_storage::MemoryFiles;
 pub use memory_streams::MemorySink;
 pub use name_counts::NameCounts;
 pub use patience::Patient;
+pub use read_ahead::ReadAhead;
 pub use reading::read_front;
 pub use storage::{FileError, Files};
 pub use streams::{Ends, ReadFailed, Sink, Source, WriteFailed};
@@ -54,6 +56,7 @@ pub fn all_shareable<T: Send + Sync>() {
     shareable::<NameCounts>();
     shareable::<Folder<T>>();
     shareable::<Patient<T, T>>();
+    shareable::<ReadAhead<T>>();
     shareable::<StdLink<T>>();
     shareable::<StdSink<T>>();
 }

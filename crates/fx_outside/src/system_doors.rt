@@ -3,6 +3,7 @@ ghost use Rattle.std.specs.Prelude.{◌≡◌, ◌≤◌, ◌+◌, IfOk, IsErrOf
 
 use crate::doors::{Door, DoorError};
 use crate::patience::Patient;
+use crate::read_ahead::ReadAhead;
 use crate::system_links::StdLink;
 use crate::system_streams::TRIES;
 use std::alloc::Global;
@@ -70,7 +71,7 @@ impl<N: Net + Clock + Clone + Drop> Door for Listener<N> {
     ghost use Rattle.std.specs.Prelude.{false, refl, None, []};
     ghost use Rattle.fx_outside.specs.SystemLinks.{read_faults_of, write_faults_of};
 
-    type Conn = StdLink<Patient<N::Stream, N>>;
+    type Conn = StdLink<ReadAhead<Patient<N::Stream, N>>>;
 
     ghost tells = { false };
 
@@ -94,13 +95,16 @@ impl<N: Net + Clock + Clone + Drop> Door for Listener<N> {
     }
 
     /// `Failed` comes where the network fails, and is counted; no other answer is.
-    fn accept(&mut self, _alloc: Global) -> Result<StdLink<Patient<N::Stream, N>>, DoorError>
+    fn accept(
+        &mut self,
+        alloc: Global,
+    ) -> Result<StdLink<ReadAhead<Patient<N::Stream, N>>>, DoorError>
         ensures faultless_connection { IfOk result (λ conn. (read_faults_of conn ≡ 0) × (write_faults_of conn ≡ 0)) }
         ensures kept { self.old.faults ≤ self.new.faults }
         ensures counted { IsErrOf result DoorError.Failed → self.new.faults ≡ self.old.faults + 1 }
         ensures faultless { ¬ IsErrOf result DoorError.Failed → self.new.faults ≡ self.old.faults }
     {
-        match accept_patiently(&self.network, &self.listener, self.patience) {
+        match accept_patiently(alloc, &self.network, &self.listener, self.patience) {
             Ok(stream) => Ok(StdLink::new(stream)),
             Err(error) => Err(self.fault(&error)),
         }
@@ -111,12 +115,12 @@ impl<N: Net + Clock + Clone + Drop> Door for Listener<N> {
     fn finish(
         &mut self,
         _alloc: Global,
-        conn: StdLink<Patient<N::Stream, N>>,
+        conn: StdLink<ReadAhead<Patient<N::Stream, N>>>,
     ) -> Result<(), DoorError>
         ensures finished { IsOk result }
         ensures faultless { self.new.faults ≡ self.old.faults }
     {
-        let mut stream = conn.into_stream().into_stream();
+        let mut stream = conn.into_stream().into_stream().into_stream();
         linger(&mut stream, &self.network, self.patience);
         Ok(())
     }
@@ -124,13 +128,14 @@ impl<N: Net + Clock + Clone + Drop> Door for Listener<N> {
 
 // The next stream, whose peer's time begins now.
 fn accept_patiently<N: Net + Clock + Clone + Drop>(
+    alloc: Global,
     network: &N,
     listener: &Option<N::Listener>,
     patience: Duration,
-) -> io::Result<Patient<N::Stream, N>> {
+) -> io::Result<ReadAhead<Patient<N::Stream, N>>> {
     let clock = network.clone()?;
     let stream = accept_some(listener)?;
-    Patient::new(stream, clock, patience)
+    ReadAhead::new(alloc, Patient::new(stream, clock, patience)?)
 }
 
 // The next stream. An accept that was interrupted is tried again, but not for ever.

@@ -13,7 +13,6 @@ pub mod literals;
 pub mod names;
 pub mod patterns;
 pub mod recent;
-mod tags;
 pub mod terms;
 pub mod triples;
 pub mod utf8;

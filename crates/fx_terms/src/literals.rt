@@ -1,5 +1,5 @@
 //! Literals.
-ghost use Rattle.std.specs.Prelude.{◌≡◌, IfOk, []};
+ghost use Rattle.std.specs.Prelude.{◌≡◌, IfOk, [], string_bytes};
 ghost use Rattle.std.specs.List.{list_all};
 ghost use Rattle.fx_terms.specs.Iris.{is_letter};
 ghost use Rattle.fx_terms.specs.Answers.{AnswersLiteral};
@@ -8,11 +8,10 @@ ghost use Rattle.fx_terms.specs.Literals as spec;
 use crate::allocation::Memory;
 use crate::datatypes::{LANG_STRING, XSD_STRING};
 use crate::iris::Iri;
-use crate::tags::Tag;
 use std::alloc::{AllocError, Global};
 use std::cmp::Ordering;
 use std::marker::Model;
-use std::sync::ArcStr;
+use std::sync::Arc;
 
 /// Why a literal can't be made.
 #[derive(Clone, Copy, Debug, PartialEq, Eq)]
@@ -47,36 +46,60 @@ impl From<Memory> for LiteralError {
     }
 }
 
+/// The parts of a literal, as they lie behind it.
+#[derive(Drop)]
+struct Parts {
+    form: String,
+    datatype: Iri,
+    tag: String,
+}
+
 /// A literal (RDF 1.1 Concepts 3.3): a lexical form, a datatype, and a language tag exactly where the datatype is
 /// rdf:langString. Contracts see the bytes of these parts, and a literal without a tag as one with the empty tag.
 #[derive(Drop)]
 pub struct Literal {
-    form: ArcStr,
-    datatype: Iri,
-    tag: Tag,
+    parts: Arc<Parts>,
 }
 
 impl Model for Literal {
-    ghost use Rattle.std.specs.Arc.{arc_str_bytes};
+    ghost use Rattle.std.specs.Prelude.{string_bytes};
     ghost use Rattle.fx_terms.specs.Literals.{LiteralParts, IsLiteral};
 
     ghost Value = { LiteralParts };
 
-    ghost view = { λ l. record { form = arc_str_bytes l.form; datatype = l.datatype; tag = l.tag } };
+    ghost view = { λ l. record { form = string_bytes l.parts.value.form; datatype = l.parts.value.datatype; tag = string_bytes l.parts.value.tag } };
 
-    ghost invariant = { λ l. IsLiteral (record { form = arc_str_bytes l.form; datatype = l.datatype; tag = l.tag }) };
+    ghost invariant = { λ l. IsLiteral (record { form = string_bytes l.parts.value.form; datatype = l.parts.value.datatype; tag = string_bytes l.parts.value.tag }) };
 }
 
 impl Literal {
+    /// The literal of these parts.
+    fn of(alloc: Global, form: String, datatype: Iri, tag: String) -> Result<Literal, Memory>
+        requires { spec.IsLiteral (record { form = string_bytes form; datatype = datatype; tag = string_bytes tag }) }
+        ensures { IfOk result (λ literal. literal ≡ record { form = string_bytes form; datatype = datatype; tag = string_bytes tag }) }
+    {
+        let parts = Arc::new(
+            alloc,
+            Parts {
+                form,
+                datatype,
+                tag,
+            },
+        )?;
+        Ok(Literal { parts })
+    }
+
     /// The literal of a form alone: its datatype is xsd:string, and it has no tag.
     pub fn plain(alloc: Global, form: &str) -> Result<Literal, Memory>
         ensures { IfOk result (λ literal. literal ≡ spec.plain form.now) }
     {
-        Ok(Literal {
-            form: ArcStr::from_str(alloc, form)?,
-            datatype: Iri::known(alloc, XSD_STRING)?,
-            tag: Tag::none(),
-        })
+        let form = String::from_str(alloc, form)?;
+        Literal::of(
+            alloc,
+            form,
+            Iri::known(alloc, XSD_STRING)?,
+            String::new(alloc),
+        )
     }
 
     /// The literal of a form and a datatype, without a tag. `NeedsTag` comes exactly where the datatype is rdf:langString.
@@ -86,11 +109,8 @@ impl Literal {
         if datatype.text() == LANG_STRING {
             return Err(LiteralError::NeedsTag);
         }
-        Ok(Literal {
-            form: ArcStr::from_str(alloc, form)?,
-            datatype: datatype.copy()?,
-            tag: Tag::none(),
-        })
+        let form = String::from_str(alloc, form)?;
+        Ok(Literal::of(alloc, form, datatype.copy()?, String::new(alloc))?)
     }
 
     /// The literal of a form and a language tag, which it keeps in ASCII lower case. Its datatype is rdf:langString.
@@ -103,25 +123,23 @@ impl Literal {
         if !is_tag(tag) {
             return Err(LiteralError::BadTag);
         }
-        Ok(Literal {
-            form: ArcStr::from_str(alloc, form)?,
-            datatype: Iri::known(alloc, LANG_STRING)?,
-            tag: Tag::of(ArcStr::from_string(tag.to_ascii_lowercase(alloc)?)?),
-        })
+        let form = String::from_str(alloc, form)?;
+        let tag = tag.to_ascii_lowercase(alloc)?;
+        Ok(Literal::of(alloc, form, Iri::known(alloc, LANG_STRING)?, tag)?)
     }
 
     /// The lexical form.
     pub fn form(&self) -> &str
         ensures { result.now ≡ self.now.form }
     {
-        self.form.as_str()
+        self.parts.form.as_str()
     }
 
     /// The datatype.
     pub fn datatype(&self) -> &Iri
         ensures { result.now ≡ self.now.datatype }
     {
-        &self.datatype
+        &self.parts.datatype
     }
 
     /// The language tag in lower case, or nothing where the datatype is not rdf:langString.
@@ -129,17 +147,15 @@ impl Literal {
         ensures value { result.now ≡ self.now.tag }
         ensures fits { spec.IsLiteral self.now }
     {
-        self.tag.text()
+        self.parts.tag.as_str()
     }
 
-    /// An equal literal, which shares the texts.
+    /// An equal literal, which shares the parts.
     pub fn copy(&self) -> Result<Literal, Memory>
         ensures { IfOk result (λ copy. copy ≡ self.now) }
     {
         Ok(Literal {
-            form: self.form.clone()?,
-            datatype: self.datatype.copy()?,
-            tag: self.tag.copy()?,
+            parts: self.parts.clone()?,
         })
     }
 }
@@ -215,15 +231,15 @@ impl Ord for Literal {
     ghost matches_eq = { λ x y. refl };
 
     fn cmp(&self, other: &Literal) -> Ordering {
-        let forms = self.form.cmp(&other.form);
+        let forms = self.form().cmp(other.form());
         if forms != Ordering::Equal {
             return forms;
         }
-        let datatypes = self.datatype.cmp(&other.datatype);
+        let datatypes = self.datatype().cmp(other.datatype());
         if datatypes != Ordering::Equal {
             return datatypes;
         }
-        self.tag.text().cmp(other.tag.text())
+        self.tag().cmp(other.tag())
     }
 }
 

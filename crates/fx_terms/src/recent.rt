@@ -88,10 +88,13 @@ impl RecentIris {
 
 // Where a text is kept among so many places, by its length and its last bytes.
 fn place_of(text: &str, places: usize) -> usize {
+    if places == 0 {
+        return 0;
+    }
     let bytes = text.as_bytes();
     let mut mixed = bytes.len() as u64;
     for place in bytes.len().saturating_sub(TAIL)..bytes.len() {
         mixed = (mixed ^ u64::from(bytes[place])).wrapping_mul(FACTOR);
     }
-    ((mixed >> 32).wrapping_mul(places as u64) >> 32) as usize
+    (mixed % places as u64) as usize
 }

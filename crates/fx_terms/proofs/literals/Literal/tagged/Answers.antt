@@ -1,16 +1,15 @@
-use Rattle.std.proofs.Common.{◌≡◌, ◌∙◌, ap, rules, sym, subst, true, not, List, ℕ, length, map, ◌==◌}
-use Rattle.std.specs.Char.{to_ascii_lowercase}
+use Rattle.std.proofs.Common.{◌≡◌, ◌∙◌, ap, rules, sym, subst, true, not, List, ℕ, length, ◌==◌}
 use Rattle.std.specs.Str.{bytes_eq}
 use Rattle.fx_terms.specs.Datatypes.{lang_string}
 use Rattle.fx_terms.specs.Literals.{IsTag, is_tag}
 use Rattle.fx_terms.proofs.TagLemmas.{tag_in_lower_case, tag_is_some}
 use Rattle.fx_terms.proofs.literals.Literal.tagged.Goals as goal
 
-pub invariant_of-result : goal.invariant_of-result
-invariant_of-result c =
+pub of-requires : goal.of-requires
+of-requires c =
     let text = c.args.tag.now in
     let is : is_tag text ≡ true = search rules in
-    let lower : c.of.result ≡ map to_ascii_lowercase text = c.of.ensures ∙ (c.in_ok-from_string.ensures.ok ∙ c.in_ok-to_ascii_lowercase.ensures.ok) in
+    let lower = c.in_ok-tag.ensures.ok in
     record {
       form = search rules;
       datatype = c.in_ok-known.ensures.valid;
