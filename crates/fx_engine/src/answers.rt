@@ -83,14 +83,9 @@ fn answer_from(alloc: Global, query: &Query, rows: Vec<Solution>) -> Result<Answ
     ensures given { IfOk result (spec.IsFromRows query.now rows.items) }
     ensures memory { IfErr result (λ e. e ≡ RowsError.Flow FlowError.Memory) }
 {
-    let Ok(all) = with_inline(alloc, &query.inline, rows) else {
-        return Err(RowsError::Flow(FlowError::Memory));
-    };
+    let all = with_inline(alloc, &query.inline, rows)?;
     known_to_rise(all.as_slice());
-    match answer_of_rows(alloc, query, all.as_slice()) {
-        Ok(answer) => Ok(answer),
-        Err(Memory) => Err(RowsError::Flow(FlowError::Memory)),
-    }
+    Ok(answer_of_rows(alloc, query, all.as_slice())?)
 }
 
 // The rows joined with the VALUES behind the query, where there is one.

@@ -454,13 +454,8 @@ fn filtered(alloc: Global, group: &Group, rows: Vec<Solution>) -> Result<Vec<Sol
     ensures given { IfOk result (λ kept. kept.items ≡ filtered_of (group_of group.now).filters rows.items) }
     ensures memory { IfErr result (λ e. e ≡ RowsError.Flow FlowError.Memory) }
 {
-    let Ok(filters) = filters_of(alloc, group) else {
-        return Err(RowsError::Flow(FlowError::Memory));
-    };
-    match filter(alloc, rows, filters.as_slice()) {
-        Ok(kept) => Ok(kept),
-        Err(Memory) => Err(RowsError::Flow(FlowError::Memory)),
-    }
+    let filters = filters_of(alloc, group)?;
+    Ok(filter(alloc, rows, filters.as_slice())?)
 }
 
 fn joined(
@@ -471,10 +466,7 @@ fn joined(
     ensures given { IfOk result (λ rows. IsPermutation (join_of before.now found.items) rows.items) }
     ensures memory { IfErr result (λ e. e ≡ RowsError.Flow FlowError.Memory) }
 {
-    match join_with(alloc, before, found) {
-        Ok(rows) => Ok(rows),
-        Err(Memory) => Err(RowsError::Flow(FlowError::Memory)),
-    }
+    Ok(join_with(alloc, before, found)?)
 }
 
 // The join with rows that are kept.
@@ -486,10 +478,7 @@ fn with_rows(
     ensures given { IfOk result (λ rows. IsPermutation (join_of before.now found.now) rows.items) }
     ensures memory { IfErr result (λ e. e ≡ RowsError.Flow FlowError.Memory) }
 {
-    match join(alloc, before, found) {
-        Ok(rows) => Ok(rows),
-        Err(Memory) => Err(RowsError::Flow(FlowError::Memory)),
-    }
+    Ok(join(alloc, before, found)?)
 }
 
 fn lessened(
@@ -500,10 +489,7 @@ fn lessened(
     ensures given { IfOk result (λ rows. rows.items ≡ minus_of before.items found.items) }
     ensures memory { IfErr result (λ e. e ≡ RowsError.Flow FlowError.Memory) }
 {
-    match minus_with(alloc, before, found) {
-        Ok(rows) => Ok(rows),
-        Err(Memory) => Err(RowsError::Flow(FlowError::Memory)),
-    }
+    Ok(minus_with(alloc, before, found)?)
 }
 
 fn extended(
@@ -515,10 +501,7 @@ fn extended(
     ensures given { IfOk result (λ rows. rows.items ≡ extend_of before.now name.now expr.now) }
     ensures memory { IfErr result (λ e. e ≡ RowsError.Flow FlowError.Memory) }
 {
-    match extend(alloc, before, name, expr) {
-        Ok(rows) => Ok(rows),
-        Err(Memory) => Err(RowsError::Flow(FlowError::Memory)),
-    }
+    Ok(extend(alloc, before, name, expr)?)
 }
 
 fn with_inline(
@@ -529,10 +512,7 @@ fn with_inline(
     ensures given { IfOk result (λ rows. IsPermutation (join_of before.now (inline_rows_of inline.now)) rows.items) }
     ensures memory { IfErr result (λ e. e ≡ RowsError.Flow FlowError.Memory) }
 {
-    match inline_rows(alloc, inline) {
-        Ok(found) => joined(alloc, before, found),
-        Err(Memory) => Err(RowsError::Flow(FlowError::Memory)),
-    }
+    joined(alloc, before, inline_rows(alloc, inline)?)
 }
 
 // The left join, with the filters of a group as its conditions.
@@ -545,13 +525,8 @@ fn left_joined(
     ensures given { IfOk result (λ rows. IsPermutation (left_join_of before.items found.items (group_of group.now).filters) rows.items) }
     ensures memory { IfErr result (λ e. e ≡ RowsError.Flow FlowError.Memory) }
 {
-    let Ok(filters) = filters_of(alloc, group) else {
-        return Err(RowsError::Flow(FlowError::Memory));
-    };
-    match left_join_with(alloc, before, found, filters.as_slice()) {
-        Ok(rows) => Ok(rows),
-        Err(Memory) => Err(RowsError::Flow(FlowError::Memory)),
-    }
+    let filters = filters_of(alloc, group)?;
+    Ok(left_join_with(alloc, before, found, filters.as_slice())?)
 }
 
 // The left join with the one empty solution, for an OPTIONAL that has filters alone.
@@ -563,10 +538,7 @@ fn filters_alone(
     ensures given { IfOk result (λ rows. IsPermutation (left_join_of before.items ([] ∷ []) (group_of group.now).filters) rows.items) }
     ensures memory { IfErr result (λ e. e ≡ RowsError.Flow FlowError.Memory) }
 {
-    match one_row(alloc) {
-        Ok(one) => left_joined(alloc, before, one, group),
-        Err(Memory) => Err(RowsError::Flow(FlowError::Memory)),
-    }
+    left_joined(alloc, before, one_row(alloc)?, group)
 }
 
 // The rows before an OPTIONAL with what its run has for each of them, or by themselves.
@@ -579,11 +551,6 @@ fn with_optional(
     ensures given { IfOk result (λ rows. rows.items ≡ optional_rows (group_of group.now).filters 0 before.items found.items) }
     ensures memory { IfErr result (λ e. e ≡ RowsError.Flow FlowError.Memory) }
 {
-    let Ok(filters) = filters_of(alloc, group) else {
-        return Err(RowsError::Flow(FlowError::Memory));
-    };
-    match or_themselves(alloc, before, found, filters.as_slice()) {
-        Ok(rows) => Ok(rows),
-        Err(Memory) => Err(RowsError::Flow(FlowError::Memory)),
-    }
+    let filters = filters_of(alloc, group)?;
+    Ok(or_themselves(alloc, before, found, filters.as_slice())?)
 }

@@ -33,6 +33,18 @@ pub(crate) enum RowsError {
     Refused,
 }
 
+impl From<Memory> for RowsError {
+    ghost use Rattle.std.specs.Prelude.{◌≡◌};
+    ghost use Rattle.fx_pool.specs.declared.flows.FlowError.TheVariants as flow;
+    ghost use Rattle.fx_engine.specs.declared.tasks.RowsError.TheVariants.{Flow};
+
+    ghost from_gives = { λ _ e. e ≡ Flow flow.Memory };
+
+    fn from(_error: Memory) -> RowsError {
+        RowsError::Flow(FlowError::Memory)
+    }
+}
+
 /// The tasks of a plan, in text order, with the rows of its occurrences of SERVICE in text order. Where there are fewer of these, the others were
 /// refused.
 pub(crate) fn tasks_of(

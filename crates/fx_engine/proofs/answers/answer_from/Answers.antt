@@ -4,9 +4,9 @@ use Rattle.fx_algebra.specs.Solutions.{Bindings, rises}
 use Rattle.fx_engine.proofs.AnsweredLemmas.{from_rows}
 use Rattle.fx_engine.proofs.answers.answer_from.Goals as goal
 
-pub returns-in-Ok-answer_of_rows-clause-given : goal.returns-in-Ok-answer_of_rows-clause-given
-returns-in-Ok-answer_of_rows-clause-given c =
+pub returns-clause-given : goal.returns-clause-given
+returns-clause-given c =
     let q = c.args.query.now in
-    from_rows q c.args.rows.items c.in-Ok.all.items c.in-Ok-answer_of_rows.answer c.in-Ok.ensures
+    from_rows q c.args.rows.items c.in_ok-all.all.items _ c.in_ok-all.ensures
     (subst (λ (rows : List Bindings). All (λ s. IsTrue (rises s)) rows) c.as_slice.ensures.value c.known_to_rise.ensures)
-    (c.in-Ok-answer_of_rows.ensures ∙ ap (form_answer q q.form) c.as_slice-2.ensures.value)
+    (c.in_ok-answer_of_rows.ensures ∙ ap (form_answer q q.form) c.as_slice-2.ensures.value)

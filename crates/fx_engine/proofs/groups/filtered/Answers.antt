@@ -4,6 +4,6 @@ use Rattle.fx_algebra.specs.declared.expressions.Expr.{Expr}
 use Rattle.fx_engine.proofs.ElementLemmas.{own_filters}
 use Rattle.fx_engine.proofs.groups.filtered.Goals as goal
 
-pub returns-in-Ok-filter-clause-given : goal.returns-in-Ok-filter-clause-given
-returns-in-Ok-filter-clause-given c =
-    c.in-Ok-filter.ensures ∙ ap (λ (es : List Expr). filtered_of es c.args.rows.items) (c.as_slice.ensures.value ∙ c.in-Ok.ensures ∙ own_filters c.args.group.now)
+pub returns-clause-given : goal.returns-clause-given
+returns-clause-given c =
+    c.in_ok-filter.ensures ∙ ap (λ (es : List Expr). filtered_of es c.args.rows.items) (c.as_slice.ensures.value ∙ c.in_ok-filters.ensures ∙ own_filters c.args.group.now)
