@@ -29,7 +29,7 @@ use Rattle.fx_traffic.proofs.SentLemmas.{sent_laws}
 use Rattle.fx_wire.specs.Exchanges.{Exchange, Seen}
 use Rattle.fx_engine.specs.Asks.{AskedAll, IsAskRead}
 use Rattle.fx_engine.specs.Calls.{AgreesWith, AreCalls, Call, IsPassed, Occurrence, down_in, failures_at, occurrences}
-use Rattle.fx_engine.specs.Mediation.{AreKnown, Federated, HasFedCause, HasPlanCause, HoldsBehind, IsNamed, IsRead, IsUnitOf, KnowsServices, Serve}
+use Rattle.fx_engine.specs.Mediation.{AreKnown, Federated, HasFedCause, HasPlanCause, HoldsBehind, IsNamed, IsRead, IsUnitBefore, IsUnitOf, KnowsServices, Serve}
 use Rattle.fx_engine.specs.Noted.{places}
 use Rattle.fx_engine.specs.GroupsAsked.{CanBeAsked, units_in}
 use Rattle.fx_engine.specs.Order.{AreAnswered, AreGiven}
@@ -98,7 +98,7 @@ module _ (es : List EndpointParts) (graphs : List (List Triple)) (block : ℕ) (
 -- ---- nothing was asked
 
 -- where a SERVICE is unknown, or memory lacks
-pub federated_unasked : (tells alone : Bool) (wires : List Seen) (es : List EndpointParts) (q : Query) (old : List Entry) (block : ℕ) (e : FedError) → KnowsServices {X = Outcome} es q (Err e) → HasFedCause wires wires es q old [] [] [] block e
+pub federated_unasked : (tells alone : Bool) (wires : List Seen) (es : List EndpointParts) (q : Query) (old : List Entry) (block : ℕ) (e : FedError) → KnowsServices {X = Outcome} es q (Err e) → HasFedCause wires wires es q old [] [] [] [] block e
     → Federated tells alone wires wires es q old old block (Err e)
 federated_unasked tells alone wires es q old block e known cause = record {
   exchanges = [];
@@ -118,7 +118,7 @@ federated_unasked tells alone wires es q old block e known cause = record {
   asks = [];
   asked = none_asked es q old;
   texts = [];
-  of_batches = All-nil (IsBatchText es block (IsUnitOf q));
+  of_batches = All-nil (IsBatchText es block (IsUnitBefore q []));
   of_runs = λ graphs known services serve down agrees. no_run_sent es graphs block (stations q) (seeds q (union graphs) services down) (seeds_for_each q (union graphs) services down);
   left = [];
   sent = IsPermutation-refl [];
@@ -137,17 +137,17 @@ federated_unasked tells alone wires es q old block e known cause = record {
 -- ---- by what was asked first
 
 -- with the cause of a plan there is one of an answer
-fed_cause : (s t : List Seen) (es : List EndpointParts) (q : Query) (old : List Entry) (block : ℕ) (calls : List Call) (xs : List Exchange) (texts : List Sent) (e : FedError) → HasPlanCause s t es q old xs e → HasFedCause s t es q old calls texts xs block e
-fed_cause s t es q old block calls xs texts (fed.Member name) k = k
-fed_cause s t es q old block calls xs texts (fed.Service iri) k = absurd k
-fed_cause s t es q old block calls xs texts (fed.BadReply name bad) k = (k.0, k.1, k.2, inl k.3)
-fed_cause s t es q old block calls xs texts (fed.RequestTooLong name size) k = (k.0, k.1, k.2, inl k.3)
-fed_cause s t es q old block calls xs texts (fed.UnknownService iri) k = k
-fed_cause s t es q old block calls xs texts fed.Memory k = tt
+fed_cause : (s t : List Seen) (es : List EndpointParts) (q : Query) (old : List Entry) (block : ℕ) (calls plain : List Call) (xs : List Exchange) (texts : List Sent) (e : FedError) → HasPlanCause s t es q old xs e → HasFedCause s t es q old calls plain texts xs block e
+fed_cause s t es q old block calls plain xs texts (fed.Member name) k = k
+fed_cause s t es q old block calls plain xs texts (fed.Service iri) k = absurd k
+fed_cause s t es q old block calls plain xs texts (fed.BadReply name bad) k = (k.0, k.1, k.2, inl k.3)
+fed_cause s t es q old block calls plain xs texts (fed.RequestTooLong name size) k = (k.0, k.1, k.2, inl k.3)
+fed_cause s t es q old block calls plain xs texts (fed.UnknownService iri) k = k
+fed_cause s t es q old block calls plain xs texts fed.Memory k = tt
 
 -- and so there is with that of an occurrence
 pub refusal_cause : (s t u : List Seen) → AreAfter s t → (es : List EndpointParts) (q : Query) (old : List Entry) (block : ℕ) (calls : List Call) (xs : List Exchange) (texts : List Sent) (e : FedError) → HasRefusal t u es calls e
-    → HasFedCause s u es q old calls texts xs block e
+    → HasFedCause s u es q old calls calls texts xs block e
 refusal_cause s t u after es q old block calls xs texts (fed.Member name) k = absurd k
 refusal_cause s t u after es q old block calls xs texts (fed.Service iri) k =
     let low : faults_at s iri ≤ faults_at t iri = gain_laws.never_fall s t iri after in
@@ -188,7 +188,7 @@ module _ (tells alone : Bool) (s t : List Seen) (es : List EndpointParts) (q : Q
         asks = h.wanted;
         asked = asked;
         texts = [];
-        of_batches = All-nil (IsBatchText es block (IsUnitOf q));
+        of_batches = All-nil (IsBatchText es block (IsUnitBefore q []));
         of_runs = λ graphs known services serve down agrees. no_run_sent es graphs block (stations q) (seeds q (union graphs) services down) (seeds_for_each q (union graphs) services down);
         left = h.left;
         sent = sent;
@@ -198,9 +198,9 @@ module _ (tells alone : Bool) (s t : List Seen) (es : List EndpointParts) (q : Q
             (subst (λ (v : List Exchange). IsPermutation v h.exchanges) (sym own) (IsPermutation-refl h.exchanges));
         answer = tt;
         known = known_named Outcome es q why e n known;
-        cause = fed_cause s t es q old block [] h.exchanges [] e (plan_cause es q old s t h.exchanges why e h.cause n);
+        cause = fed_cause s t es q old block [] [] h.exchanges [] e (plan_cause es q old s t h.exchanges why e h.cause n);
         asks_first = inl (refl, refl);
-        in_turn = inl (fed_cause s t es q old block [] h.exchanges [] e (plan_cause es q old s t h.exchanges why e h.cause n));
+        in_turn = inl (fed_cause s t es q old block [] [] h.exchanges [] e (plan_cause es q old s t h.exchanges why e h.cause n));
         held = stays Outcome es q old h.exchanges e;
         stays_true = λ graphs is. is.entries_are;
       }
@@ -252,9 +252,9 @@ module _ (tells alone : Bool) (s t : List Seen) (es : List EndpointParts) (q : Q
 
     pub federated : (o : Result Outcome FedError) (new : List Entry) → IfOk o (λ _. map (λ c. c.of) k.calls ≡ occurrences q) → IfOk o (λ _. All IsPassed k.calls) → IfOk o (λ outcome. outcome.down ≡ down_in k.calls)
         → (IsTrue alone → IfOk o (λ _. (address : List ℕ) → faults_at u address ≡ faults_at t address + failures_at address k.calls)) → Answered o
-        → ((all : List Exchange) → Among k.exchanges all → IfErr o (HasFedCause s u es q old k.calls k.texts all block)) → ((all : List Exchange) → Among h.exchanges all → HoldsBehind es q old new all o)
-        → ((all : List Exchange) → Among k.exchanges all → IfErr o (λ e. HasFedCause s u es q old [] k.texts all block e ⊎ AreGiven alone s u k.calls (IsRead es q old) (h.exchanges ++ k.of_runs)))
-        → All (IsBatchText es block (IsUnitOf q)) k.texts → IfOk o (λ _. All (IsBatchRead (IsUnitOf q)) k.of_runs) → KnowsServices es q o → StaysTrue new → Federated tells alone s u es q old new block o
+        → ((all : List Exchange) → Among k.exchanges all → IfErr o (HasFedCause s u es q old k.calls k.calls k.texts all block)) → ((all : List Exchange) → Among h.exchanges all → HoldsBehind es q old new all o)
+        → ((all : List Exchange) → Among k.exchanges all → IfErr o (λ e. HasFedCause s u es q old k.calls [] k.texts all block e ⊎ AreGiven alone s u k.calls (IsRead es q old) (h.exchanges ++ k.of_runs)))
+        → All (IsBatchText es block (IsUnitBefore q k.calls)) k.texts → IfOk o (λ _. All (IsBatchRead (IsUnitOf q)) k.of_runs) → KnowsServices es q o → StaysTrue new → Federated tells alone s u es q old new block o
     federated o new all_called passed down exact answer cause held in_turn of_batches read knows still =
         let both = gained_both tells s t u h.exchanges k.exchanges h.gained k.gained in
         let asked : AreAsked es q old h.wanted = record { probes = h.asked; unasked = h.unasked; lacked = h.split; texts = h.texts } in
@@ -312,11 +312,11 @@ module _ (tells alone : Bool) (s t : List Seen) (es : List EndpointParts) (q : Q
       tasks_are : tasks ≡ tasks_with (parts_by (sections q) (chosen q (length es) entries)) k.found
       tasks_are = ap (λ (v : List Part). tasks_with v k.found) are
 
-      its_texts : All (IsBatchText es block (IsUnitOf q)) k.texts
-      its_texts = texts_of_query es q (length es) entries k.found tasks tasks_are (can k.found) block k.texts k.of_batches
+      its_texts : All (IsBatchText es block (IsUnitBefore q k.calls)) k.texts
+      its_texts = texts_of_query es q (length es) entries k.found tasks tasks_are (can k.found) k.calls k.behind block k.texts k.of_batches
 
-      cause_so : (e : FedError) → HasOutcomeCause t u es parts k.found block k.calls k.texts k.exchanges e → (all : List Exchange) → Among k.exchanges all → HasFedCause s u es q old k.calls k.texts all block e
-      cause_so e (inl c) all among = batch_cause_behind es q old (length es) entries k.found tasks tasks_are (can k.found) block s t u h.after_all k.exchanges all among k.calls k.texts c.0 e c.1 c.2
+      cause_so : (e : FedError) → HasOutcomeCause t u es parts k.found block k.calls k.texts k.exchanges e → (all : List Exchange) → Among k.exchanges all → HasFedCause s u es q old k.calls k.calls k.texts all block e
+      cause_so e (inl c) all among = batch_cause_behind es q old (length es) entries k.found tasks tasks_are (can k.found) block s t u h.after_all k.exchanges all among k.calls k.calls k.behind k.texts c.0 e c.1 c.2
       cause_so e (inr c) all among = refusal_cause s t u h.after_all es q old block k.calls all k.texts e c
 
       refusal_known : (e : FedError) → HasRefusal t u es k.calls e → KnowsServices {X = Outcome} es q (Err e)
@@ -329,8 +329,8 @@ module _ (tells alone : Bool) (s t : List Seen) (es : List EndpointParts) (q : Q
 
       -- a refusal is of a batch, or all batches were given
       in_turn_so : (e : FedError) → HasBatchRefusal t u es parts k.found block k.texts k.exchanges e ⊎ AreGiven alone t u k.calls (IsBatchRead (Contains (units_in tasks))) k.of_runs → (all : List Exchange) → Among k.exchanges all
-          → HasFedCause s u es q old [] k.texts all block e ⊎ AreGiven alone s u k.calls (IsRead es q old) (h.exchanges ++ k.of_runs)
-      in_turn_so e (inl c) all among = inl (batch_cause_behind es q old (length es) entries k.found tasks tasks_are (can k.found) block s t u h.after_all k.exchanges all among [] k.texts c.0 e c.1 c.2)
+          → HasFedCause s u es q old k.calls [] k.texts all block e ⊎ AreGiven alone s u k.calls (IsRead es q old) (h.exchanges ++ k.of_runs)
+      in_turn_so e (inl c) all among = inl (batch_cause_behind es q old (length es) entries k.found tasks tasks_are (can k.found) block s t u h.after_all k.exchanges all among k.calls [] k.behind k.texts c.0 e c.1 c.2)
       in_turn_so e (inr g) all among = inr (record { read = each_read (read_of_query es q (length es) entries k.found tasks tasks_are (can k.found) k.of_runs g.read); exact = λ is. counted_so (g.exact is) is })
 
       knows_so : (e : FedError) → HasOutcomeCause t u es parts k.found block k.calls k.texts k.exchanges e → KnowsServices {X = Outcome} es q (Err e)

@@ -30,6 +30,7 @@ pub mod RunsSentLemmas
 pub mod PlaceLemmas
 pub mod ElementLemmas
 pub mod RunAskedLemmas
+pub mod FrontLemmas
 pub mod WalkLemmas
 pub mod RunRowsLemmas
 pub mod EndLemmas

@@ -1,5 +1,5 @@
 -- A query's occurrences of SERVICE were invoked, and then its runs were asked for: its outcome, or the cause of a refusal.
-use Rattle.std.proofs.Common.{◌≡◌, ◌∙◌, ap, sym, subst, refl, ℕ, zero, suc, ◌+◌, ◌≤◌, Bool, List, [], ◌∷◌, ◌++◌, map, length, ◌⊎◌, Some, All, Contains, IfErr, IfOk, IsTrue, Result, Ok, Err, append-nil, append_assoc, arith, slice_get}
+use Rattle.std.proofs.Common.{◌≡◌, ◌∙◌, ap, sym, subst, refl, ℕ, zero, suc, ◌+◌, ◌≤◌, zero-le, Bool, true, false, List, [], ◌∷◌, ◌++◌, map, length, ◌⊎◌, Some, All, Contains, IfErr, IfOk, IsTrue, Result, Ok, Err, append-nil, append_assoc, arith, slice_get}
 use Rattle.std.specs.List.{AllByRecursion}
 use Rattle.std.proofs.lemmas.List.{length-map, map-append}
 use Rattle.std.proofs.lemmas.List.Elements.{All-from_recursion, Contains-append_right, recursion_from_All}
@@ -24,7 +24,7 @@ use Rattle.fx_traffic.proofs.NumberLemmas.{stations_have_the_numbers}
 use Rattle.fx_wire.specs.Exchanges.{Exchange, Seen}
 use Rattle.fx_engine.specs.AnswersAsked.{AnswerDue, AnswerGiven}
 use Rattle.fx_engine.specs.Asked.{Asked, Knows}
-use Rattle.fx_engine.specs.Calls.{AgreesWith, AreCalls, AreFirst, Call, Came, IsCertain, IsPassed, Occurrence, Passes, down_in, failed, failures_at, lost, occurrences, rows_of, told}
+use Rattle.fx_engine.specs.Calls.{AgreesWith, AreCalls, AreFirst, Call, Came, IsCertain, IsPassed, IsRefused, Occurrence, Passes, down_in, failed, failures_at, lost, occurrences, rows_of, told}
 use Rattle.fx_engine.specs.GroupsAsked.{HasRows, Served, all_planned, units_in}
 use Rattle.fx_engine.specs.Invocations.{Calling}
 use Rattle.fx_engine.specs.Mediation.{Serve}
@@ -34,6 +34,7 @@ use Rattle.fx_engine.specs.Outcomes.{HasBatchRefusal, HasOutcomeCause, Outcomed}
 use Rattle.fx_engine.specs.RunsSent.{AreRunsSent}
 use Rattle.fx_engine.specs.Sections.{part_with, parts_with, section_of}
 use Rattle.fx_engine.specs.Tasks.{tasks_with}
+use Rattle.fx_engine.specs.declared.mediator.DownCause.{DownCause}
 use Rattle.fx_engine.specs.declared.mediator.FedError.{FedError}
 use Rattle.fx_engine.specs.declared.mediator.Outcome.{Outcome}
 use Rattle.fx_engine.specs.declared.tasks.RowsError.{RowsError}
@@ -53,6 +54,18 @@ passed_at : (calls : List Call) → AllByRecursion IsPassed calls → (i : ℕ) 
 passed_at [] h i c is = absurd (cc)
 passed_at (d ∷ calls) h zero c is = let same : d ≡ c = cc in subst IsPassed same h.0
 passed_at (d ∷ calls) h (suc i) c is = passed_at calls h.1 i c is
+
+not_both : (silent : Bool) (came : Came) → Passes silent came → silent ≡ false → (why : DownCause) → came ≡ failed why → ⊥
+not_both silent came passes plain why is = let both : false ≡ true = sym plain ∙ subst (Passes silent) is passes in absurd (cc)
+
+-- what was refused isn't among those that passed
+behind_passed : (front rest : List Call) → AllByRecursion IsPassed front → (k : ℕ) (c : Call) → slice_get (front ++ rest) k ≡ Some c → IsRefused c → length front ≤ k
+behind_passed [] rest h k c there refused = zero-le
+behind_passed (d ∷ front) rest h zero c there refused =
+    let same : d ≡ c = cc in
+    let passes : IsPassed c = subst IsPassed same h.0 in
+    absurd (not_both c.of.silent c.came passes refused.0 refused.1.0 refused.1.1)
+behind_passed (d ∷ front) rest h (suc k) c there refused = omega (arith, behind_passed front rest h.1 k c there refused)
 
 passes_certain : (silent : Bool) (came : Came) → Passes silent came → IsCertain came
 passes_certain silent (told rows) h = tt
@@ -145,6 +158,13 @@ module _ (tells alone : Bool) (s t u : List Seen) (a : AllTell tells s) (b : All
     unfaulted (Ok outcome) none all is = λ address. none_but_theirs none (each_certain calls (recursion_from_All IsPassed calls all)) is address
     unfaulted (Err e) none all is = tt
 
+    -- one that was refused stands behind those that passed, which have rows
+    behind_rows : (k : ℕ) (d : Call) → slice_get calls k ≡ Some d → IsRefused d → length found ≤ k
+    behind_rows k d there refused =
+        let many : length found ≡ length front = ap length rows_are ∙ length-map front rows_of in
+        let behind : length front ≤ k = behind_passed front rest (recursion_from_All IsPassed front passed) k d there refused in
+        omega (arith, many, behind)
+
     abbrev Among : List Exchange → List Exchange → Type 0
     Among xs all = (x : Exchange) → Contains xs x → Contains all x
 
@@ -163,6 +183,7 @@ module _ (tells alone : Bool) (s t u : List Seen) (a : AllTell tells s) (b : All
           after_all = all_after tells s t u a b c.after_all k.went.after_all;
           calls = calls;
           first = first;
+          behind = behind_rows;
           all_called = all_called;
           passed = all_passed;
           down = down;

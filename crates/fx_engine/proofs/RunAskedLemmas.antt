@@ -32,12 +32,13 @@ use Rattle.fx_engine.specs.GroupsAsked.{ComesOf, IsRunFound, RunDue, RunGiven, r
 use Rattle.fx_engine.specs.Laws.{HasFitUnits, HasSoundUnits}
 use Rattle.fx_engine.specs.RunsSent.{IsSentForRun}
 use Rattle.fx_engine.specs.Sections.{part_with}
+use Rattle.fx_engine.specs.Tasks.{front_of}
 use Rattle.fx_engine.specs.declared.sections.Section.TheVariants.{Run}
 use Rattle.fx_engine.specs.declared.tasks.RowsError.TheVariants as rows_error
 use Rattle.fx_engine.specs.declared.tasks.Task.{Task}
 use Rattle.fx_engine.specs.declared.tasks.Task.TheVariants as task
-use Rattle.fx_engine.proofs.AskedLemmas.{given_unasked, read_of_more}
-use Rattle.fx_engine.proofs.StationLemmas.{sent_alone}
+use Rattle.fx_engine.proofs.AskedLemmas.{given_unasked, read_of_more, refused_unasked}
+use Rattle.fx_engine.proofs.StationLemmas.{no_run_sent, sent_alone}
 use Rattle.fx_engine.proofs.UnitLemmas.{sound_part}
 
 -- ---- what a run with a task is
@@ -106,6 +107,12 @@ module _ (tells alone : Bool) (before after : List Seen) (endpoints : List Endpo
       let none : [] ≡ run_task graphs ps filters known ∷ rest = sym (drop_of_length-le tasks over) ∙ next_is in
       absurd (cc))
 
+  -- an occurrence of SERVICE before it was refused
+  pub run_behind : Contains tasks task.Refused → Asked {X = List Row} tells alone before before endpoints tasks block (RunGiven endpoints block tasks next next rows) (RunDue endpoints block tasks next rows) (Err rows_error.Refused)
+  run_behind refused =
+      refused_unasked tells alone endpoints tasks block (RunGiven endpoints block tasks next next rows) (RunDue endpoints block tasks next rows) before rows_error.Refused refused
+      (λ graphs ps filters known gone defined rest moved next_is. no_run_sent endpoints graphs block (station.run ps filters known ∷ []) (defined ∷ []) refl)
+
   module _ (it : Task) (next_is : drop next tasks ≡ it ∷ drop (next + 1) tasks) where
     -- a pattern lacks a source
     pub no_run : it ≡ task.EmptyRun → Asked {X = List Row} tells alone before before endpoints tasks block (RunGiven endpoints block tasks next (next + 1) rows) (RunDue endpoints block tasks next rows) (Ok [])
@@ -139,7 +146,7 @@ module _ (tells alone : Bool) (before after : List Seen) (endpoints : List Endpo
     pub refused_unrun : it ≡ task.Refused → Asked {X = List Row} tells alone before before endpoints tasks block (RunGiven endpoints block tasks next (next + 1) rows) (RunDue endpoints block tasks next rows) (Ok [])
     refused_unrun refused = unrun (λ graphs ps filters known is. none_refused graphs ps filters known (is ∙ refused))
 
-    module _ (units : List unit.Unit) (is_run : it ≡ task.Run units) (fit : All IsFit units) (its : Contains tasks it) where
+    module _ (units : List unit.Unit) (is_run : it ≡ task.Run units) (fit : All IsFit units) (its : Contains (front_of tasks) it) where
       sound : (graphs : List (List Triple)) (ps : List Pattern) (filters : List Expr) (known : List (List ℕ)) → run_task graphs ps filters known ≡ it → All (IsSound graphs) units
       sound graphs ps filters known is =
           let whole = part_is graphs ps filters known units (is_plan graphs ps filters known units (is ∙ is_run)) in
@@ -166,7 +173,7 @@ module _ (tells alone : Bool) (before after : List Seen) (endpoints : List Endpo
           (subst (λ (v : List unit.Unit). IsPermutation found (stepped (union graphs) v (numbered 0 rows))) whole.units_are h)
 
       of_plan : (u : unit.Unit) → Contains units u → Contains (units_in tasks) u
-      of_plan u m = contains_from (units_in tasks) u (among_flat_map task_units it u tasks (among_from tasks it its) (among_from (task_units it) u (subst (λ (t : Task). Contains (task_units t) u) (sym is_run) m)))
+      of_plan u m = contains_from (units_in tasks) u (among_flat_map task_units it u (front_of tasks) (among_from (front_of tasks) it its) (among_from (task_units it) u (subst (λ (t : Task). Contains (task_units t) u) (sym is_run) m)))
 
       its_cause : (wanted : List Sent) (xs : List Exchange) (why : FlowError) → IsFlowCause before after endpoints units block wanted xs why → IsFlowCause before after endpoints (units_in tasks) block wanted xs why
       its_cause wanted xs why k = record {

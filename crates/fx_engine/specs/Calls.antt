@@ -59,6 +59,10 @@ Passes silent lost = ⊥
 abbrev pub IsPassed : Call → Type 0
 IsPassed c = Passes c.of.silent c.came
 
+-- it was refused: it isn't silent, and there is a reason why it has no rows
+abbrev pub IsRefused : Call → Type 0
+IsRefused c = (c.of.silent ≡ false) × ((why : DownCause) × (c.came ≡ failed why))
+
 -- the rows of an occurrence behind which the query goes on: the one empty solution where there is a reason why there are none
 abbrev pub came_rows : Came → List Bindings
 came_rows (told rows) = rows

@@ -29,6 +29,7 @@ use Rattle.fx_steps.specs.Steps.{numbered, stepped}
 use Rattle.fx_traffic.specs.Sent.{Sent}
 use Rattle.fx_engine.specs.RunsSent.{AreRunsSent}
 use Rattle.fx_engine.specs.SectionSteps.{part_of, part_patterns}
+use Rattle.fx_engine.specs.Tasks.{front_of}
 use Rattle.fx_engine.specs.declared.tasks.RowsError.{RowsError}
 use Rattle.fx_engine.specs.declared.tasks.RowsError.TheVariants as rows_error
 use Rattle.fx_engine.specs.declared.tasks.Task.{Task}
@@ -80,9 +81,9 @@ task_units task.EmptyRun = []
 task_units (task.Service rows) = []
 task_units task.Refused = []
 
--- the units of tasks
+-- the units of tasks that may be asked for: nothing is behind an occurrence of SERVICE that was refused
 abbrev pub units_in : List Task → List unit.Unit
-units_in tasks = flat_map task_units tasks
+units_in tasks = flat_map task_units (front_of tasks)
 
 -- units that can be asked for: there is one, they are fit, and their members are endpoints
 pub record CanAsk (count : ℕ) (units : List unit.Unit) : Type 0 where

@@ -30,9 +30,9 @@ use Rattle.fx_traffic.specs.Sent.{Sent, Sends}
 use Rattle.fx_traffic.specs.Traffic.{AreAsked, IsTraffic}
 use Rattle.fx_wire.specs.Exchanges.{Exchange, Seen}
 use Rattle.fx_engine.specs.Asks.{IsAnsweredBy, IsAskRead, IsBadAsk, IsLongAsk}
-use Rattle.fx_engine.specs.Calls.{AgreesWith, AreCalls, AreFirst, Call, IsPassed, down_in, failed, failures_at, occurrences}
+use Rattle.fx_engine.specs.Calls.{AgreesWith, AreCalls, AreFirst, Call, IsPassed, IsRefused, down_in, failed, failures_at, occurrences}
 use Rattle.fx_engine.specs.Noted.{places}
-use Rattle.fx_engine.specs.Order.{AreGiven, AsksComeFirst}
+use Rattle.fx_engine.specs.Order.{AreGiven, AsksComeFirst, patterns_before}
 use Rattle.fx_engine.specs.RunsSent.{AreRunsSent}
 use Rattle.fx_engine.specs.Sections.{parts_by, parts_with, sections}
 use Rattle.fx_engine.specs.Unknown.{unknown_of}
@@ -58,19 +58,24 @@ pub record IsUnitOf (q : Query) (u : unit.Unit) : Type 0 where
   pub fit : IsFit u
   pub of_query : All (Contains (patterns q)) u.patterns
 
--- a batch that an endpoint is asked for, of such a unit, of no more rows than so many
-pub record IsBatchFor (endpoints : List EndpointParts) (q : Query) (block : ℕ) (e : EndpointParts) (u : unit.Unit) (batch : List Row) : Type 0 where
+-- one of the patterns that stand before each occurrence of SERVICE that was refused
+pub record IsUnitBefore (q : Query) (calls : List Call) (u : unit.Unit) : Type 0 where
   pub of_query : IsUnitOf q u
+  pub before : (k : ℕ) (c : Call) → slice_get calls k ≡ Some c → IsRefused c → All (Contains (patterns_before k (stations q))) u.patterns
+
+-- a batch that an endpoint is asked for, of such a unit, of no more rows than so many
+pub record IsBatchFor (endpoints : List EndpointParts) (q : Query) (calls : List Call) (block : ℕ) (e : EndpointParts) (u : unit.Unit) (batch : List Row) : Type 0 where
+  pub of_query : IsUnitBefore q calls u
   pub sized : IsSized block batch
   pub at : ℕ
   pub member : Contains u.members at
   pub found : slice_get endpoints at ≡ Some e
 
 -- one of the exchanges has a bad reply to a batch
-pub record HasBadBatch (before : List Seen) (endpoints : List EndpointParts) (q : Query) (block : ℕ) (e : EndpointParts) (xs : List Exchange) (bad : BadReply) : Type 0 where
+pub record HasBadBatch (before : List Seen) (endpoints : List EndpointParts) (q : Query) (calls : List Call) (block : ℕ) (e : EndpointParts) (xs : List Exchange) (bad : BadReply) : Type 0 where
   pub unit : unit.Unit
   pub batch : List Row
-  pub asked : IsBatchFor endpoints q block e unit batch
+  pub asked : IsBatchFor endpoints q calls block e unit batch
   pub is_bad : IsBadBatch (Tell before e.iri) e (record { unit = unit; rows = batch }) xs bad
 
 -- to an ASK
@@ -78,10 +83,10 @@ abbrev pub HasBadAsk : List Seen → List EndpointParts → Query → List Entry
 HasBadAsk before endpoints q entries e xs bad = (p : Probe) × IsMissing endpoints q entries e p × IsBadAsk (Tell before e.iri) e p xs bad
 
 -- the text of a batch, which is among those that are wanted of the query, is too long
-pub record HasLongBatch (endpoints : List EndpointParts) (q : Query) (block : ℕ) (e : EndpointParts) (texts : List Sent) (size : ℕ) : Type 0 where
+pub record HasLongBatch (endpoints : List EndpointParts) (q : Query) (calls : List Call) (block : ℕ) (e : EndpointParts) (texts : List Sent) (size : ℕ) : Type 0 where
   pub unit : unit.Unit
   pub batch : List Row
-  pub asked : IsBatchFor endpoints q block e unit batch
+  pub asked : IsBatchFor endpoints q calls block e unit batch
   pub allowed : (x : Sent) → Contains (unit_sent endpoints unit batch) x → Contains texts x
   pub is_long : IsLongBatch (record { unit = unit; rows = batch }) size
 
@@ -106,18 +111,18 @@ HasPlanCause before after endpoints q entries xs fed.Memory = Unit {0}
 abbrev pub HasPlain : List Call → DownCause → (List ℕ → Type 0) → Type 0
 HasPlain calls why P = (c : Call) × Contains calls c × (c.of.silent ≡ false) × (c.came ≡ failed why) × P c.of.iri
 
--- Why there is no answer: such a cause; or so it is of a batch of no more rows than so many; or an occurrence without SILENT has no rows for that reason, at the
--- endpoint that has its IRI as its address.
-abbrev pub HasFedCause : List Seen → List Seen → List EndpointParts → Query → List Entry → List Call → List Sent → List Exchange → ℕ → FedError → Type 0
-HasFedCause before after endpoints q entries calls texts xs block (fed.Member name) = (0 < length (patterns q)) × AtNamed endpoints name (λ e. faults_at before e.iri < faults_at after e.iri)
-HasFedCause before after endpoints q entries calls texts xs block (fed.Service iri) =
-    HasPlain calls cause.Failed (λ i. i ≡ iri) × ((e : EndpointParts) × Contains endpoints e × (e.iri ≡ iri)) × (faults_at before iri < faults_at after iri)
-HasFedCause before after endpoints q entries calls texts xs block (fed.BadReply name bad) =
-    AtNamed endpoints name (λ e. HasBadAsk before endpoints q entries e xs bad ⊎ (HasBadBatch before endpoints q block e xs bad ⊎ HasPlain calls (cause.Bad bad) (λ i. i ≡ e.iri)))
-HasFedCause before after endpoints q entries calls texts xs block (fed.RequestTooLong name size) =
-    AtNamed endpoints name (λ e. HasLongAsk endpoints q entries e size ⊎ (HasLongBatch endpoints q block e texts size ⊎ HasPlain calls (cause.TooLong size) (λ i. i ≡ e.iri)))
-HasFedCause before after endpoints q entries calls texts xs block (fed.UnknownService iri) = (after ≡ before) × (xs ≡ [])
-HasFedCause before after endpoints q entries calls texts xs block fed.Memory = Unit {0}
+-- Why there is no answer: such a cause; or so it is of a batch of no more rows than so many, of a run before each occurrence of SERVICE that was refused; or one of these
+-- occurrences without SILENT has no rows for that reason, at the endpoint that has its IRI as its address.
+abbrev pub HasFedCause : List Seen → List Seen → List EndpointParts → Query → List Entry → List Call → List Call → List Sent → List Exchange → ℕ → FedError → Type 0
+HasFedCause before after endpoints q entries calls plain texts xs block (fed.Member name) = (0 < length (patterns q)) × AtNamed endpoints name (λ e. faults_at before e.iri < faults_at after e.iri)
+HasFedCause before after endpoints q entries calls plain texts xs block (fed.Service iri) =
+    HasPlain plain cause.Failed (λ i. i ≡ iri) × ((e : EndpointParts) × Contains endpoints e × (e.iri ≡ iri)) × (faults_at before iri < faults_at after iri)
+HasFedCause before after endpoints q entries calls plain texts xs block (fed.BadReply name bad) =
+    AtNamed endpoints name (λ e. HasBadAsk before endpoints q entries e xs bad ⊎ (HasBadBatch before endpoints q calls block e xs bad ⊎ HasPlain plain (cause.Bad bad) (λ i. i ≡ e.iri)))
+HasFedCause before after endpoints q entries calls plain texts xs block (fed.RequestTooLong name size) =
+    AtNamed endpoints name (λ e. HasLongAsk endpoints q entries e size ⊎ (HasLongBatch endpoints q calls block e texts size ⊎ HasPlain plain (cause.TooLong size) (λ i. i ≡ e.iri)))
+HasFedCause before after endpoints q entries calls plain texts xs block (fed.UnknownService iri) = (after ≡ before) × (xs ≡ [])
+HasFedCause before after endpoints q entries calls plain texts xs block fed.Memory = Unit {0}
 
 -- the refusal, with the name of the endpoint in place of its number, unless memory ran out
 abbrev pub HasName : List EndpointParts → ℕ → List ℕ → Type 0
@@ -182,8 +187,8 @@ Serve services (e ∷ endpoints) (graph ∷ graphs) = (services e.iri ≡ graph)
 -- occurrences of SERVICE that were invoked, which are the query's first, each once: what each came to, by its own exchanges. The other is ASKs and texts of batches
 -- that were wanted of the query, which where graphs are told are those of its runs; with an answer, each reply there was read without a fault. Together they are the
 -- query's traffic, whichever are down of the occurrences that didn't pass. With an answer: all occurrences were invoked, those that have no rows are silent, and are down; and the answer is that over the union of the graphs.
--- Else the cause. ASKs come first: nothing else was asked for before each had its answer. And a refusal is that of an occurrence, and of no ASK and no batch, only
--- where all that was asked for beside the occurrences was given. At each address as many faults at least were counted as exchanges with occurrences failed there, and with an answer no other by wires that count each
+-- Else the cause. ASKs come first: nothing else was asked for before each had its answer. Batches are wanted of runs before each occurrence that was refused alone, so a batch
+-- that is refused is of one of these. And a refusal is that of an occurrence, and of no ASK and no batch, only where all that was asked for beside the occurrences was given. At each address as many faults at least were counted as exchanges with occurrences failed there, and with an answer no other by wires that count each
 -- address alone. And what the cache holds, which stays true of graphs.
 pub record Federated (tells alone : Bool) (before after : List Seen) (endpoints : List EndpointParts) (q : Query) (old new : List Entry) (block : ℕ) (result : Result Outcome FedError) : Type 0 where
   pub exchanges : List Exchange
@@ -203,7 +208,7 @@ pub record Federated (tells alone : Bool) (before after : List Seen) (endpoints 
   pub asks : List Sent
   pub asked : AreAsked endpoints q old asks
   pub texts : List Sent
-  pub of_batches : All (IsBatchText endpoints block (IsUnitOf q)) texts
+  pub of_batches : All (IsBatchText endpoints block (IsUnitBefore q calls)) texts
   pub of_runs : (graphs : List (List Triple)) → AreKnown before endpoints old graphs → (services : List ℕ → List Triple) → Serve services endpoints graphs
       → (down : List ℕ) → AgreesWith down calls → AreRunsSent endpoints graphs block (stations q) (seeds q (union graphs) services down) texts
   pub left : List Sent
@@ -214,9 +219,9 @@ pub record Federated (tells alone : Bool) (before after : List Seen) (endpoints 
   pub answer : IfOk result (λ outcome. (graphs : List (List Triple)) → AreKnown before endpoints old graphs → (services : List ℕ → List Triple) → Serve services endpoints graphs
       → outcome.answer ≡ answer q (union graphs) services (places outcome.down))
   pub known : KnowsServices endpoints q result
-  pub cause : IfErr result (HasFedCause before after endpoints q old calls texts exchanges block)
+  pub cause : IfErr result (HasFedCause before after endpoints q old calls calls texts exchanges block)
   pub asks_first : AsksComeFirst endpoints (missing q (length endpoints) old) calls texts exchanges
-  pub in_turn : IfErr result (λ e. HasFedCause before after endpoints q old [] texts exchanges block e ⊎ AreGiven alone before after calls (IsRead endpoints q old) of_others)
+  pub in_turn : IfErr result (λ e. HasFedCause before after endpoints q old calls [] texts exchanges block e ⊎ AreGiven alone before after calls (IsRead endpoints q old) of_others)
   pub held : HoldsBehind endpoints q old new exchanges result
   pub stays_true : (graphs : List (List Triple)) → AreKnown before endpoints old graphs → All (source.Tells graphs) new
 

@@ -18,7 +18,7 @@ use Rattle.fx_traffic.specs.Batches.{IsBatchText}
 use Rattle.fx_traffic.specs.Gains.{AreAfter, HaveGained, TellAll, faults_at}
 use Rattle.fx_traffic.specs.Sent.{Sent, Sends}
 use Rattle.fx_wire.specs.Exchanges.{Exchange, Seen}
-use Rattle.fx_engine.specs.Calls.{AgreesWith, AreCalls, AreFirst, Call, IsPassed, down_in, failures_at, occurrences}
+use Rattle.fx_engine.specs.Calls.{AgreesWith, AreCalls, AreFirst, Call, IsPassed, IsRefused, down_in, failures_at, occurrences}
 use Rattle.fx_engine.specs.GroupsAsked.{units_in}
 use Rattle.fx_engine.specs.Mediation.{AtNamed, HasName, HasPlain, IsNamed, Serve}
 use Rattle.fx_engine.specs.Noted.{places}
@@ -99,6 +99,7 @@ pub record Outcomed (tells alone : Bool) (before after : List Seen) (endpoints :
   pub after_all : AreAfter before after
   pub calls : List Call
   pub first : AreFirst calls (occurrences q)
+  pub behind : (k : ℕ) (c : Call) → slice_get calls k ≡ Some c → IsRefused c → length found ≤ k
   pub all_called : IfOk result (λ _. map (λ c. c.of) calls ≡ occurrences q)
   pub passed : IfOk result (λ _. All IsPassed calls)
   pub down : IfOk result (λ outcome. outcome.down ≡ down_in calls)

@@ -1,5 +1,5 @@
 -- What is to be done for the places of a query that requests are sent for: the parts of its plan, with the rows of its occurrences of SERVICE.
-use Rattle.std.specs.Prelude.{List, [], ◌∷◌}
+use Rattle.std.specs.Prelude.{Bool, true, false, List, [], ◌∷◌, if◌then◌else◌}
 use Rattle.fx_algebra.specs.Solutions.{Bindings}
 use Rattle.fx_plan.specs.declared.parts.Part.{Part}
 use Rattle.fx_plan.specs.declared.parts.Part.TheVariants as part
@@ -13,3 +13,15 @@ tasks_with (part.Run units bound ∷ parts) found = task.Run units ∷ tasks_wit
 tasks_with (part.EmptyRun ∷ parts) found = task.EmptyRun ∷ tasks_with parts found
 tasks_with (part.Service iri ∷ parts) [] = task.Refused ∷ tasks_with parts []
 tasks_with (part.Service iri ∷ parts) (rows ∷ found) = task.Service rows ∷ tasks_with parts found
+
+-- an occurrence of SERVICE that was refused, or stands behind one that was
+abbrev pub is_refused : Task → Bool
+is_refused (task.Run units) = false
+is_refused task.EmptyRun = false
+is_refused (task.Service rows) = false
+is_refused task.Refused = true
+
+-- the tasks before the first such
+abbrev pub front_of : List Task → List Task
+front_of [] = []
+front_of (t ∷ tasks) = if is_refused t then [] else t ∷ front_of tasks

@@ -8,7 +8,7 @@ ghost use Rattle.fx_engine.specs.GroupsAsked.{CanBeAsked};
 ghost use Rattle.fx_engine.specs.Tasks.{tasks_with};
 
 use crate::groups::group_rows;
-use crate::tasks::{RowsError, Task, tasks_of};
+use crate::tasks::{RowsError, Tasks, tasks_of};
 use fx_algebra::{Answer, Inline, Query, Solution};
 use fx_outside::Endpoint;
 use fx_plan::Part;
@@ -41,7 +41,10 @@ pub(crate) fn answer_with<R: Threads + Wait + Sync, W: Wire + Send>(
 {
     match tasks_of(alloc, plan, found) {
         Err(Memory) => Err(RowsError::Flow(FlowError::Memory)),
-        Ok(tasks) => answer_by_plan(rt, alloc, query, tasks.as_slice(), endpoints, block, wires),
+        Ok(tasks) => {
+            let tasks = Tasks::of(tasks);
+            answer_by_plan(rt, alloc, query, &tasks, endpoints, block, wires)
+        }
     }
 }
 
@@ -51,7 +54,7 @@ pub(crate) fn answer_by_plan<R: Threads + Wait + Sync, W: Wire + Send>(
     rt: &R,
     alloc: Global,
     query: &Query,
-    tasks: &[Task],
+    tasks: &Tasks,
     endpoints: &[Endpoint],
     block: u32,
     wires: &mut [W],

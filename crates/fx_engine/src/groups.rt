@@ -11,7 +11,7 @@ ghost use Rattle.fx_engine.specs.SectionSteps.{group_of, part_of, part_patterns}
 
 use crate::optionals::or_themselves;
 use crate::sections::{filters_of, is_simple, keeps_run};
-use crate::tasks::{RowsError, Task};
+use crate::tasks::{RowsError, Task, Tasks};
 use fx_algebra::{Element, Expr, Group, Inline, Row, Solution};
 use fx_outside::Endpoint;
 use fx_pool::{FlowError, run_flow};
@@ -37,7 +37,7 @@ pub(crate) fn group_rows<R: Threads + Wait + Sync, W: Wire + Send>(
     rt: &R,
     alloc: Global,
     group: &Group,
-    tasks: &[Task],
+    tasks: &Tasks,
     next: &mut usize,
     endpoints: &[Endpoint],
     block: u32,
@@ -61,7 +61,7 @@ fn unfiltered<R: Threads + Wait + Sync, W: Wire + Send>(
     rt: &R,
     alloc: Global,
     group: &Group,
-    tasks: &[Task],
+    tasks: &Tasks,
     next: &mut usize,
     endpoints: &[Endpoint],
     block: u32,
@@ -107,7 +107,7 @@ fn after_element<R: Threads + Wait + Sync, W: Wire + Send>(
     element: &Element,
     before: Vec<Solution>,
     in_run: &mut bool,
-    tasks: &[Task],
+    tasks: &Tasks,
     next: &mut usize,
     endpoints: &[Endpoint],
     block: u32,
@@ -146,7 +146,7 @@ fn after_operator<R: Threads + Wait + Sync, W: Wire + Send>(
     alloc: Global,
     element: &Element,
     before: Vec<Solution>,
-    tasks: &[Task],
+    tasks: &Tasks,
     next: &mut usize,
     endpoints: &[Endpoint],
     block: u32,
@@ -204,7 +204,7 @@ fn optional<R: Threads + Wait + Sync, W: Wire + Send>(
     alloc: Global,
     group: &Group,
     before: Vec<Solution>,
-    tasks: &[Task],
+    tasks: &Tasks,
     next: &mut usize,
     endpoints: &[Endpoint],
     block: u32,
@@ -233,7 +233,7 @@ fn alternatives<R: Threads + Wait + Sync, W: Wire + Send>(
     rt: &R,
     alloc: Global,
     groups: &[Group],
-    tasks: &[Task],
+    tasks: &Tasks,
     next: &mut usize,
     endpoints: &[Endpoint],
     block: u32,
@@ -265,7 +265,7 @@ fn optional_run<R: Threads + Wait + Sync, W: Wire + Send>(
     alloc: Global,
     group: &Group,
     before: Vec<Solution>,
-    tasks: &[Task],
+    tasks: &Tasks,
     next: &mut usize,
     endpoints: &[Endpoint],
     block: u32,
@@ -298,12 +298,12 @@ fn optional_run<R: Threads + Wait + Sync, W: Wire + Send>(
 }
 
 // What comes of the run whose task is next, from these rows on: they are numbered from 0. Where one of its patterns has no source,
-// nothing does, and nothing is asked for.
+// nothing does, and nothing is asked for; nor is it behind an occurrence of SERVICE that was refused.
 fn after_run<R: Threads + Wait + Sync, W: Wire + Send>(
     rt: &R,
     alloc: Global,
     rows: &[Solution],
-    tasks: &[Task],
+    tasks: &Tasks,
     next: &mut usize,
     endpoints: &[Endpoint],
     block: u32,
@@ -318,7 +318,11 @@ fn after_run<R: Threads + Wait + Sync, W: Wire + Send>(
     if *next >= tasks.len() {
         return Ok(Vec::new(alloc));
     }
-    let task = &tasks[*next];
+    let front = tasks.front();
+    if *next >= front.len() {
+        return Err(RowsError::Refused);
+    }
+    let task = &front[*next];
     *next += 1;
     match task {
         Task::Run { units } => {
@@ -339,7 +343,7 @@ fn end_run<R: Threads + Wait + Sync, W: Wire + Send>(
     alloc: Global,
     before: Vec<Solution>,
     in_run: bool,
-    tasks: &[Task],
+    tasks: &Tasks,
     next: &mut usize,
     endpoints: &[Endpoint],
     block: u32,
@@ -376,11 +380,12 @@ fn end_run<R: Threads + Wait + Sync, W: Wire + Send>(
 fn after_service(
     alloc: Global,
     before: &[Solution],
-    tasks: &[Task],
+    tasks: &Tasks,
     next: &mut usize,
 ) -> Result<Vec<Solution>, RowsError>
     ensures { spec.IsBehindService tasks.now next.old next.new before.now (solutions_in result) }
 {
+    let tasks = tasks.all();
     if *next >= tasks.len() {
         return Ok(Vec::new(alloc));
     }

@@ -1,5 +1,5 @@
 //! What is to be done for a query, place by place.
-ghost use Rattle.std.specs.Prelude.{◌≡◌, ◌∷◌, IfOk, List};
+ghost use Rattle.std.specs.Prelude.{◌≡◌, ◌∷◌, IfOk, IsTrue, List, length};
 ghost use Rattle.std.specs.Vec.Iter.{into_iter_items};
 ghost use Rattle.fx_plan.specs.declared.parts.Part.{Part as PlanPart};
 ghost use Rattle.fx_engine.specs.Tasks as spec;
@@ -9,6 +9,7 @@ use fx_plan::Part;
 use fx_pool::FlowError;
 use fx_terms::{Items, Memory};
 use std::alloc::Global;
+use std::marker::Model;
 use std::vec::IntoIter;
 
 /// What is to be done for a place of a query that requests are sent for.
@@ -22,6 +23,83 @@ pub(crate) enum Task {
     Service { rows: Items<Solution> },
     /// An occurrence of SERVICE that was refused, or that stands behind one that was.
     Refused,
+}
+
+/// The tasks of a query, in text order. Contracts see the list of them.
+#[derive(Drop)]
+pub(crate) struct Tasks {
+    all: Vec<Task>,
+    /// How many stand before the first occurrence of SERVICE that was refused.
+    front: usize,
+}
+
+impl Model for Tasks {
+    ghost use Rattle.std.specs.Coded.{codes};
+    ghost use Rattle.std.specs.Prelude.{◌≡◌, List, length};
+    ghost use Rattle.fx_algebra.specs.contracts.expressions.Expr as expr;
+    ghost use Rattle.fx_engine.specs.Tasks.{front_of};
+    ghost use Rattle.fx_engine.specs.declared.tasks.Task.{Task as TaskParts};
+
+    ghost Value = { List TaskParts };
+
+    ghost coded = { Prim.hlevel (codes, expr.the_row.coded) };
+
+    ghost view = { λ t. t.all.items };
+
+    ghost invariant = { λ t. t.front ≡ length (front_of t.all.items) };
+}
+
+impl Tasks {
+    pub fn of(all: Vec<Task>) -> Tasks
+        ensures { result ≡ all.items }
+    {
+        let front = front_length(all.as_slice());
+        Tasks { all, front }
+    }
+
+    pub fn len(&self) -> usize
+        ensures { result ≡ length self.now }
+    {
+        self.all.len()
+    }
+
+    pub fn all(&self) -> &[Task]
+        ensures { result.now ≡ self.now }
+    {
+        self.all.as_slice()
+    }
+
+    /// Those before the first occurrence of SERVICE that was refused. Behind it nothing is asked for.
+    #[tactic(auto, using(crate::proofs::FrontLemmas::front_within, crate::proofs::FrontLemmas::front_taken))]
+    pub fn front(&self) -> &[Task]
+        ensures { result.now ≡ spec.front_of self.now }
+    {
+        &self.all.as_slice()[..self.front]
+    }
+}
+
+fn front_length(tasks: &[Task]) -> usize
+    ensures { result ≡ length (spec.front_of tasks.now) }
+{
+    let mut front = 0;
+    for task in tasks {
+        if is_refused(task) {
+            return front;
+        }
+        front += 1;
+    }
+    front
+}
+
+fn is_refused(task: &Task) -> bool
+    ensures { result ≡ spec.is_refused task.now }
+{
+    match task {
+        Task::Run { units: _ } => false,
+        Task::EmptyRun => false,
+        Task::Service { rows: _ } => false,
+        Task::Refused => true,
+    }
 }
 
 /// Why there are no rows.

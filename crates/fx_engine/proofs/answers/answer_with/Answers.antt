@@ -17,11 +17,11 @@ returns-in-Err g c =
     (nothing_due c.args.endpoints.now c.args.block tasks q)
 
 pub answer_by_plan-requires-clause-asked : goal.answer_by_plan-requires-clause-asked
-answer_by_plan-requires-clause-asked g c κs within = subst (All (CanBeAsked (length c.args.endpoints.now))) (sym (c.as_slice.ensures.value ∙ c.in-Ok.ensures)) c.requires.asked
+answer_by_plan-requires-clause-asked g c κs within = subst (All (CanBeAsked (length c.args.endpoints.now))) (sym (c.of-tasks.ensures ∙ c.in-Ok.ensures)) c.requires.asked
 
 pub returns-in-Ok : goal.returns-in-Ok
 returns-in-Ok g c =
     let q = c.args.query.now in
     let see = g.W.Wire.seen in
-    subst (λ (v : List Task). Asked {X = Answer} g.W.Wire.tells_log g.W.Wire.counts_alone (map see c.args.wires.now) (map see c.answer_by_plan.new.wires) c.args.endpoints.now v c.args.block (AnswerGiven c.args.endpoints.now c.args.block v q) (AnswerDue c.args.endpoints.now c.args.block v q) c.answer_by_plan.result) (c.as_slice.ensures.value ∙ c.in-Ok.ensures)
+    subst (λ (v : List Task). Asked {X = Answer} g.W.Wire.tells_log g.W.Wire.counts_alone (map see c.args.wires.now) (map see c.answer_by_plan.new.wires) c.args.endpoints.now v c.args.block (AnswerGiven c.args.endpoints.now c.args.block v q) (AnswerDue c.args.endpoints.now c.args.block v q) c.answer_by_plan.result) (c.of-tasks.ensures ∙ c.in-Ok.ensures)
     c.answer_by_plan.ensures

@@ -1,0 +1,92 @@
+-- The tasks before the first occurrence of SERVICE that was refused.
+use Rattle.std.proofs.Common.{◌≡◌, ◌∙◌, ap, sym, refl, ℕ, zero, suc, ◌+◌, ◌<◌, ◌≤◌, List, [], ◌∷◌, ◌++◌, drop, take, length, get_or, Contains, inl, inr, arith}
+use Rattle.std.specs.List.{AllByRecursion, flat_map}
+use Rattle.fx_terms.proofs.SetLemmas.{Among, among_from, contains_from}
+use Rattle.fx_algebra.specs.declared.units.Unit as unit
+use Rattle.fx_engine.specs.GroupsAsked.{task_units, units_in}
+use Rattle.fx_engine.specs.Tasks.{front_of}
+use Rattle.fx_engine.specs.declared.tasks.Task.{Task}
+use Rattle.fx_engine.specs.declared.tasks.Task.TheVariants as task
+use Rattle.fx_engine.proofs.RunAskedLemmas.{next_task}
+
+-- they are the first of the tasks
+pub front_taken : (tasks : List Task) → take (length (front_of tasks)) tasks ≡ front_of tasks
+front_taken [] = refl
+front_taken (task.Run units ∷ tasks) = ap (λ (v : List Task). task.Run units ∷ v) (front_taken tasks)
+front_taken (task.EmptyRun ∷ tasks) = ap (λ (v : List Task). task.EmptyRun ∷ v) (front_taken tasks)
+front_taken (task.Service rows ∷ tasks) = ap (λ (v : List Task). task.Service rows ∷ v) (front_taken tasks)
+front_taken (task.Refused ∷ tasks) = refl
+
+pub front_within : (tasks : List Task) → length (front_of tasks) ≤ length tasks
+front_within [] = omega arith
+front_within (task.Run units ∷ tasks) = omega (arith, front_within tasks)
+front_within (task.EmptyRun ∷ tasks) = omega (arith, front_within tasks)
+front_within (task.Service rows ∷ tasks) = omega (arith, front_within tasks)
+front_within (task.Refused ∷ tasks) = omega arith
+
+front_at : (tasks : List Task) (k : ℕ) (t : Task) → k < length (front_of tasks) → get_or (front_of tasks) k t ≡ get_or tasks k t
+front_at [] k t h = refl
+front_at (task.Run units ∷ tasks) zero t h = refl
+front_at (task.Run units ∷ tasks) (suc k) t h = front_at tasks k t (omega (arith, h))
+front_at (task.EmptyRun ∷ tasks) zero t h = refl
+front_at (task.EmptyRun ∷ tasks) (suc k) t h = front_at tasks k t (omega (arith, h))
+front_at (task.Service rows ∷ tasks) zero t h = refl
+front_at (task.Service rows ∷ tasks) (suc k) t h = front_at tasks k t (omega (arith, h))
+front_at (task.Refused ∷ tasks) k t h = absurd (omega (arith, h))
+
+-- where there are others, one of them was refused
+refused_among : (tasks : List Task) → length (front_of tasks) < length tasks → Among task.Refused tasks
+refused_among [] h = absurd (omega (arith, h))
+refused_among (task.Run units ∷ tasks) h = inr (refused_among tasks (omega (arith, h)))
+refused_among (task.EmptyRun ∷ tasks) h = inr (refused_among tasks (omega (arith, h)))
+refused_among (task.Service rows ∷ tasks) h = inr (refused_among tasks (omega (arith, h)))
+refused_among (task.Refused ∷ tasks) h = inl refl
+
+pub refused_there : (tasks : List Task) → length (front_of tasks) < length tasks → Contains tasks task.Refused
+refused_there tasks h = contains_from tasks task.Refused (refused_among tasks h)
+
+-- the next of the tasks, which stands at its place in a list of them all
+pub record IsNextTask (tasks : List Task) (next : ℕ) (it : Task) : Type 0 where
+  pub next_is : drop next tasks ≡ it ∷ drop (next + 1) tasks
+  pub its : Contains tasks it
+
+pub next_of_all : (tasks all : List Task) (next : ℕ) (it : Task) → all ≡ tasks → next < length all → it ≡ get_or all next it → IsNextTask tasks next it
+next_of_all tasks all next it same below is =
+    let long : length all ≡ length tasks = ap length same in
+    let under : next < length tasks = omega (arith, below, long) in
+    let here : it ≡ get_or tasks next it = is ∙ ap (λ (v : List Task). get_or v next it) same in
+    record { next_is = next_task tasks next it under here; its = (next, under, sym here) }
+
+-- or of those before the first occurrence that was refused
+pub record IsNextInFront (tasks : List Task) (next : ℕ) (it : Task) : Type 0 where
+  pub is_next : IsNextTask tasks next it
+  pub in_front : Contains (front_of tasks) it
+
+pub next_in_front : (tasks front : List Task) (next : ℕ) (it : Task) → front ≡ front_of tasks → next < length front → it ≡ get_or front next it → IsNextInFront tasks next it
+next_in_front tasks front next it same below is =
+    let long : length front ≡ length (front_of tasks) = ap length same in
+    let low : next < length (front_of tasks) = omega (arith, below, long) in
+    let within : length (front_of tasks) ≤ length tasks = front_within tasks in
+    let there : it ≡ get_or (front_of tasks) next it = is ∙ ap (λ (v : List Task). get_or v next it) same in
+    record {
+      is_next = next_of_all tasks tasks next it refl (omega (arith, low, within)) (there ∙ front_at tasks next it low);
+      in_front = (next, low, sym there);
+    }
+
+-- what holds of the units of all tasks holds of theirs
+pub all_both : {X : Type 0} (P : X → Type 0) (xs ys : List X) → AllByRecursion P xs → AllByRecursion P ys → AllByRecursion P (xs ++ ys)
+all_both P [] ys h k = k
+all_both P (x ∷ xs) ys h k = (h.0, all_both P xs ys h.1 k)
+
+pub all_split : {X : Type 0} (P : X → Type 0) (xs ys : List X) → AllByRecursion P (xs ++ ys) → AllByRecursion P xs × AllByRecursion P ys
+all_split P [] ys h = (tt, h)
+all_split P (x ∷ xs) ys h = let rest = all_split P xs ys h.1 in ((h.0, rest.0), rest.1)
+
+pub units_in_front : (P : unit.Unit → Type 0) (tasks : List Task) → AllByRecursion P (flat_map task_units tasks) → AllByRecursion P (units_in tasks)
+units_in_front P [] h = tt
+units_in_front P (task.Run units ∷ tasks) h =
+    let both = all_split P units (flat_map task_units tasks) h in
+    all_both P units (units_in tasks) both.0 (units_in_front P tasks both.1)
+units_in_front P (task.EmptyRun ∷ tasks) h = units_in_front P tasks h
+units_in_front P (task.Service rows ∷ tasks) h = units_in_front P tasks h
+units_in_front P (task.Refused ∷ tasks) h = tt
