@@ -20,18 +20,21 @@ valued name = record (new_rule name) { long = Some name; action = Some Set }
 abbrev pub bare : Text → App
 bare name = on_top (λ s. record s { disable_help_flag = true; disable_version_flag = true }) (new_app name)
 
+-- a command that asks for two positionals
+abbrev pub two_places : Text → Text → Text → App
+two_places name first second = with_rule (with_rule (bare name) (positional first true)) (positional second true)
+
 -- NAME FILE QUERY
 abbrev pub files_app : Text → App
-files_app name = with_rule (with_rule (bare name) (positional (codes "FILE") true)) (positional (codes "QUERY") true)
+files_app name = two_places name (codes "FILE") (codes "QUERY")
 
 -- query REGISTRY QUERY [--workers N] [--block B]
 abbrev pub query_app : App
-query_app = with_rule (with_rule (with_rule (with_rule (bare (codes "query")) (positional (codes "REGISTRY") true)) (positional (codes "QUERY") true))
-    (valued (codes "workers"))) (valued (codes "block"))
+query_app = with_rule (with_rule (two_places (codes "query") (codes "REGISTRY") (codes "QUERY")) (valued (codes "workers"))) (valued (codes "block"))
 
 -- member GRAPH ADDRESS [COUNT]
 abbrev pub member_app : App
-member_app = with_rule (with_rule (with_rule (bare (codes "member")) (positional (codes "GRAPH") true)) (positional (codes "ADDRESS") true)) (positional (codes "COUNT") false)
+member_app = with_rule (two_places (codes "member") (codes "GRAPH") (codes "ADDRESS")) (positional (codes "COUNT") false)
 
 -- generate N
 abbrev pub generate_app : App

@@ -1,5 +1,5 @@
 //! Command lines.
-ghost use Rattle.std.specs.Prelude.{◌≡◌, ◌≤◌, IfOk, IfSome, map, option_map, string_bytes};
+ghost use Rattle.std.specs.Prelude.{◌≡◌, ◌≤◌, IfOk, IfSome, drop, map, option_and_then, option_map, string_bytes};
 ghost use Rattle.std.specs.Str.{bytes_eq};
 ghost use Rattle.fx_words.specs.Commands as spec;
 ghost use Rattle.fx_words.specs.Parsed as parsed;
@@ -97,19 +97,13 @@ pub fn read_command(alloc: Global, words: &[String]) -> Result<Command<'_>, Comm
         return Err(CommandError::Usage);
     };
     if is_local(command.as_str()) {
-        return match files_of(alloc, "local", words) {
-            Ok((graph, query)) => Ok(Command::Local { graph, query }),
-            Err(error) => Err(error),
-        };
+        return local_of(alloc, words);
     }
     if is_query(command.as_str()) {
         return query_of(alloc, words);
     }
     if is_explain(command.as_str()) {
-        return match files_of(alloc, "explain", words) {
-            Ok((registry, query)) => Ok(Command::Explain { registry, query }),
-            Err(error) => Err(error),
-        };
+        return explain_of(alloc, words);
     }
     if is_member(command.as_str()) {
         return member_of(alloc, words);
@@ -118,6 +112,28 @@ pub fn read_command(alloc: Global, words: &[String]) -> Result<Command<'_>, Comm
         return generate_of(alloc, words);
     }
     Err(CommandError::Usage)
+}
+
+// The answering over a graph that words ask for.
+fn local_of<'a>(alloc: Global, words: &'a [String]) -> Result<Command<'a>, CommandError>
+    ensures asked { spec.GivesCommand result (spec.of_files spec.over_file (option_and_then spec.two_files (spec.positionals (drop 1 (map (λ w. string_bytes w) words.now))))) }
+    ensures within { IfOk result (λ command. spec.IsWithin command) }
+{
+    match files_of(alloc, "local", words) {
+        Ok((graph, query)) => Ok(Command::Local { graph, query }),
+        Err(error) => Err(error),
+    }
+}
+
+// The planning that words ask for.
+fn explain_of<'a>(alloc: Global, words: &'a [String]) -> Result<Command<'a>, CommandError>
+    ensures asked { spec.GivesCommand result (spec.of_files spec.planned (option_and_then spec.two_files (spec.positionals (drop 1 (map (λ w. string_bytes w) words.now))))) }
+    ensures within { IfOk result (λ command. spec.IsWithin command) }
+{
+    match files_of(alloc, "explain", words) {
+        Ok((registry, query)) => Ok(Command::Explain { registry, query }),
+        Err(error) => Err(error),
+    }
 }
 
 // ---- the commands, of what their words give

@@ -19,7 +19,7 @@ pub(crate) fn files_of<'a>(
 ) -> Result<(&'a str, &'a str), CommandError>
     ensures { spec.GivesFiles result (option_and_then spec.two_files (spec.positionals (drop 1 (map (λ w. string_bytes w) words.now)))) }
 {
-    let form = files_form(alloc, name)?;
+    let form = two_places(alloc, name, "FILE", "QUERY")?;
     match form.try_get_matches_from(words) {
         Ok(found) => two_files(found.get_str("FILE"), found.get_str("QUERY")),
         Err(error) => Err(refusal(&error)),
@@ -86,22 +86,11 @@ fn refusal(error: &Error) -> CommandError
 
 // ---- the forms
 
-// NAME FILE QUERY
-fn files_form<'a>(alloc: Global, name: &'a str) -> Result<clap::Command<'a>, AllocError>
-    ensures { IfOk result (λ form. app_of form ≡ parsed.files_app name.now) }
-{
-    bare(alloc, name)
-        .arg(positional(alloc, "FILE", true))?
-        .arg(positional(alloc, "QUERY", true))
-}
-
 // query REGISTRY QUERY [--workers N] [--block B]
 fn query_form<'a>(alloc: Global) -> Result<clap::Command<'a>, AllocError>
     ensures { IfOk result (λ form. app_of form ≡ parsed.query_app) }
 {
-    bare(alloc, "query")
-        .arg(positional(alloc, "REGISTRY", true))?
-        .arg(positional(alloc, "QUERY", true))?
+    two_places(alloc, "query", "REGISTRY", "QUERY")?
         .arg(valued(alloc, "workers"))?
         .arg(valued(alloc, "block"))
 }
@@ -110,10 +99,7 @@ fn query_form<'a>(alloc: Global) -> Result<clap::Command<'a>, AllocError>
 fn member_form<'a>(alloc: Global) -> Result<clap::Command<'a>, AllocError>
     ensures { IfOk result (λ form. app_of form ≡ parsed.member_app) }
 {
-    bare(alloc, "member")
-        .arg(positional(alloc, "GRAPH", true))?
-        .arg(positional(alloc, "ADDRESS", true))?
-        .arg(positional(alloc, "COUNT", false))
+    two_places(alloc, "member", "GRAPH", "ADDRESS")?.arg(positional(alloc, "COUNT", false))
 }
 
 // generate N
@@ -121,6 +107,20 @@ fn generate_form<'a>(alloc: Global) -> Result<clap::Command<'a>, AllocError>
     ensures { IfOk result (λ form. app_of form ≡ parsed.generate_app) }
 {
     bare(alloc, "generate").arg(positional(alloc, "N", true))
+}
+
+// NAME FIRST SECOND, which both must stand there.
+fn two_places<'a>(
+    alloc: Global,
+    name: &'a str,
+    first: &'a str,
+    second: &'a str,
+) -> Result<clap::Command<'a>, AllocError>
+    ensures { IfOk result (λ form. app_of form ≡ parsed.two_places name.now first.now second.now) }
+{
+    bare(alloc, name)
+        .arg(positional(alloc, first, true))?
+        .arg(positional(alloc, second, true))
 }
 
 fn bare<'a>(alloc: Global, name: &'a str) -> clap::Command<'a>
