@@ -15,7 +15,7 @@ use Rattle.fx_algebra.specs.Operators.{join, merges, filtered, minus, left_join,
 use Rattle.fx_algebra.specs.Solutions.{Bindings, rises}
 use Rattle.fx_algebra.specs.Groups.{Part, pattern, condition, operator, Step, run, apply, Meaning, meaning, element_meaning, group_meaning, with_pattern, with_part, steps_of, after, conditions_of, part_services, parts_services, groups_services, one_empty, group_rows, alternatives, is_down, service_rows}
 use Rattle.fx_algebra.specs.declared.expressions.Expr.{Expr}
-use Rattle.fx_algebra.specs.declared.queries.Element.{Element, Element-F, fold_out-Element, map-Element, fold-roll-Element, roll-Element}
+use Rattle.fx_algebra.specs.declared.queries.Element.{Element, Element-F, map-Element, fold-roll-Element, roll-Element}
 use Rattle.fx_algebra.specs.declared.queries.Element.TheVariants.{Triple as Triple-E, Filter, Optional, Union, Minus, Bind, Values, Service, rolls-Triple, rolls-Filter, rolls-Optional, rolls-Union, rolls-Minus, rolls-Bind, rolls-Values, rolls-Service}
 use Rattle.fx_algebra.specs.declared.queries.Inline.{Inline}
 use Rattle.fx_algebra.specs.declared.queries.Group.{Group, fold_out-Group}
@@ -54,7 +54,7 @@ rising_rows : (p : Pattern) (a : Bindings) (ts : List Triple) → T (rises a) �
 rising_rows p a [] up = tt
 rising_rows p a (t ∷ ts) up = rising_some a (parts_of p t) (forced a (parts_of p t)) _ up refl (rising_rows p a ts up)
 
-rising_extended : (graph : List Triple) (p : Pattern) (rows : List Bindings) → AllRise rows → AllRise (extended graph p rows)
+pub rising_extended : (graph : List Triple) (p : Pattern) (rows : List Bindings) → AllRise rows → AllRise (extended graph p rows)
 rising_extended graph p [] up = tt
 rising_extended graph p (a ∷ rows) up = all_append (λ s. T (rises s)) (filter_map (λ t. forced a (parts_of p t)) graph) (extended graph p rows) (rising_rows p a graph up.0) (rising_extended graph p rows up.1)
 
@@ -125,20 +125,23 @@ module _ (all done left : List Element) (e : Element) (graph : List Triple) (bef
   pub so_far_more : IsSoFar all done (e ∷ left) graph before → AllRise before → AreAfter e graph before rows → IsSoFar all (done ++ e ∷ []) left graph rows
   so_far_more so up next = record { split = append_assoc done (e ∷ []) left ∙ so.split; same = more_at so up next }
 
-all_rise : (rows : List Bindings) → AllByRecursion (λ s. IsTrue (rises s)) rows → AllRise rows
+pub all_rise : (rows : List Bindings) → AllByRecursion (λ s. IsTrue (rises s)) rows → AllRise rows
 all_rise [] h = tt
 all_rise (s ∷ rows) h = (to_T (rises s) h.0, all_rise rows h.1)
 
 taken : {X : Type 0} (xs : List X) (i : ℕ) (x : X) → i < length xs → x ≡ get_or xs i x → take i xs ++ x ∷ [] ≡ take (i + 1) xs
 taken xs i x b e = ap (λ v. take i xs ++ v ∷ []) e ∙ sym (take_more xs i x b)
 
-pub so_far_next : (all : List Element) (i : ℕ) (e : Element) (graph : List Triple) (before rows : List Bindings) → i < length all → e ≡ get_or all i e
-    → IsSoFar all (take i all) (drop i all) graph before → All (λ s. IsTrue (rises s)) before → AreAfter e graph before rows → IsSoFar all (take (i + 1) all) (drop (i + 1) all) graph rows
-so_far_next all i e graph before rows b is so up next =
+pub so_far_at : (all : List Element) (i : ℕ) (e : Element) (graph : List Triple) (before rows : List Bindings) → i < length all → e ≡ get_or all i e
+    → IsSoFar all (take i all) (drop i all) graph before → AllRise before → AreAfter e graph before rows → IsSoFar all (take (i + 1) all) (drop (i + 1) all) graph rows
+so_far_at all i e graph before rows b is so up next =
     let split : drop i all ≡ e ∷ drop (i + 1) all = drop_more all i e b ∙ ap (λ (v : Element). v ∷ drop (i + 1) all) (sym is) in
     let here : IsSoFar all (take i all) (e ∷ drop (i + 1) all) graph before = subst (λ (v : List Element). IsSoFar all (take i all) v graph before) split so in
-    subst (λ (v : List Element). IsSoFar all v (drop (i + 1) all) graph rows) (taken all i e b is)
-    (so_far_more all (take i all) (drop (i + 1) all) e graph before rows here (all_rise before (recursion_from_All (λ s. IsTrue (rises s)) before up)) next)
+    subst (λ (v : List Element). IsSoFar all v (drop (i + 1) all) graph rows) (taken all i e b is) (so_far_more all (take i all) (drop (i + 1) all) e graph before rows here up next)
+
+pub so_far_next : (all : List Element) (i : ℕ) (e : Element) (graph : List Triple) (before rows : List Bindings) → i < length all → e ≡ get_or all i e
+    → IsSoFar all (take i all) (drop i all) graph before → All (λ s. IsTrue (rises s)) before → AreAfter e graph before rows → IsSoFar all (take (i + 1) all) (drop (i + 1) all) graph rows
+so_far_next all i e graph before rows b is so up = so_far_at all i e graph before rows b is so (all_rise before (recursion_from_All (λ s. IsTrue (rises s)) before up))
 
 meaning_is : (graphs : List ℕ → List Triple) (down : List ℕ) (g : Group) → meaning graphs down g ≡ group_meaning (record { elements = map (part_of graphs down) g.elements })
 meaning_is graphs down g = fold_out-Group Part Meaning (element_meaning graphs down) group_meaning g

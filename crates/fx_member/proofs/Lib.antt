@@ -1,4 +1,5 @@
 pub mod GroupLemmas
+pub mod OptionalLemmas
 pub mod CountLemmas
 pub mod PlaceLemmas
 pub mod FormLemmas

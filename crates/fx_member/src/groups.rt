@@ -1,7 +1,9 @@
 //! The rows of groups (SPARQL 1.1 sections 18.2.2 and 18.6).
 ghost use Rattle.std.specs.Prelude.{IfOk, OnOk};
+ghost use Rattle.fx_algebra.specs.declared.queries.Element.TheVariants as element;
 ghost use Rattle.fx_member.specs.GroupRows as spec;
 
+use crate::optionals::{run_of, with_matches};
 use fx_algebra::{Element, Expr, Group, Solution};
 use fx_solutions::known_rows::known_to_rise;
 use fx_solutions::{extend, filter, inline_rows, join_with, left_join_with, minus_with};
@@ -13,8 +15,8 @@ use std::alloc::Global;
 /// each leaves the rows before it as they are.
 ///
 /// The group is gone through from left to right. A run of triple patterns is joined pattern by pattern, so the rows before it
-/// are known to the look-ups. A nested group, a UNION, an OPTIONAL and a MINUS begin with the one empty solution. The filters of
-/// the group are applied at its end.
+/// are known to the look-ups, as are those before an OPTIONAL whose group holds triple patterns and filters alone. A nested group, a UNION, any other
+/// OPTIONAL and a MINUS begin with the one empty solution. The filters of the group are applied at its end.
 #[cycle(rows)]
 pub fn group_rows(alloc: Global, store: &Store, group: &Group) -> Result<Vec<Solution>, Memory>
     ensures { IfOk result (λ rows. spec.AreRowsOf group.now store.now rows.items) }
@@ -55,12 +57,7 @@ fn after_element(
             Ok(rows)
         }
         Element::Filter(_) => Ok(before),
-        Element::Optional(group) => {
-            let found = unfiltered(alloc, store, group)?;
-            let filters = filters_of(alloc, group)?;
-            let rows = left_join_with(alloc, before, found, filters.as_slice())?;
-            Ok(rows)
-        }
+        Element::Optional(group) => after_optional(alloc, store, group, before),
         Element::Union(groups) => {
             let found = alternatives(alloc, store, groups.as_slice())?;
             let rows = join_with(alloc, before.as_slice(), found)?;
@@ -86,6 +83,33 @@ fn after_element(
             group: _,
         } => Ok(before),
     }
+}
+
+// The rows after an OPTIONAL, from those before it.
+#[cycle(rows)]
+fn after_optional(
+    alloc: Global,
+    store: &Store,
+    group: &Group,
+    before: Vec<Solution>,
+) -> Result<Vec<Solution>, Memory>
+    ensures { IfOk result (λ rows. spec.AreAfter (element.Optional group.now) store.now before.items rows.items) }
+{
+    let filters = filters_of(alloc, group)?;
+    if let Some(patterns) = run_of(alloc, group)? {
+        known_to_rise(before.as_slice());
+        let rows = with_matches(
+            alloc,
+            store,
+            before,
+            patterns.as_slice(),
+            filters.as_slice(),
+        )?;
+        return Ok(rows);
+    }
+    let found = unfiltered(alloc, store, group)?;
+    let rows = left_join_with(alloc, before, found, filters.as_slice())?;
+    Ok(rows)
 }
 
 // The rows of groups, one after the other.

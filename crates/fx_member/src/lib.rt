@@ -5,6 +5,7 @@ pub mod answering;
 pub mod fault_wires;
 pub mod graph_wires;
 pub mod groups;
+mod optionals;
 mod places;
 pub mod serving;
 

@@ -5,18 +5,29 @@ use Rattle.fx_algebra.specs.declared.expressions.Expr.{Expr}
 use Rattle.fx_algebra.specs.declared.queries.Element.{Element}
 use Rattle.fx_algebra.specs.declared.queries.Group.{Group}
 use Rattle.fx_member.specs.GroupRows.{AreAfter, AreAlternatives}
+use Rattle.std.specs.Prelude.{IfOk}
+use Rattle.fx_member.proofs.OptionalLemmas.{after_run}
 use Rattle.fx_member.proofs.GroupLemmas.{so_far_next, so_far_end, after_optional, after_union, after_minus, after_service, rows_filtered, alternatives_next}
 use Rattle.fx_member.proofs.groups.+rows.Goals as goal
 
-pub after_element-returns-in_ok-rows-in-Optional : goal.after_element-returns-in_ok-rows-in-Optional
-after_element-returns-in_ok-rows-in-Optional t c =
+pub after_element-returns-in-Optional : goal.after_element-returns-in-Optional
+after_element-returns-in-Optional t c =
+    subst (λ (e : Element). IfOk c.after_optional.result (λ rows. AreAfter e c.args.store.now c.args.before.items rows.items)) (sym c.in-Optional.is) c.after_optional.ensures
+
+pub after_optional-returns-in-Some : goal.after_optional-returns-in-Some
+after_optional-returns-in-Some t c =
     let before = c.args.before.items in
-    let found = c.in_ok-found-in-Optional.found.items in
-    let filters = c.in_ok-filters-in-Optional.filters.items in
-    let rows = c.in_ok-rows-in-Optional.rows.items in
-    let joined : IsPermutation (left_join before found filters) rows = subst (λ (es : List Expr). IsPermutation (left_join before found es) rows) c.as_slice-in-Optional.ensures.value c.in_ok-rows-in-Optional.ensures in
-    subst (λ (e : Element). AreAfter e c.args.store.now before rows) (sym c.in-Optional.is)
-    (after_optional c.args.store.now before rows c.in-Optional.group found filters c.in_ok-found-in-Optional.ensures c.in_ok-filters-in-Optional.ensures joined)
+    after_run c.args.group.now c.args.store.now before c.in_ok-rows.rows.items c.in-Some.patterns.items c.in_ok-filters.filters.items (rw c.in-Some.is at c.in_ok-patterns.ensures) c.in_ok-filters.ensures
+    (rw c.as_slice.ensures.value at c.known_to_rise.ensures) (rw (c.as_slice-in-Some.ensures.value, c.as_slice-in-Some-2.ensures.value) at c.in_ok-rows.ensures)
+
+pub after_optional-returns : goal.after_optional-returns
+after_optional-returns t c =
+    let before = c.args.before.items in
+    let found = c.in_ok-found.found.items in
+    let filters = c.in_ok-filters.filters.items in
+    let rows = c.in_ok-rows-2.rows.items in
+    let joined : IsPermutation (left_join before found filters) rows = subst (λ (es : List Expr). IsPermutation (left_join before found es) rows) c.as_slice-2.ensures.value c.in_ok-rows-2.ensures in
+    after_optional c.args.store.now before rows c.args.group.now found filters c.in_ok-found.ensures c.in_ok-filters.ensures joined
 
 pub after_element-returns-in_ok-rows-in-Union : goal.after_element-returns-in_ok-rows-in-Union
 after_element-returns-in_ok-rows-in-Union t c =
