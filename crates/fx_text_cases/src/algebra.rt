@@ -12,43 +12,51 @@ use std::alloc::Global;
 
 /// What a call gives.
 pub fn answer(alloc: Global, call: &str, inputs: &[&str]) -> Option<String> {
-    match (call, inputs) {
-        ("Solution::with", [row]) => with(alloc, row),
-        ("Solution::copy", [row]) => copy_solution(alloc, row),
-        ("Solution::get", [row, name]) => get(alloc, row, name),
-        ("Solution::merge", [left, right]) => merge(alloc, left, right),
-        ("Solution::project", [row, columns]) => project(alloc, row, columns),
-        _ => of_names(alloc, call, inputs),
+    match inputs {
+        [text] => of_one(alloc, call, text),
+        [left, right] => of_two(alloc, call, left, right),
+        [group, members, kind] => of_three(alloc, call, group, members, kind),
+        _ => None,
     }
 }
 
-// The calls on names, and after them those on queries and their parts.
-fn of_names(alloc: Global, call: &str, inputs: &[&str]) -> Option<String> {
-    match (call, inputs) {
-        ("scopes::once", [names]) => once(alloc, names),
-        ("scopes::is_among", [names, name]) => is_among(alloc, names, name),
-        ("copy_names", [names]) => copied_names(alloc, names),
-        _ => of_queries(alloc, call, inputs),
+// The calls on rows and names, and after them those on queries and their groups.
+fn of_one(alloc: Global, call: &str, text: &str) -> Option<String> {
+    match call {
+        "Solution::with" => with(alloc, text),
+        "Solution::copy" => copy_solution(alloc, text),
+        "Answer::copy" => copy_answer(alloc, text),
+        "scopes::once" => once(alloc, text),
+        "copy_names" => copied_names(alloc, text),
+        _ => of_query(alloc, call, text),
     }
 }
 
-// The calls on queries and their parts, and after them the copies.
-fn of_queries(alloc: Global, call: &str, inputs: &[&str]) -> Option<String> {
-    match (call, inputs) {
-        ("scope", [group]) => scope_of(alloc, group),
-        ("services", [query]) => services_of(alloc, query),
-        ("patterns_of", [group]) => patterns(alloc, group),
-        ("is_plain", [query]) => plain(alloc, query),
-        _ => of_copies(alloc, call, inputs),
+fn of_query(alloc: Global, call: &str, text: &str) -> Option<String> {
+    match call {
+        "scope" => scope_of(alloc, text),
+        "services" => services_of(alloc, text),
+        "patterns_of" => patterns(alloc, text),
+        "is_plain" => plain(alloc, text),
+        "Query::copy" => copy_query(alloc, text),
+        _ => None,
     }
 }
 
-fn of_copies(alloc: Global, call: &str, inputs: &[&str]) -> Option<String> {
-    match (call, inputs) {
-        ("Query::copy", [query]) => copy_query(alloc, query),
-        ("Answer::copy", [rows]) => copy_answer(alloc, rows),
-        ("Unit::copy", [group, members, kind]) => copy_unit(alloc, group, members, kind),
-        ("Row::copy", [origin, row]) => copy_row(alloc, origin, row),
+fn of_two(alloc: Global, call: &str, left: &str, right: &str) -> Option<String> {
+    match call {
+        "Solution::get" => get(alloc, left, right),
+        "Solution::merge" => merge(alloc, left, right),
+        "Solution::project" => project(alloc, left, right),
+        "scopes::is_among" => is_among(alloc, left, right),
+        "Row::copy" => copy_row(alloc, left, right),
+        _ => None,
+    }
+}
+
+fn of_three(alloc: Global, call: &str, group: &str, members: &str, kind: &str) -> Option<String> {
+    match call {
+        "Unit::copy" => copy_unit(alloc, group, members, kind),
         _ => None,
     }
 }

@@ -10,13 +10,27 @@ use std::cmp::Ordering;
 
 /// What a call gives.
 pub fn answer(alloc: Global, call: &str, inputs: &[&str]) -> Option<String> {
-    match (call, inputs) {
-        ("value", [expression]) => value_text(alloc, expression),
-        ("value of each", [expression, operands]) => value_letters(alloc, expression, operands),
-        ("truth", [term]) => truth_text(alloc, term),
-        ("holds", [conditions]) => held(alloc, conditions),
-        ("compare_keys", [left, right]) => order_text(alloc, left, right),
-        ("compare_keys of all", [keys]) => rising(alloc, keys),
+    match inputs {
+        [field] => of_one(alloc, call, field),
+        [left, right] => of_two(alloc, call, left, right),
+        _ => None,
+    }
+}
+
+fn of_one(alloc: Global, call: &str, field: &str) -> Option<String> {
+    match call {
+        "value" => value_text(alloc, field),
+        "truth" => truth_text(alloc, field),
+        "holds" => held(alloc, field),
+        "compare_keys of all" => rising(alloc, field),
+        _ => None,
+    }
+}
+
+fn of_two(alloc: Global, call: &str, left: &str, right: &str) -> Option<String> {
+    match call {
+        "value of each" => value_letters(alloc, left, right),
+        "compare_keys" => order_text(alloc, left, right),
         _ => None,
     }
 }

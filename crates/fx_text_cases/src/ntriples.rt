@@ -7,10 +7,17 @@ use std::alloc::Global;
 
 /// What a call gives.
 pub fn answer(alloc: Global, call: &str, inputs: &[&str]) -> Option<String> {
-    match (call, inputs) {
-        ("read_graph", [document]) => read(alloc, document),
-        ("print_graph", [graph]) => printed(alloc, graph),
-        ("read_graph of print_graph", [graph]) => read_back(alloc, graph),
+    match inputs {
+        [field] => of_one(alloc, call, field),
+        _ => None,
+    }
+}
+
+fn of_one(alloc: Global, call: &str, field: &str) -> Option<String> {
+    match call {
+        "read_graph" => read(alloc, field),
+        "print_graph" => printed(alloc, field),
+        "read_graph of print_graph" => read_back(alloc, field),
         _ => None,
     }
 }

@@ -7,10 +7,17 @@ use std::alloc::Global;
 
 /// What a call gives.
 pub fn answer(alloc: Global, call: &str, inputs: &[&str]) -> Option<String> {
-    match (call, inputs) {
-        ("print", [query]) => print(alloc, query),
-        ("print without columns", [query]) => print_without_columns(alloc, query),
-        ("print_element", [element]) => print_element(alloc, element),
+    match inputs {
+        [field] => of_one(alloc, call, field),
+        _ => None,
+    }
+}
+
+fn of_one(alloc: Global, call: &str, field: &str) -> Option<String> {
+    match call {
+        "print" => print(alloc, field),
+        "print without columns" => print_without_columns(alloc, field),
+        "print_element" => print_element(alloc, field),
         _ => None,
     }
 }

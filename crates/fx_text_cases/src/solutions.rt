@@ -11,16 +11,35 @@ use std::alloc::Global;
 
 /// What a call gives.
 pub fn answer(alloc: Global, call: &str, inputs: &[&str]) -> Option<String> {
-    match (call, inputs) {
-        ("inline_rows", [block]) => inline(alloc, block),
-        ("filter", [rows, conditions]) => filtered(alloc, rows, conditions),
-        ("extend", [rows, name, expression]) => extended(alloc, rows, name, expression),
-        ("ordered", [columns, rows]) => ordered_text(alloc, columns, rows),
-        ("in_order", [keys, columns, rows]) => by_keys(alloc, keys, columns, rows),
-        ("answer_of_rows", [query, rows]) => answered(alloc, query, rows),
-        (_, [left, right]) => of_two(alloc, call, left, right),
-        (_, [left, right, conditions]) => of_left_join(alloc, call, left, right, conditions),
+    match inputs {
+        [block] => of_one(alloc, call, block),
+        [left, right] => of_two(alloc, call, left, right),
+        [first, second, third] => of_three(alloc, call, first, second, third),
         _ => None,
+    }
+}
+
+fn of_one(alloc: Global, call: &str, block: &str) -> Option<String> {
+    match call {
+        "inline_rows" => inline(alloc, block),
+        _ => None,
+    }
+}
+
+fn of_two(alloc: Global, call: &str, left: &str, right: &str) -> Option<String> {
+    match call {
+        "filter" => filtered(alloc, left, right),
+        "ordered" => ordered_text(alloc, left, right),
+        "answer_of_rows" => answered(alloc, left, right),
+        _ => of_rows(alloc, call, left, right),
+    }
+}
+
+fn of_three(alloc: Global, call: &str, first: &str, second: &str, third: &str) -> Option<String> {
+    match call {
+        "extend" => extended(alloc, first, second, third),
+        "in_order" => by_keys(alloc, first, second, third),
+        _ => of_left_join(alloc, call, first, second, third),
     }
 }
 
@@ -70,7 +89,7 @@ fn answered(alloc: Global, query: &str, rows: &str) -> Option<String> {
 }
 
 // What a call of two lists of rows gives.
-fn of_two(alloc: Global, call: &str, left: &str, right: &str) -> Option<String> {
+fn of_rows(alloc: Global, call: &str, left: &str, right: &str) -> Option<String> {
     let left = notation::solutions(alloc, left)?;
     let right = notation::solutions(alloc, right)?;
     match call {

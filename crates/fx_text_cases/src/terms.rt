@@ -9,26 +9,41 @@ use std::alloc::Global;
 
 /// What a call gives.
 pub fn answer(alloc: Global, call: &str, inputs: &[&str]) -> Option<String> {
-    match (call, inputs) {
-        ("Iri::read", [text]) => read_iri(alloc, text),
-        ("Name::read", [text]) => read_name(alloc, text),
-        ("Literal::plain", [form]) => plain(alloc, form),
-        ("Literal::typed", [form, datatype]) => typed(alloc, form, datatype),
-        ("Literal::tagged", [form, tag]) => tagged(alloc, form, tag),
-        ("is_tag", [tag]) => shown::truth(alloc, is_tag(tag)),
-        _ => of_terms(alloc, call, inputs),
+    match inputs {
+        [field] => of_one(alloc, call, field),
+        [form, behind] => of_literal(alloc, call, form, behind),
+        _ => None,
     }
 }
 
-// The calls on terms, and on what is made of them.
-fn of_terms(alloc: Global, call: &str, inputs: &[&str]) -> Option<String> {
-    match (call, inputs) {
-        ("Term::compare", [terms]) => compare(alloc, terms),
-        ("Graph::of", [graph]) => graph_of(alloc, graph),
-        ("Graph::copy", [graph]) => copy_graph(alloc, graph),
-        ("Pattern::copy", [pattern]) => copy_pattern(alloc, pattern),
-        ("write_iri", [text]) => written_iri(alloc, text),
-        ("write_term", [term]) => written_term(alloc, term),
+// The calls on texts, and after them those on terms and on what is made of them.
+fn of_one(alloc: Global, call: &str, field: &str) -> Option<String> {
+    match call {
+        "Iri::read" => read_iri(alloc, field),
+        "Name::read" => read_name(alloc, field),
+        "Literal::plain" => plain(alloc, field),
+        "is_tag" => shown::truth(alloc, is_tag(field)),
+        "write_iri" => written_iri(alloc, field),
+        _ => of_terms(alloc, call, field),
+    }
+}
+
+fn of_terms(alloc: Global, call: &str, field: &str) -> Option<String> {
+    match call {
+        "Term::compare" => compare(alloc, field),
+        "Graph::of" => graph_of(alloc, field),
+        "Graph::copy" => copy_graph(alloc, field),
+        "Pattern::copy" => copy_pattern(alloc, field),
+        "write_term" => written_term(alloc, field),
+        _ => None,
+    }
+}
+
+// The calls on a form and what stands behind it.
+fn of_literal(alloc: Global, call: &str, form: &str, behind: &str) -> Option<String> {
+    match call {
+        "Literal::typed" => typed(alloc, form, behind),
+        "Literal::tagged" => tagged(alloc, form, behind),
         _ => None,
     }
 }

@@ -8,14 +8,28 @@ use std::fmt::Write;
 
 /// What a call gives.
 pub fn answer(alloc: Global, call: &str, inputs: &[&str]) -> Option<String> {
-    match (call, inputs) {
-        ("tokens", [text]) => read(alloc, text),
-        ("tokens of repeated", [piece, times]) => count(alloc, piece, times),
-        ("decoding::iri", [text]) => decoded_iri(alloc, text),
-        ("decoding::iri_text", [text]) => iri_text(alloc, text),
-        ("decoding::quoted", [text]) => quoted(alloc, text),
-        ("decoding::prefix_name", [text]) => prefix_name(alloc, text),
-        ("decoding::behind_first", [text]) => shown::word(alloc, decoding::behind_first(text)),
+    match inputs {
+        [text] => of_text(alloc, call, text),
+        [piece, times] => of_repeated(alloc, call, piece, times),
+        _ => None,
+    }
+}
+
+fn of_text(alloc: Global, call: &str, text: &str) -> Option<String> {
+    match call {
+        "tokens" => read(alloc, text),
+        "decoding::iri" => decoded_iri(alloc, text),
+        "decoding::iri_text" => iri_text(alloc, text),
+        "decoding::quoted" => quoted(alloc, text),
+        "decoding::prefix_name" => prefix_name(alloc, text),
+        "decoding::behind_first" => shown::word(alloc, decoding::behind_first(text)),
+        _ => None,
+    }
+}
+
+fn of_repeated(alloc: Global, call: &str, piece: &str, times: &str) -> Option<String> {
+    match call {
+        "tokens of repeated" => count(alloc, piece, times),
         _ => None,
     }
 }

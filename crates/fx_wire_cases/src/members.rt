@@ -14,17 +14,48 @@ use std::alloc::Global;
 
 /// What a call gives.
 pub fn answer(alloc: Global, call: &str, inputs: &[&str]) -> Option<String> {
-    match (call, inputs) {
-        ("answer", [graph, query, down]) => answered(alloc, graph, query, down),
-        ("serve_one", [graph, input]) => served(alloc, graph, input),
-        ("serve_one with a read that fails", [graph, input]) => failing_reads(alloc, graph, input),
-        ("serve_one with a write that fails", [graph, input, whole]) => {
-            failing_writes(alloc, graph, input, whole)
-        }
-        ("GraphWire", [graph, exchanges @ ..]) => graph_exchanges(alloc, graph, exchanges),
-        ("FaultWire", [graph, fails, exchanges @ ..]) => {
-            fault_exchanges(alloc, graph, fails, exchanges)
-        }
+    match call {
+        "GraphWire" => over_graphs(alloc, inputs),
+        "FaultWire" => with_faults(alloc, inputs),
+        _ => of_graph(alloc, call, inputs),
+    }
+}
+
+fn over_graphs(alloc: Global, inputs: &[&str]) -> Option<String> {
+    match inputs {
+        [graph, exchanges @ ..] => graph_exchanges(alloc, graph, exchanges),
+        _ => None,
+    }
+}
+
+fn with_faults(alloc: Global, inputs: &[&str]) -> Option<String> {
+    match inputs {
+        [graph, fails, exchanges @ ..] => fault_exchanges(alloc, graph, fails, exchanges),
+        _ => None,
+    }
+}
+
+// The calls over one graph.
+fn of_graph(alloc: Global, call: &str, inputs: &[&str]) -> Option<String> {
+    match inputs {
+        [graph, input] => of_input(alloc, call, graph, input),
+        [graph, first, second] => of_two(alloc, call, graph, first, second),
+        _ => None,
+    }
+}
+
+fn of_input(alloc: Global, call: &str, graph: &str, input: &str) -> Option<String> {
+    match call {
+        "serve_one" => served(alloc, graph, input),
+        "serve_one with a read that fails" => failing_reads(alloc, graph, input),
+        _ => None,
+    }
+}
+
+fn of_two(alloc: Global, call: &str, graph: &str, first: &str, second: &str) -> Option<String> {
+    match call {
+        "answer" => answered(alloc, graph, first, second),
+        "serve_one with a write that fails" => failing_writes(alloc, graph, first, second),
         _ => None,
     }
 }

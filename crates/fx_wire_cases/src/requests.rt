@@ -15,26 +15,40 @@ const WHOLE: u64 = 1_000_000;
 
 /// What a call gives.
 pub fn answer(alloc: Global, call: &str, inputs: &[&str]) -> Option<String> {
-    match (call, inputs) {
-        ("request_bytes", [port, text]) => posted(alloc, port, text),
-        ("read_request", [bytes]) => asked_by_field(alloc, bytes),
-        ("read_request of a long head", [count, size]) => asked_by_head(alloc, count, size),
-        ("read_request of a long text", [size]) => asked_by_length(alloc, size),
-        ("read_request with each read failing", [bytes]) => faults(alloc, bytes),
-        ("read_request leaves", [bytes]) => left_behind(alloc, bytes),
-        _ => of_replies(alloc, call, inputs),
+    match inputs {
+        [field] => of_one(alloc, call, field),
+        [first, second] => of_two(alloc, call, first, second),
+        _ => None,
     }
 }
 
-// The calls on replies, and on what is made of a request.
-fn of_replies(alloc: Global, call: &str, inputs: &[&str]) -> Option<String> {
-    match (call, inputs) {
-        ("reply_bytes", [status, body]) => replied(alloc, status, body),
-        ("Asked::into_text", [bytes]) => text_taken_out(alloc, bytes),
-        ("RequestError::status", [name]) => status_text(alloc, name),
-        ("read_reply", [bytes]) => answered_by_field(alloc, bytes),
-        ("read_reply of a long head", [count]) => answered_by_head(alloc, count),
-        ("Reply::into_body", [bytes]) => body_taken_out(alloc, bytes),
+// The calls on a request, and after them those on a reply, and on what is made of a request.
+fn of_one(alloc: Global, call: &str, field: &str) -> Option<String> {
+    match call {
+        "read_request" => asked_by_field(alloc, field),
+        "read_request of a long text" => asked_by_length(alloc, field),
+        "read_request with each read failing" => faults(alloc, field),
+        "read_request leaves" => left_behind(alloc, field),
+        _ => of_reply(alloc, call, field),
+    }
+}
+
+fn of_reply(alloc: Global, call: &str, field: &str) -> Option<String> {
+    match call {
+        "Asked::into_text" => text_taken_out(alloc, field),
+        "RequestError::status" => status_text(alloc, field),
+        "read_reply" => answered_by_field(alloc, field),
+        "read_reply of a long head" => answered_by_head(alloc, field),
+        "Reply::into_body" => body_taken_out(alloc, field),
+        _ => None,
+    }
+}
+
+fn of_two(alloc: Global, call: &str, first: &str, second: &str) -> Option<String> {
+    match call {
+        "request_bytes" => posted(alloc, first, second),
+        "read_request of a long head" => asked_by_head(alloc, first, second),
+        "reply_bytes" => replied(alloc, first, second),
         _ => None,
     }
 }

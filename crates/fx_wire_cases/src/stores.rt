@@ -11,16 +11,46 @@ use std::sync::ledger::{Blank, Ledger};
 
 /// What a call gives.
 pub fn answer(alloc: Global, call: &str, inputs: &[&str]) -> Option<String> {
-    match (call, inputs) {
-        ("Store::matches", [graph, pattern, solution]) => matches(alloc, graph, pattern, solution),
-        ("Store::matches_counted of many", [count, pattern]) => counted(alloc, count, pattern),
-        ("Store::extend of one row", [graph, pattern, row, count]) => {
-            extend(alloc, graph, pattern, row, count)
-        }
-        ("Store::some_fits", [graph, pattern, solution]) => {
-            some_fits(alloc, graph, pattern, solution)
-        }
-        ("Store::has", [graph, triple]) => has(alloc, graph, triple),
+    match inputs {
+        [first, second] => of_two(alloc, call, first, second),
+        [graph, pattern, solution] => of_three(alloc, call, graph, pattern, solution),
+        [graph, pattern, row, count] => of_four(alloc, call, graph, pattern, row, count),
+        _ => None,
+    }
+}
+
+fn of_two(alloc: Global, call: &str, first: &str, second: &str) -> Option<String> {
+    match call {
+        "Store::matches_counted of many" => counted(alloc, first, second),
+        "Store::has" => has(alloc, first, second),
+        _ => None,
+    }
+}
+
+fn of_three(
+    alloc: Global,
+    call: &str,
+    graph: &str,
+    pattern: &str,
+    solution: &str,
+) -> Option<String> {
+    match call {
+        "Store::matches" => matches(alloc, graph, pattern, solution),
+        "Store::some_fits" => some_fits(alloc, graph, pattern, solution),
+        _ => None,
+    }
+}
+
+fn of_four(
+    alloc: Global,
+    call: &str,
+    graph: &str,
+    pattern: &str,
+    row: &str,
+    count: &str,
+) -> Option<String> {
+    match call {
+        "Store::extend of one row" => extend(alloc, graph, pattern, row, count),
         _ => None,
     }
 }
