@@ -2,8 +2,8 @@
 
 use crate::{commands, devices, runs, served};
 use fx_bound_cases::batches;
-use fx_mediator_cases::mediations;
-use fx_plan_cases::{engine, plans, registries, sources};
+use fx_mediator_cases::{engine, mediations};
+use fx_plan_cases::{plans, registries, sources};
 use fx_pool_cases::jobs;
 use fx_text_cases::{
     algebra, expressions, ntriples, print, results, solutions, syntax, terms, tokens,

@@ -1,5 +1,5 @@
 //! What is to be done for a query, place by place.
-ghost use Rattle.std.specs.Prelude.{◌≡◌, ◌∷◌, IfOk, IsTrue, List, length};
+ghost use Rattle.std.specs.Prelude.{◌≡◌, ◌∷◌, IfOk, List, length};
 ghost use Rattle.std.specs.Vec.Iter.{into_iter_items};
 ghost use Rattle.fx_plan.specs.declared.parts.Part.{Part as PlanPart};
 ghost use Rattle.fx_engine.specs.Tasks as spec;

@@ -3,18 +3,13 @@
 ghost use Rattle.std.specs.Prelude.{◌≡◌, ◌<◌, ◌≤◌, IfSome, length};
 ghost use Rattle.fx_engine.specs.Mediation.{IsSpellable};
 
+use crate::calls;
+use crate::calls::{address, name_of, parsed, port_of, registry_of};
 use fx_algebra::Query;
-use fx_engine::{
-    Down, DownCause, FedError, Options, Outcome, ReplyFault, fault_code, fault_words, federate,
-    plan_parts,
-};
 use fx_member::{FaultWire, GraphWire};
-use fx_notation::{escapes, fields, notation, shown};
-use fx_plan::explain;
+use fx_notation::{fields, notation};
 use fx_sources::{AskCache, Registry};
-use fx_syntax::parse;
-use fx_terms::{Boxed, Graph, Iri};
-use fx_wire::Wire;
+use fx_terms::{Graph, Iri};
 use std::alloc::Global;
 use std::fmt::Write;
 use std::sync::Wait;
@@ -71,16 +66,6 @@ fn asked<R: Threads + Wait + Sync>(
     answered(rt, alloc, query.get(), block, &registry, wires)
 }
 
-fn parsed(alloc: Global, field: &str) -> Option<Boxed<Query>>
-    ensures { IfSome result (λ query. IsSpellable query) }
-{
-    let text = escapes::text(alloc, field)?;
-    match parse(alloc, text.as_bytes()) {
-        Ok(query) => Boxed::new(alloc, query).ok(),
-        Err(_) => None,
-    }
-}
-
 fn answered<R: Threads + Wait + Sync>(
     rt: &R,
     alloc: Global,
@@ -93,60 +78,7 @@ fn answered<R: Threads + Wait + Sync>(
     requires spellable { IsSpellable query.now }
 {
     let mut cache = AskCache::new(alloc).ok()?;
-    answered_by(rt, alloc, query, block, registry, &mut cache, wires)
-}
-
-fn answered_by<R: Threads + Wait + Sync, W: Wire + Send>(
-    rt: &R,
-    alloc: Global,
-    query: &Query,
-    block: u32,
-    registry: &Registry,
-    cache: &mut AskCache,
-    wires: &mut [W],
-) -> Option<String>
-    requires wired { (0 < length wires.old) × (length wires.old ≤ 16) }
-    requires spellable { IsSpellable query.now }
-{
-    if block == 0 || block > 64 {
-        return None;
-    }
-    match federate(rt, alloc, query, registry, cache, Options { block }, wires) {
-        Ok(outcome) => outcome_text(alloc, &outcome),
-        Err(error) => refusal_text(alloc, &error),
-    }
-}
-
-// The answer, and behind it each SERVICE that is down.
-fn outcome_text(alloc: Global, outcome: &Outcome) -> Option<String> {
-    let mut text = shown::answer(alloc, &outcome.answer)?;
-    for down in outcome.down.as_slice() {
-        push_down(&mut text, down)?;
-    }
-    Some(text)
-}
-
-fn push_down(text: &mut String, down: &Down) -> Option<()> {
-    let (place, iri) = (down.place, down.iri.text());
-    write!(text, " down {place} {iri} ").ok()?;
-    push_cause(text, &down.why)
-}
-
-fn push_cause(text: &mut String, why: &DownCause) -> Option<()> {
-    match why {
-        DownCause::Failed => text.push_str("Failed").ok(),
-        DownCause::Bad(bad) => push_fault(text, bad.why),
-        DownCause::TooLong { length } => write!(text, "TooLong {length}").ok(),
-        DownCause::Unknown => text.push_str("Unknown").ok(),
-    }
-}
-
-fn push_fault(text: &mut String, why: ReplyFault) -> Option<()> {
-    let words = fault_words(why);
-    match fault_code(why) {
-        None => write!(text, "Bad {words}").ok(),
-        Some(code) => write!(text, "Bad {words} {code}").ok(),
-    }
+    calls::answered(rt, alloc, query, block, registry, &mut cache, wires)
 }
 
 // Queries that are answered one after the other with one cache, each with the numbers of the exchanges that are to fail behind it.
@@ -181,7 +113,7 @@ fn told_next<R: Threads + Wait + Sync>(
 ) -> Option<String> {
     let mut wires = [failing_wire(alloc, graphs, fails)?];
     let query = parsed(alloc, query)?;
-    let answer = answered_by(rt, alloc, query.get(), 15, registry, cache, &mut wires)?;
+    let answer = calls::answered(rt, alloc, query.get(), 15, registry, cache, &mut wires)?;
     let held = cache.len();
     format!(in alloc; "{answer} holds {held}").ok()
 }
@@ -210,50 +142,7 @@ fn explained<R: Threads + Wait + Sync>(
 {
     let registry = registry_of(alloc, members)?;
     let query = parsed(alloc, query)?;
-    planned_by(rt, alloc, query.get(), &registry, wires)
-}
-
-fn planned_by<R: Threads + Wait + Sync>(
-    rt: &R,
-    alloc: Global,
-    query: &Query,
-    registry: &Registry,
-    wires: &mut [GraphWire],
-) -> Option<String>
-    requires wired { (0 < length wires.old) × (length wires.old ≤ 16) }
-    requires spellable { IsSpellable query.now }
-{
-    let mut cache = AskCache::new(alloc).ok()?;
-    match plan_parts(rt, alloc, query, registry, &mut cache, wires) {
-        Ok(parts) => explain(alloc, parts.as_slice(), registry.endpoints()).ok(),
-        Err(error) => refusal_text(alloc, &error),
-    }
-}
-
-fn refusal_text(alloc: Global, refusal: &FedError) -> Option<String> {
-    match refusal {
-        FedError::Member { name } => {
-            let name = name.as_str();
-            format!(in alloc; "member {name} failed").ok()
-        }
-        FedError::Service { iri } => {
-            let iri = iri.text();
-            format!(in alloc; "service {iri} failed").ok()
-        }
-        FedError::BadReply { name, bad: _ } => {
-            let name = name.as_str();
-            format!(in alloc; "bad reply from {name}").ok()
-        }
-        FedError::RequestTooLong { name, length } => {
-            let name = name.as_str();
-            format!(in alloc; "request for {name} has {length} bytes").ok()
-        }
-        FedError::UnknownService { iri } => {
-            let iri = iri.text();
-            format!(in alloc; "unknown service {iri}").ok()
-        }
-        FedError::Memory => None,
-    }
+    calls::planned(rt, alloc, query.get(), &registry, wires)
 }
 
 // The letter of each member with the numbers of its ASKs and of its other texts, and what the call gave.
@@ -290,35 +179,6 @@ fn plus_one(number: u64) -> Option<u64> {
     number.checked_add(1)
 }
 
-fn port_of(number: usize) -> Option<u16> {
-    match number {
-        0 => Some(8001),
-        1 => Some(8002),
-        2 => Some(8003),
-        3 => Some(8004),
-        _ => None,
-    }
-}
-
-fn name_of(number: usize) -> Option<&'static str> {
-    match number {
-        0 => Some("A"),
-        1 => Some("B"),
-        2 => Some("C"),
-        3 => Some("D"),
-        _ => None,
-    }
-}
-
-fn registry_of(alloc: Global, members: usize) -> Option<Registry> {
-    let mut text = String::new(alloc);
-    for number in 0..members {
-        let (name, port) = (name_of(number)?, port_of(number)?);
-        writeln!(text, "{name} http://127.0.0.1:{port}/sparql").ok()?;
-    }
-    Registry::read(alloc, text.as_bytes()).ok()
-}
-
 // One wire over all members.
 fn wires_of(alloc: Global, fields: &[&str]) -> Option<Vec<GraphWire>>
     ensures { IfSome result (λ wires. length wires.items ≡ 1) }
@@ -343,9 +203,7 @@ fn failing_wire(alloc: Global, fields: &[&str], fails: &str) -> Option<FaultWire
 }
 
 fn addressed(alloc: Global, number: usize, field: &str) -> Option<(Iri, Graph)> {
-    let port = port_of(number)?;
-    let address = format!(in alloc; "http://127.0.0.1:{port}/sparql").ok()?;
-    let address = Iri::read(alloc, address.as_str()).ok()?;
+    let address = address(alloc, port_of(number)?)?;
     let graph = notation::graph(alloc, field)?;
     Some((address, graph))
 }

@@ -3,7 +3,7 @@ ghost use Rattle.std.specs.Prelude.{IfOk, OnOk};
 ghost use Rattle.fx_algebra.specs.declared.queries.Element.TheVariants as element;
 ghost use Rattle.fx_member.specs.GroupRows as spec;
 
-use crate::optionals::{run_of, with_matches};
+use crate::optionals::{run_under, with_matches};
 use fx_algebra::{Element, Expr, Group, Solution};
 use fx_solutions::known_rows::known_to_rise;
 use fx_solutions::{extend, filter, inline_rows, join_with, left_join_with, minus_with};
@@ -15,8 +15,8 @@ use std::alloc::Global;
 /// each leaves the rows before it as they are.
 ///
 /// The group is gone through from left to right. A run of triple patterns is joined pattern by pattern, so the rows before it
-/// are known to the look-ups, as are those before an OPTIONAL whose group holds triple patterns and filters alone. A nested group, a UNION, any other
-/// OPTIONAL and a MINUS begin with the one empty solution. The filters of the group are applied at its end.
+/// are known to the look-ups, as are those before an OPTIONAL whose group holds triple patterns and filters alone, unless they are many and the triples of these
+/// patterns few. A nested group, a UNION, any other OPTIONAL and a MINUS begin with the one empty solution. The filters of the group are applied at its end.
 #[cycle(rows)]
 pub fn group_rows(alloc: Global, store: &Store, group: &Group) -> Result<Vec<Solution>, Memory>
     ensures { IfOk result (λ rows. spec.AreRowsOf group.now store.now rows.items) }
@@ -96,7 +96,7 @@ fn after_optional(
     ensures { IfOk result (λ rows. spec.AreAfter (element.Optional group.now) store.now before.items rows.items) }
 {
     let filters = filters_of(alloc, group)?;
-    if let Some(patterns) = run_of(alloc, group)? {
+    if let Some(patterns) = run_under(alloc, store, group, before.len())? {
         known_to_rise(before.as_slice());
         let rows = with_matches(
             alloc,

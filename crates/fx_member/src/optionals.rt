@@ -5,13 +5,49 @@ ghost use Rattle.fx_algebra.specs.Evaluation.{rows_from};
 ghost use Rattle.fx_member.specs.Optionals as spec;
 
 use fx_algebra::{Element, Expr, Group, Solution};
-use fx_solutions::filter;
+use fx_solutions::{filter, or_itself};
 use fx_store::Store;
 use fx_terms::{Memory, Pattern};
 use std::alloc::Global;
 
-/// The patterns of a group that holds triple patterns and filters alone, in text order; nothing where it holds anything else.
-pub(crate) fn run_of(alloc: Global, group: &Group) -> Result<Option<Vec<Pattern>>, Memory>
+// How many rows are looked up in the time in which one triple of a pattern is found and joined, as it was measured.
+const ROWS_FOR_A_TRIPLE: u64 = 4;
+
+/// The patterns of a group that holds triple patterns and filters alone, in text order, where they are to be looked up under so many rows; else
+/// nothing. They aren't where the rows are too many for the triples of each: there the group's rows are found at once, and joined.
+pub(crate) fn run_under(
+    alloc: Global,
+    store: &Store,
+    group: &Group,
+    rows: usize,
+) -> Result<Option<Vec<Pattern>>, Memory>
+    ensures { IfOk result (λ run. IfSome run (λ patterns. spec.IsRunOf group.now patterns.items)) }
+{
+    if has_enough(alloc, store, group, rows as u64) {
+        run_of(alloc, group)
+    } else {
+        Ok(None)
+    }
+}
+
+// Whether a triple pattern of the group has triples enough for so many rows to be looked up.
+fn has_enough(alloc: Global, store: &Store, group: &Group, rows: u64) -> bool {
+    let nothing = Solution::empty(alloc);
+    group.elements.as_slice().iter().any(|element| {
+        triples_of(store, element, &nothing).saturating_mul(ROWS_FOR_A_TRIPLE) >= rows
+    })
+}
+
+// How many triples have the constants of a triple pattern.
+fn triples_of(store: &Store, element: &Element, nothing: &Solution) -> u64 {
+    match element {
+        Element::Triple(pattern) => store.count(pattern, nothing),
+        _ => 0,
+    }
+}
+
+// The patterns of a group that holds triple patterns and filters alone, in text order; nothing where it holds anything else.
+fn run_of(alloc: Global, group: &Group) -> Result<Option<Vec<Pattern>>, Memory>
     ensures { IfOk result (λ run. IfSome run (λ patterns. spec.IsRunOf group.now patterns.items)) }
 {
     let mut patterns = Vec::new(alloc);
@@ -55,12 +91,9 @@ fn add_matches(
     ensures { OnOk result (rows.new.items ≡ rows.old.items ++ spec.matches_or_itself store.now patterns.now conditions.now row) }
 {
     let found = found_for(alloc, store, &row, patterns)?;
-    let mut found = filter(alloc, found, conditions)?;
-    if found.is_empty() {
-        rows.push(row)?;
-    } else {
-        rows.append(&mut found)?;
-    }
+    let found = filter(alloc, found, conditions)?;
+    let mut found = or_itself(row, found)?;
+    rows.append(&mut found)?;
     Ok(())
 }
 

@@ -1,7 +1,6 @@
-//! The cases of the mediator: registries, which endpoints are asked for what, plans, and answers over several endpoints.
+//! The cases of what a mediator does before it asks for rows: registries, which endpoints are asked for what, and plans.
 #![tactic(auto)]
 
-pub mod engine;
 pub mod plans;
 pub mod registries;
 pub mod sources;

@@ -100,7 +100,8 @@ fn matches(
     Ok(found)
 }
 
-fn or_itself(row: Solution, found: Vec<Solution>) -> Result<Vec<Solution>, Memory>
+/// What was found for a row, or the row itself where that is nothing.
+pub fn or_itself(row: Solution, found: Vec<Solution>) -> Result<Vec<Solution>, Memory>
     ensures { IfOk result (λ rows. rows.items ≡ spec.or_itself row found.items) }
 {
     let mut found = found;

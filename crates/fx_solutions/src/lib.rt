@@ -15,7 +15,7 @@ pub mod subtractions;
 pub mod tables;
 
 pub use joins::{join, join_with};
-pub use left_joins::{left_join, left_join_with};
+pub use left_joins::{left_join, left_join_with, or_itself};
 pub use ordered_rows::in_order;
 pub use rows::{extend, filter, inline_rows, union};
 pub use selections::sequence;

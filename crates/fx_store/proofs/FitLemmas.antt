@@ -1,15 +1,15 @@
 -- When a triple fits a pattern beside a row, and what the row is then.
 use Rattle.std.proofs.lemmas.List.{take_more}
 use Rattle.std.proofs.lemmas.List.Elements.{filter_map-append}
-use Rattle.std.proofs.Common.{◌≡◌, ◌∙◌, ap, sym, refl, ℕ, ◌<◌, ◌+◌, ◌++◌, length, take, get_or, Bool, true, false, ◌&&◌, ◌||◌, T, cond, List, [], ◌∷◌, fold, Option, Some, None, is_some, option_and_then}
+use Rattle.std.proofs.Common.{◌≡◌, ◌∙◌, ap, sym, refl, ℕ, ◌<◌, ◌+◌, ◌++◌, length, take, get_or, Bool, true, false, ◌&&◌, T, cond, List, [], ◌∷◌, Option, Some, None, is_some, option_and_then}
 use Rattle.std.proofs.Common.{append-nil}
 use Rattle.std.proofs.lemmas.List.Concat.{flat_map-append}
 use Rattle.std.specs.List.{filter_map, flat_map, cons_option, filter}
-use Rattle.std.specs.Option.{option_or, option_to_list}
+use Rattle.std.specs.Option.{option_to_list}
 use Rattle.std.specs.declared.cmp.Ordering.{Ordering}
 use Rattle.std.specs.declared.cmp.Ordering.TheVariants.{Less, Equal, Greater}
 use Rattle.std.specs.Ordering.{is_eq, ordering_reverse, ordering_then}
-use Rattle.std.specs.FinMap.Entries.{find-put, same_entries}
+use Rattle.std.specs.FinMap.Entries.{find-put}
 use Rattle.std.proofs.lemmas.Cmp.{tied_itself}
 use Rattle.std.proofs.lemmas.Map.Lookups.{exact_bytes}
 use Rattle.fx_terms.specs.Texts.{text_cmp, texts_total}
@@ -21,12 +21,10 @@ use Rattle.fx_terms.specs.declared.patterns.Pattern.{Pattern}
 use Rattle.fx_terms.specs.declared.patterns.PatternTerm.{PatternTerm}
 use Rattle.fx_terms.specs.declared.patterns.PatternTerm.TheVariants.{Variable, Constant}
 use Rattle.fx_terms.proofs.OrderLemmas.{exact_terms}
-use Rattle.fx_algebra.specs.Solutions.{Bindings, term_of, with_pair, same_term, rises, merge, agree, is_or_none}
-use Rattle.fx_algebra.specs.BasicGraphPatterns.{parts_of, forced, value_of, bound_to, with_part as part_with}
+use Rattle.fx_algebra.specs.Solutions.{Bindings, term_of, with_pair, same_term}
+use Rattle.fx_algebra.specs.BasicGraphPatterns.{parts_of, forced, value_of, bound_to, with_part}
 use Rattle.fx_algebra.proofs.ForcedLemmas.{Extends, IsForced, forced_is, of_outcome, same_value}
-use Rattle.fx_algebra.proofs.JoinLemmas.{find-merge}
-use Rattle.fx_algebra.proofs.PairLemmas.{rises_with, rises_merge}
-use Rattle.fx_store.specs.Lookups.{is_or_free, is_one_variable, fits_subject, fits_predicate, fits_object, with_part, added, has_parts, known_of}
+use Rattle.fx_store.specs.Lookups.{is_or_free, is_one_variable, fits_subject, fits_predicate, fits_object, has_parts, known_of}
 
 -- ---- tests
 
@@ -67,7 +65,7 @@ fits_bound s name term None = refl
 fits_bound s name term (Some value) = some_if (same_term value term) s
 
 -- a part fits where its value is the term or is free
-fits_part : (s : Bindings) (part : PatternTerm) (term : Term) → is_some (part_with s part term) ≡ is_or_free (value_of s part) term
+fits_part : (s : Bindings) (part : PatternTerm) (term : Term) → is_some (with_part s part term) ≡ is_or_free (value_of s part) term
 fits_part s (Constant constant) term = some_if (same_term constant term) s
 fits_part s (Variable name) term = fits_bound s name term (term_of s name)
 
@@ -94,7 +92,7 @@ after_bound s r n m t (Some value) old e =
     ∙ old_value s n m t (is_eq (text_cmp m n)) refl (old ∙ ap Some (same_from value t (tested s r (same_term value t) e)))
 
 -- the value of a part after another
-value_after : (s r : Bindings) (a b : PatternTerm) (t : Term) → part_with s a t ≡ Some r → value_of r b ≡ cond (is_one_variable a b) (Some t) (value_of s b)
+value_after : (s r : Bindings) (a b : PatternTerm) (t : Term) → with_part s a t ≡ Some r → value_of r b ≡ cond (is_one_variable a b) (Some t) (value_of s b)
 value_after s r (Constant constant) b t e = ap (λ v. value_of v b) (sym (unchanged s r (same_term constant t) e))
 value_after s r (Variable n) (Constant constant) t e = refl
 value_after s r (Variable n) (Variable m) t e = after_bound s r n m t (term_of s n) refl e
@@ -112,13 +110,13 @@ and_true : (b : Bool) → b ≡ (b && true)
 and_true true = refl
 and_true false = refl
 
-fits_second : (s r : Bindings) (p : Pattern) (t : Triple) → part_with s p.subject (Iri t.subject) ≡ Some r → is_or_free (value_of r p.predicate) (Iri t.predicate) ≡ fits_predicate p s t
+fits_second : (s r : Bindings) (p : Pattern) (t : Triple) → with_part s p.subject (Iri t.subject) ≡ Some r → is_or_free (value_of r p.predicate) (Iri t.predicate) ≡ fits_predicate p s t
 fits_second s r p t e =
     ap (λ v. is_or_free v (Iri t.predicate)) (value_after s r p.subject p.predicate (Iri t.subject) e)
     ∙ is_or_free_if (is_one_variable p.subject p.predicate) (Iri t.subject) (value_of s p.predicate) (Iri t.predicate)
     ∙ ap (λ v. cond (is_one_variable p.subject p.predicate) v (is_or_free (value_of s p.predicate) (Iri t.predicate))) (same_iris t.subject t.predicate)
 
-fits_third : (s r q : Bindings) (p : Pattern) (t : Triple) → part_with s p.subject (Iri t.subject) ≡ Some r → part_with r p.predicate (Iri t.predicate) ≡ Some q → is_or_free (value_of q p.object) t.object ≡ fits_object p s t
+fits_third : (s r q : Bindings) (p : Pattern) (t : Triple) → with_part s p.subject (Iri t.subject) ≡ Some r → with_part r p.predicate (Iri t.predicate) ≡ Some q → is_or_free (value_of q p.object) t.object ≡ fits_object p s t
 fits_third s r q p t e f =
     ap (λ v. is_or_free v t.object) (value_after r q p.predicate p.object (Iri t.predicate) f)
     ∙ is_or_free_if (is_one_variable p.predicate p.object) (Iri t.predicate) (value_of r p.object) t.object
@@ -130,104 +128,9 @@ fits_third s r q p t e f =
 -- a triple fits a pattern where each part does
 pub fits_is : (s : Bindings) (p : Pattern) (t : Triple) → is_some (forced s (parts_of p t)) ≡ (fits_subject p s t && (fits_predicate p s t && fits_object p s t))
 fits_is s p t =
-    both_some (part_with s p.subject (Iri t.subject)) (λ r. forced r ((p.predicate, Iri t.predicate) ∷ (p.object, t.object) ∷ [])) (fits_subject p s t) (fits_predicate p s t && fits_object p s t) (fits_part s p.subject (Iri t.subject))
-    (λ r e. both_some (part_with r p.predicate (Iri t.predicate)) (λ q. forced q ((p.object, t.object) ∷ [])) (fits_predicate p s t) (fits_object p s t) (fits_part r p.predicate (Iri t.predicate) ∙ fits_second s r p t e)
-    (λ q f. both_some (part_with q p.object t.object) (λ u. Some u) (fits_object p s t) true (fits_part q p.object t.object ∙ fits_third s r q p t e f) (λ u g. refl) ∙ sym (and_true (fits_object p s t))))
-
--- ---- what a triple adds to a row
-
--- no name that the row binds
-abbrev Apart : Bindings → Bindings → Type 0
-Apart row more = (name : List ℕ) → is_some (term_of row name) ≡ true → term_of more name ≡ None
-
--- a name that is bound is none of the free ones
-not_free : (row : Bindings) (name n : List ℕ) (term : Term) (o : Option Term) (b : Bool) → is_eq (text_cmp n name) ≡ b → is_some (term_of row name) ≡ false → is_some (term_of row n) ≡ true → o ≡ None → cond b (Some term) o ≡ None
-not_free row name n term o true e free bound h = let same : is_some (term_of row n) ≡ false = ap (λ v. is_some (term_of row v)) (name_from n name e) ∙ free in absurd (cc)
-not_free row name n term o false e free bound h = h
-
-apart_free : (row more : Bindings) (name : List ℕ) (term : Term) (a b : Bool) → is_some (term_of row name) ≡ a → Apart row more → Apart row (cond (a || b) more (with_pair more name term))
-apart_free row more name term true b e h = h
-apart_free row more name term false true e h = h
-apart_free row more name term false false e h = λ n bound. with_pair_has more name term n ∙ not_free row name n term (term_of more n) (is_eq (text_cmp n name)) refl e bound (h n bound)
-
-apart_part : (row more : Bindings) (part : PatternTerm) (term : Term) → Apart row more → Apart row (with_part row more part term)
-apart_part row more (Constant constant) term h = h
-apart_part row more (Variable name) term h = apart_free row more name term (is_some (term_of row name)) (is_some (term_of more name)) refl h
-
-abbrev adding : Bindings → Bindings → List (PatternTerm × Term) → Bindings
-adding row more cs = fold (λ m c. with_part row m c.0 c.1) more cs
-
-apart_parts : (row more : Bindings) (cs : List (PatternTerm × Term)) → Apart row more → Apart row (adding row more cs)
-apart_parts row more [] h = h
-apart_parts row more (c ∷ cs) h = apart_parts row (with_part row more c.0 c.1) cs (apart_part row more c.0 c.1 h)
-
-found_later : (b : Bool) (t : Term) (o : Option Term) → is_some o ≡ true → is_some (cond b (Some t) o) ≡ true
-found_later true t o h = refl
-found_later false t o h = h
-
-agree_apart : (row more : Bindings) → Apart row more → agree row more ≡ true
-agree_apart [] more h = refl
-agree_apart (e ∷ es) more h =
-    ap (λ o. is_or_none e.1 o && agree es more) (h e.0 (ap (λ o. is_some (cond (is_eq o) (Some e.1) (term_of es e.0))) (tied_itself texts_total e.0)))
-    ∙ agree_apart es more (λ n bound. h n (found_later (is_eq (text_cmp n e.0)) e.1 (term_of es n) bound))
-
--- what a triple adds agrees with the row
-pub agree_added : (row : Bindings) (cs : List (PatternTerm × Term)) → agree row (added row cs) ≡ true
-agree_added row cs = agree_apart row (added row cs) (apart_parts row [] cs (λ name bound. refl))
-
--- ---- the terms of merged solutions
-
-merged_found : (row more : Bindings) (name m : List ℕ) (term : Term) (b : Bool) → is_eq (text_cmp m name) ≡ b → term_of row name ≡ None
-    → cond b (Some term) (option_or (term_of row m) (term_of more m)) ≡ option_or (term_of row m) (cond b (Some term) (term_of more m))
-merged_found row more name m term true e h = sym (ap (λ o. option_or o (Some term)) (ap (term_of row) (name_from m name e) ∙ h))
-merged_found row more name m term false e h = refl
-
--- a pair that both lack may go to either
-merged_with : (row more : Bindings) (name : List ℕ) (term : Term) → rises row ≡ true → term_of row name ≡ None → with_pair (merge row more) name term ≡ merge row (with_pair more name term)
-merged_with row more name term up new =
-    same_entries text_cmp texts_total exact_bytes (with_pair (merge row more) name term) (merge row (with_pair more name term))
-    (to_T _ (rises_with (merge row more) name term (rises_merge row more up)))
-    (to_T _ (rises_merge row (with_pair more name term) up))
-    (λ m.
-    with_pair_has (merge row more) name term m
-    ∙ ap (λ o. cond (is_eq (text_cmp m name)) (Some term) o) (find-merge row more m)
-    ∙ merged_found row more name m term (is_eq (text_cmp m name)) refl new
-    ∙ ap (λ o. option_or (term_of row m) o) (sym (with_pair_has more name term m))
-    ∙ sym (find-merge row (with_pair more name term) m))
-
--- ---- the row with what a triple adds
-
-kept_if : (s : Bindings) (b : Bool) → is_some (cond b (Some s) None) ≡ true → cond b (Some s) None ≡ Some s
-kept_if s true h = refl
-kept_if s false h = cc
-
-merged_bound : (row more : Bindings) (name : List ℕ) (term : Term) (a b : Option Term) → rises row ≡ true → term_of row name ≡ a → is_some (bound_to (merge row more) name term (option_or a b)) ≡ true
-    → bound_to (merge row more) name term (option_or a b) ≡ Some (merge row (cond (is_some a || is_some b) more (with_pair more name term)))
-merged_bound row more name term (Some t) b up e h = kept_if (merge row more) (same_term t term) h
-merged_bound row more name term None (Some t) up e h = kept_if (merge row more) (same_term t term) h
-merged_bound row more name term None None up e h = ap Some (merged_with row more name term up e)
-
-merged_part : (row more : Bindings) (part : PatternTerm) (term : Term) → rises row ≡ true → is_some (part_with (merge row more) part term) ≡ true → part_with (merge row more) part term ≡ Some (merge row (with_part row more part term))
-merged_part row more (Constant constant) term up h = kept_if (merge row more) (same_term constant term) h
-merged_part row more (Variable name) term up h =
-    let found = find-merge row more name in
-    ap (bound_to (merge row more) name term) found
-    ∙ merged_bound row more name term (term_of row name) (term_of more name) up refl (ap (λ o. is_some (bound_to (merge row more) name term o)) (sym found) ∙ h)
-
-first_some : {X Y : Type 0} (o : Option X) (f : X → Option Y) → is_some (option_and_then f o) ≡ true → is_some o ≡ true
-first_some None f h = h
-first_some (Some x) f h = refl
-
-merged_parts : (row more : Bindings) (cs : List (PatternTerm × Term)) → rises row ≡ true → is_some (forced (merge row more) cs) ≡ true → forced (merge row more) cs ≡ Some (merge row (adding row more cs))
-merged_parts row more [] up h = refl
-merged_parts row more (c ∷ cs) up h =
-    let e = merged_part row more c.0 c.1 up (first_some (part_with (merge row more) c.0 c.1) (λ r. forced r cs) h) in
-    let f = ap (option_and_then (λ r. forced r cs)) e in
-    f ∙ merged_parts row (with_part row more c.0 c.1) cs up (ap is_some (sym f) ∙ h)
-
--- what parts that fit force is the row with what they add
-pub forced_added : (row : Bindings) (cs : List (PatternTerm × Term)) → rises row ≡ true → is_some (forced row cs) ≡ true → forced row cs ≡ Some (merge row (added row cs))
-forced_added row cs up h = merged_parts row [] cs up h
+    both_some (with_part s p.subject (Iri t.subject)) (λ r. forced r ((p.predicate, Iri t.predicate) ∷ (p.object, t.object) ∷ [])) (fits_subject p s t) (fits_predicate p s t && fits_object p s t) (fits_part s p.subject (Iri t.subject))
+    (λ r e. both_some (with_part r p.predicate (Iri t.predicate)) (λ q. forced q ((p.object, t.object) ∷ [])) (fits_predicate p s t) (fits_object p s t) (fits_part r p.predicate (Iri t.predicate) ∙ fits_second s r p t e)
+    (λ q f. both_some (with_part q p.object t.object) (λ u. Some u) (fits_object p s t) true (fits_part q p.object t.object ∙ fits_third s r q p t e f) (λ u g. refl) ∙ sym (and_true (fits_object p s t))))
 
 -- ---- the triples that may fit
 

@@ -1,5 +1,5 @@
 -- Which triples a pattern is tried on beside a row, how many these are, and how it is tried on one.
-use Rattle.std.specs.Prelude.{ℕ, suc, ◌+◌, ◌*◌, Bool, true, false, List, [], ◌∷◌, Option, Some, None, ◌||◌, ◌&&◌, length, filter, fold, is_some, if◌then◌else◌}
+use Rattle.std.specs.Prelude.{ℕ, suc, ◌+◌, ◌*◌, Bool, true, false, List, [], ◌∷◌, Option, Some, None, ◌&&◌, length, filter, is_some, if◌then◌else◌}
 use Rattle.std.specs.Int.Digits.{digits_of}
 use Rattle.std.specs.declared.cmp.Ordering.{Ordering}
 use Rattle.std.specs.declared.cmp.Ordering.TheVariants.{Equal}
@@ -12,7 +12,7 @@ use Rattle.fx_terms.specs.declared.triples.Triple.{Triple}
 use Rattle.fx_terms.specs.declared.patterns.Pattern.{Pattern}
 use Rattle.fx_terms.specs.declared.patterns.PatternTerm.{PatternTerm}
 use Rattle.fx_terms.specs.declared.patterns.PatternTerm.TheVariants.{Variable, Constant}
-use Rattle.fx_algebra.specs.Solutions.{Bindings, term_of, with_pair, same_term}
+use Rattle.fx_algebra.specs.Solutions.{Bindings, term_of, same_term}
 use Rattle.fx_algebra.specs.BasicGraphPatterns.{parts_of, forced, value_of}
 use Rattle.fx_store.specs.Orders.{next, term_at, first_of, in_order}
 use Rattle.fx_store.specs.declared.orders.Part.{Part}
@@ -147,15 +147,16 @@ fits_object p row t =
     then same_term t.object (Iri t.predicate)
     else (if is_one_variable p.subject p.object then same_term t.object (Iri t.subject) else is_or_free (value_of row p.object) t.object)
 
--- with a name's term, where the name is bound neither here nor by the row
-abbrev pub with_free : Bindings → Bindings → List ℕ → Term → Bindings
-with_free row more name term = if is_some (term_of row name) || is_some (term_of more name) then more else with_pair more name term
+-- ---- what a row is with a triple
 
--- with a part's term, where the part is a variable that is bound neither here nor by the row
-abbrev pub with_part : Bindings → Bindings → PatternTerm → Term → Bindings
-with_part row more (Constant constant) term = more
-with_part row more (Variable name) term = with_free row more name term
+-- the name of a part, where it is a variable that the row leaves unbound
+abbrev pub free_name : Bindings → PatternTerm → Option (List ℕ)
+free_name row (Constant constant) = None
+free_name row (Variable name) = if is_some (term_of row name) then None else Some name
 
--- what parts bind that a row leaves unbound
-abbrev pub added : Bindings → List (PatternTerm × Term) → Bindings
-added row parts = fold (λ more c. with_part row more c.0 c.1) [] parts
+-- the parts behind the predicate and behind the subject, each beside that of a triple
+abbrev pub behind_predicate : Pattern → Triple → List (PatternTerm × Term)
+behind_predicate p t = (p.object, t.object) ∷ []
+
+abbrev pub behind_subject : Pattern → Triple → List (PatternTerm × Term)
+behind_subject p t = (p.predicate, Iri t.predicate) ∷ behind_predicate p t

@@ -1,9 +1,9 @@
 //! One pattern beside one row (SPARQL 1.1 section 18.3): the triples that fit, and what the row is with each of them.
-ghost use Rattle.std.specs.Prelude.{◌≡◌, ◌≤◌, ◌+◌, ◌-◌, ◌++◌, is_some, length, true, IfOk, OnOk, Some};
+ghost use Rattle.std.specs.Prelude.{◌≡◌, ◌≤◌, ◌+◌, ◌-◌, ◌++◌, is_some, length, true, IfOk, OnOk, None, Some};
 ghost use Rattle.std.specs.List.{filter_map, slice_get};
 ghost use Rattle.std.specs.Option.{option_copied, option_to_list};
 ghost use Rattle.fx_terms.specs.declared.terms.Term.TheVariants.{Iri as IriTerm};
-ghost use Rattle.fx_algebra.specs.Solutions.{same_term};
+ghost use Rattle.fx_algebra.specs.Solutions.{same_term, term_of, with_pair};
 ghost use Rattle.fx_algebra.specs.Sequences.{sorted_by};
 ghost use Rattle.fx_algebra.specs.BasicGraphPatterns.{parts_of, forced};
 ghost use Rattle.fx_store.specs.Lookups as spec;
@@ -223,66 +223,103 @@ fn with_triple(
     requires { is_some (forced row.now (parts_of pattern.now triple.now)) ≡ true }
     ensures { IfOk result (λ more. forced row.now (parts_of pattern.now triple.now) ≡ Some more) }
 {
-    let more = added(alloc, row, pattern, triple)?;
-    row.merge(alloc, &more)
+    match free(&pattern.subject, row) {
+        None => with_predicate(alloc, row, pattern, triple),
+        Some(name) => {
+            let more = with_iri(alloc, row, name, &triple.subject)?;
+            and_predicate(alloc, more, pattern, triple)
+        }
+    }
 }
 
-// What a triple binds that a row leaves unbound.
-fn added(
+// A row with what the parts behind the subject add.
+fn with_predicate(
     alloc: Global,
     row: &Solution,
     pattern: &Pattern,
     triple: &Triple,
 ) -> Result<Solution, Memory>
-    ensures { IfOk result (λ more. more ≡ spec.added row.now (parts_of pattern.now triple.now)) }
+    requires { is_some (forced row.now (spec.behind_subject pattern.now triple.now)) ≡ true }
+    ensures { IfOk result (λ more. forced row.now (spec.behind_subject pattern.now triple.now) ≡ Some more) }
 {
-    let more = Solution::empty(alloc);
-    let more = with_iri(alloc, more, row, &pattern.subject, &triple.subject)?;
-    let more = with_iri(alloc, more, row, &pattern.predicate, &triple.predicate)?;
-    with_part(alloc, more, row, &pattern.object, &triple.object)
+    match free(&pattern.predicate, row) {
+        None => with_object(alloc, row, pattern, triple),
+        Some(name) => {
+            let more = with_iri(alloc, row, name, &triple.predicate)?;
+            and_object(alloc, more, pattern, triple)
+        }
+    }
 }
 
-// With a part's term, where the part is a variable that is bound neither here nor by the row.
-fn with_part(
+// The same of a row that is handed over.
+fn and_predicate(
     alloc: Global,
-    more: Solution,
-    row: &Solution,
-    part: &PatternTerm,
-    term: &Term,
+    row: Solution,
+    pattern: &Pattern,
+    triple: &Triple,
 ) -> Result<Solution, Memory>
-    ensures { IfOk result (λ with. with ≡ spec.with_part row.now more part.now term.now) }
+    requires { is_some (forced row (spec.behind_subject pattern.now triple.now)) ≡ true }
+    ensures { IfOk result (λ more. forced row (spec.behind_subject pattern.now triple.now) ≡ Some more) }
+{
+    match free(&pattern.predicate, &row) {
+        None => and_object(alloc, row, pattern, triple),
+        Some(name) => {
+            let more = with_iri(alloc, &row, name, &triple.predicate)?;
+            and_object(alloc, more, pattern, triple)
+        }
+    }
+}
+
+// A row with what the object adds.
+fn with_object(
+    alloc: Global,
+    row: &Solution,
+    pattern: &Pattern,
+    triple: &Triple,
+) -> Result<Solution, Memory>
+    requires { is_some (forced row.now (spec.behind_predicate pattern.now triple.now)) ≡ true }
+    ensures { IfOk result (λ more. forced row.now (spec.behind_predicate pattern.now triple.now) ≡ Some more) }
+{
+    match free(&pattern.object, row) {
+        None => row.copy(alloc),
+        Some(name) => row.with(alloc, name, &triple.object),
+    }
+}
+
+// The same of a row that is handed over.
+fn and_object(
+    alloc: Global,
+    row: Solution,
+    pattern: &Pattern,
+    triple: &Triple,
+) -> Result<Solution, Memory>
+    requires { is_some (forced row (spec.behind_predicate pattern.now triple.now)) ≡ true }
+    ensures { IfOk result (λ more. forced row (spec.behind_predicate pattern.now triple.now) ≡ Some more) }
+{
+    match free(&pattern.object, &row) {
+        None => Ok(row),
+        Some(name) => row.with(alloc, name, &triple.object),
+    }
+}
+
+// The name of a part, where it is a variable that a row leaves unbound.
+fn free<'a>(part: &'a PatternTerm, row: &Solution) -> Option<&'a Name>
+    ensures { option_copied result ≡ spec.free_name row.now part.now }
 {
     match part {
-        PatternTerm::Constant(_) => Ok(more),
-        PatternTerm::Variable(name) => with_free(alloc, more, row, name, term),
+        PatternTerm::Constant(_) => None,
+        PatternTerm::Variable(name) => match row.get(name) {
+            Some(_) => None,
+            None => Some(name),
+        },
     }
 }
 
-// The same with a part's IRI.
-fn with_iri(
-    alloc: Global,
-    more: Solution,
-    row: &Solution,
-    part: &PatternTerm,
-    iri: &Iri,
-) -> Result<Solution, Memory>
-    ensures { IfOk result (λ with. with ≡ spec.with_part row.now more part.now (IriTerm iri.now)) }
+// A row with an IRI under a name that it leaves unbound.
+fn with_iri(alloc: Global, row: &Solution, name: &Name, iri: &Iri) -> Result<Solution, Memory>
+    requires { term_of row.now name.now ≡ None }
+    ensures { IfOk result (λ more. more ≡ with_pair row.now name.now (IriTerm iri.now)) }
 {
     let term = Term::Iri(iri.copy()?);
-    with_part(alloc, more, row, part, &term)
-}
-
-fn with_free(
-    alloc: Global,
-    more: Solution,
-    row: &Solution,
-    name: &Name,
-    term: &Term,
-) -> Result<Solution, Memory>
-    ensures { IfOk result (λ with. with ≡ spec.with_free row.now more name.now term.now) }
-{
-    if row.get(name).is_some() || more.get(name).is_some() {
-        return Ok(more);
-    }
-    more.with(alloc, name, term)
+    row.with(alloc, name, &term)
 }

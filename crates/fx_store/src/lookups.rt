@@ -105,6 +105,30 @@ pub(crate) fn run<L: Ledger>(orders: &Orders, sought: &Sought<'_>, steps: &mut S
     Run { order, start, end }
 }
 
+/// How many triples have the parts that a pattern has under a row. It takes no memory.
+pub(crate) fn count<L: Ledger>(
+    orders: &Orders,
+    pattern: &Pattern,
+    row: &Solution,
+    steps: &mut Steps<L>,
+) -> u64
+    ensures count { result ≡ length (filter (spec.has_parts (spec.known_of pattern.now row.now)) orders.now) }
+    ensures steps { steps.new ≤ steps.old + 2 * spec.binary_digits (length orders.now) }
+{
+    match Sought::of(pattern, row) {
+        None => 0,
+        Some(sought) => count_of(orders, &sought, steps),
+    }
+}
+
+fn count_of<L: Ledger>(orders: &Orders, sought: &Sought<'_>, steps: &mut Steps<L>) -> u64
+    ensures count { result ≡ length (filter (spec.has_parts sought.now) orders.now) }
+    ensures steps { steps.new ≤ steps.old + 2 * spec.binary_digits (length orders.now) }
+{
+    let found = run(orders, sought, steps);
+    found.end - found.start
+}
+
 // The first place of an order whose triple doesn't stand in front of an end of those that are sought, by halves.
 fn search<L: Ledger>(
     orders: &Orders,

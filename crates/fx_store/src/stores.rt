@@ -1,17 +1,17 @@
 //! Stores.
-ghost use Rattle.std.specs.Prelude.{◌≡◌, ◌↔◌, ◌≤◌, ◌+◌, true, IfOk, Contains};
+ghost use Rattle.std.specs.Prelude.{◌≡◌, ◌↔◌, ◌≤◌, ◌+◌, true, IfOk, Contains, filter, length};
 ghost use Rattle.std.specs.List.{filter_map};
 ghost use Rattle.fx_terms.specs.Graphs.{IsGraph};
 ghost use Rattle.fx_algebra.specs.Answers.{has_rows};
 ghost use Rattle.fx_algebra.specs.BasicGraphPatterns.{bgp, forced, parts_of};
 ghost use Rattle.fx_algebra.specs.Evaluation.{extended};
 ghost use Rattle.fx_algebra.specs.Operators.{merges};
-ghost use Rattle.fx_store.specs.Lookups.{most_steps, most_tries};
+ghost use Rattle.fx_store.specs.Lookups.{has_parts, known_of, most_steps, most_tries};
 ghost use Rattle.fx_store.specs.Stores.{alone};
 
 use crate::evaluation::rows_of;
 use crate::finding::some_fits;
-use crate::lookups::{Sought, run};
+use crate::lookups::{Sought, count, run};
 use crate::orders::{Orders, Steps};
 use fx_algebra::Solution;
 use fx_terms::{Graph, Memory, Pattern, Triple};
@@ -196,6 +196,25 @@ impl Store {
         // As in `matches_counted`, the names rise.
         let _pairs = solution.pairs();
         some_fits(&self.orders, pattern, solution, steps)
+    }
+
+    /// How many triples are equal to a pattern at each place where that has a constant, or a variable that the solution binds: no more than
+    /// so many fit it. It takes no memory, and goes over no triples: they stand side by side.
+    pub fn count(&self, pattern: &Pattern, solution: &Solution) -> u64
+        ensures { result ≡ length (filter (has_parts (known_of pattern.now solution.now)) self.now) }
+    {
+        self.count_from::<Brand>(pattern, solution, Blank::new(1))
+    }
+
+    fn count_from<L: Ledger>(&self, pattern: &Pattern, solution: &Solution, blank: Blank) -> u64
+        requires name { blank.name ≡ L.name }
+        requires parts { blank.parts ≡ L.parts }
+        requires one { blank.parts ≡ 1 }
+        ensures { result ≡ length (filter (has_parts (known_of pattern.now solution.now)) self.now) }
+    {
+        let (book, share) = blank.open::<L>();
+        let mut steps = Steps::of(book, share);
+        count(&self.orders, pattern, solution, &mut steps)
     }
 
     /// Whether a triple is in it. It takes no memory.

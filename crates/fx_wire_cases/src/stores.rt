@@ -37,6 +37,7 @@ fn of_three(
     match call {
         "Store::matches" => matches(alloc, graph, pattern, solution),
         "Store::some_fits" => some_fits(alloc, graph, pattern, solution),
+        "Store::count" => count(alloc, graph, pattern, solution),
         _ => None,
     }
 }
@@ -198,6 +199,22 @@ fn some_fits_in(alloc: Global, store: &Store, pattern: &str, solution: &str) -> 
 fn some_fits_of(alloc: Global, store: &Store, pattern: &Pattern, solution: &str) -> Option<String> {
     let solution = notation::solution(alloc, solution)?;
     shown::truth(alloc, store.some_fits(pattern, &solution))
+}
+
+fn count(alloc: Global, graph: &str, pattern: &str, solution: &str) -> Option<String> {
+    let store = store(alloc, graph)?;
+    count_in(alloc, &store, pattern, solution)
+}
+
+fn count_in(alloc: Global, store: &Store, pattern: &str, solution: &str) -> Option<String> {
+    let pattern = notation::pattern(alloc, pattern)?;
+    count_of(alloc, store, pattern.get(), solution)
+}
+
+fn count_of(alloc: Global, store: &Store, pattern: &Pattern, solution: &str) -> Option<String> {
+    let solution = notation::solution(alloc, solution)?;
+    let count = store.count(pattern, &solution);
+    format!(in alloc; "{count}").ok()
 }
 
 fn has(alloc: Global, graph: &str, triple: &str) -> Option<String> {

@@ -11,21 +11,17 @@ use Rattle.fx_store.specs.Lookups.{Known, known_of, has_parts}
 use Rattle.fx_store.specs.declared.orders.Run.{Run}
 use Rattle.fx_store.specs.declared.orders.Part.TheVariants.{Subject}
 use Rattle.fx_store.proofs.FitLemmas.{fitting}
-use Rattle.fx_store.proofs.RunLemmas.{as_many, as_many_with, in_place, sorted_in_place}
-use Rattle.fx_store.proofs.WalkLemmas.{run_length}
+use Rattle.fx_store.proofs.CountLemmas.{run_count}
+use Rattle.fx_store.proofs.RunLemmas.{in_place, sorted_in_place}
 use Rattle.fx_store.proofs.evaluation.rows_with_parts.Goals as goal
 
 -- what fits is what fits of those with the known parts
 of_known : (row : Bindings) (p : Pattern) (graph : List Triple) (k : Known) → k ≡ known_of p row → filter_map (λ t. forced row (parts_of p t)) (filter (has_parts k) graph) ≡ filter_map (λ t. forced row (parts_of p t)) graph
 of_known row p graph k e = ap (λ v. filter_map (λ t. forced row (parts_of p t)) (filter (has_parts v) graph)) e ∙ fitting row p graph
 
--- a run has as many triples as the graph has with the known parts
+-- a run has as many triples as the graph has with the parts that the pattern has under the row
 many : (run : Run) (row : Bindings) (p : Pattern) (graph : List Triple) (k : Known) → k ≡ known_of p row → IsWithin run graph → triples_of run graph ≡ filter (has_parts k) (in_order run.order graph) → run.end - run.start ≡ length (filter (has_parts (known_of p row)) graph)
-many run row p graph k e w h =
-    sym (run_length (in_order run.order graph) run.start run.end w.rises (omega (arith, as_many run.order graph, w.ends)))
-    ∙ ap length h
-    ∙ as_many_with (has_parts k) run.order graph
-    ∙ ap (λ v. length (filter (has_parts v) graph)) e
+many run row p graph k e w h = run_count run graph k w h ∙ ap (λ v. length (filter (has_parts v) graph)) e
 
 pub returns-then-is_predicate_alone-clause-rows : goal.returns-then-is_predicate_alone-clause-rows
 returns-then-is_predicate_alone-clause-rows g c =

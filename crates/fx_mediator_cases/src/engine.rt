@@ -2,26 +2,17 @@
 //! have a `|` between: `yes` and `no`, tables as their columns, a `/`, and their rows with a `;` behind each, and bytes that begin
 //! with `HTTP/1.1 `.
 ghost use Rattle.std.specs.Prelude.{◌≡◌, ◌<◌, ◌≤◌, IfSome, length};
-ghost use Rattle.fx_engine.specs.Mediation.{IsSpellable};
 
-use fx_algebra::{Answer, Query, Solution};
-use fx_engine::{
-    Down, DownCause, FedError, Options, Outcome, ReplyFault, fault_code, fault_words, federate,
-    plan_parts,
-};
+use crate::calls;
+use crate::calls::{address, parsed, registry_of};
 use fx_notation::{escapes, fields};
-use fx_plan::explain;
-use fx_print::print;
-use fx_sources::{AskCache, Registry};
-use fx_syntax::parse;
-use fx_terms::{Boxed, Iri, Name, Term};
+use fx_sources::AskCache;
+use fx_terms::Iri;
 use fx_wire::ScriptWire;
 use std::alloc::Global;
 use std::fmt::Write;
 use std::sync::Wait;
 use std::thread::Threads;
-
-const REGISTRY: &str = "A http://127.0.0.1:8001/sparql\nB http://127.0.0.1:8002/sparql\n";
 
 /// What a call gives.
 pub fn answer<R: Threads + Wait + Sync>(
@@ -34,24 +25,7 @@ pub fn answer<R: Threads + Wait + Sync>(
         ("federate", [query, first, second]) => federated(rt, alloc, query, first, second),
         ("federate with one cache", steps) => federated_in_turn(rt, alloc, steps),
         ("plan_parts", [query, first, second]) => planned(rt, alloc, query, first, second),
-        ("print", [query]) => printed(alloc, query),
         _ => None,
-    }
-}
-
-// The printed text of a query.
-fn printed(alloc: Global, field: &str) -> Option<String> {
-    let query = parsed(alloc, field)?;
-    print(alloc, query.get()).ok()
-}
-
-fn parsed(alloc: Global, field: &str) -> Option<Boxed<Query>>
-    ensures { IfSome result (λ query. IsSpellable query) }
-{
-    let text = escapes::text(alloc, field)?;
-    match parse(alloc, text.as_bytes()) {
-        Ok(query) => Boxed::new(alloc, query).ok(),
-        Err(_) => None,
     }
 }
 
@@ -122,34 +96,9 @@ fn answered<R: Threads + Wait + Sync>(
 ) -> Option<String>
     requires { (0 < length wires.old) × (length wires.old ≤ 16) }
 {
-    let registry = Registry::read(alloc, REGISTRY.as_bytes()).ok()?;
+    let registry = registry_of(alloc, 2)?;
     let query = parsed(alloc, field)?;
-    answered_by(rt, alloc, query.get(), &registry, cache, wires)
-}
-
-fn answered_by<R: Threads + Wait + Sync>(
-    rt: &R,
-    alloc: Global,
-    query: &Query,
-    registry: &Registry,
-    cache: &mut AskCache,
-    wires: &mut [ScriptWire],
-) -> Option<String>
-    requires wired { (0 < length wires.old) × (length wires.old ≤ 16) }
-    requires spellable { IsSpellable query.now }
-{
-    match federate(
-        rt,
-        alloc,
-        query,
-        registry,
-        cache,
-        Options { block: 15 },
-        wires,
-    ) {
-        Ok(outcome) => outcome_text(alloc, &outcome),
-        Err(error) => refusal_text(alloc, &error),
-    }
+    calls::answered(rt, alloc, query.get(), 15, &registry, cache, wires)
 }
 
 // The text of the plan, or the refusal.
@@ -161,25 +110,20 @@ fn planned<R: Threads + Wait + Sync>(
     second: &str,
 ) -> Option<String> {
     let mut wires = wires_of(alloc, first, second)?;
-    let query = parsed(alloc, field)?;
-    planned_by(rt, alloc, query.get(), wires.as_mut_slice())
+    planned_over(rt, alloc, field, wires.as_mut_slice())
 }
 
-fn planned_by<R: Threads + Wait + Sync>(
+fn planned_over<R: Threads + Wait + Sync>(
     rt: &R,
     alloc: Global,
-    query: &Query,
+    field: &str,
     wires: &mut [ScriptWire],
 ) -> Option<String>
-    requires wired { (0 < length wires.old) × (length wires.old ≤ 16) }
-    requires spellable { IsSpellable query.now }
+    requires { (0 < length wires.old) × (length wires.old ≤ 16) }
 {
-    let registry = Registry::read(alloc, REGISTRY.as_bytes()).ok()?;
-    let mut cache = AskCache::new(alloc).ok()?;
-    match plan_parts(rt, alloc, query, &registry, &mut cache, wires) {
-        Ok(parts) => explain(alloc, parts.as_slice(), registry.endpoints()).ok(),
-        Err(error) => refusal_text(alloc, &error),
-    }
+    let registry = registry_of(alloc, 2)?;
+    let query = parsed(alloc, field)?;
+    calls::planned(rt, alloc, query.get(), &registry, wires)
 }
 
 // What was sent, each as its port and its text with a `;` behind.
@@ -196,116 +140,6 @@ fn sent(alloc: Global, wires: &[ScriptWire]) -> Option<String> {
         text.push_str("nothing").ok()?;
     }
     Some(text)
-}
-
-fn refusal_text(alloc: Global, refusal: &FedError) -> Option<String> {
-    match refusal {
-        FedError::Member { name } => {
-            let name = name.as_str();
-            format!(in alloc; "member {name} failed").ok()
-        }
-        FedError::Service { iri } => {
-            let iri = iri.text();
-            format!(in alloc; "service {iri} failed").ok()
-        }
-        FedError::BadReply { name, bad } => fault_text(alloc, name.as_str(), bad.why),
-        FedError::RequestTooLong { name, length } => {
-            let name = name.as_str();
-            format!(in alloc; "request for {name} has {length} bytes").ok()
-        }
-        FedError::UnknownService { iri } => {
-            let iri = iri.text();
-            format!(in alloc; "unknown service {iri}").ok()
-        }
-        FedError::Memory => None,
-    }
-}
-
-fn fault_text(alloc: Global, name: &str, why: ReplyFault) -> Option<String> {
-    let words = fault_words(why);
-    match fault_code(why) {
-        None => format!(in alloc; "bad reply from {name}: {words}").ok(),
-        Some(code) => format!(in alloc; "bad reply from {name}: {words} {code}").ok(),
-    }
-}
-
-// The answer, and behind it each SERVICE that is down.
-fn outcome_text(alloc: Global, outcome: &Outcome) -> Option<String> {
-    let mut text = answer_text(alloc, &outcome.answer)?;
-    for down in outcome.down.as_slice() {
-        push_down(&mut text, down)?;
-    }
-    Some(text)
-}
-
-fn push_down(text: &mut String, down: &Down) -> Option<()> {
-    let (place, iri) = (down.place, down.iri.text());
-    write!(text, " down {place} {iri} ").ok()?;
-    push_cause(text, &down.why)
-}
-
-fn push_cause(text: &mut String, why: &DownCause) -> Option<()> {
-    match why {
-        DownCause::Failed => text.push_str("Failed").ok(),
-        DownCause::Bad(bad) => push_fault(text, bad.why),
-        DownCause::TooLong { length } => write!(text, "TooLong {length}").ok(),
-        DownCause::Unknown => text.push_str("Unknown").ok(),
-    }
-}
-
-fn push_fault(text: &mut String, why: ReplyFault) -> Option<()> {
-    let words = fault_words(why);
-    match fault_code(why) {
-        None => write!(text, "Bad {words}").ok(),
-        Some(code) => write!(text, "Bad {words} {code}").ok(),
-    }
-}
-
-fn answer_text(alloc: Global, answer: &Answer) -> Option<String> {
-    match answer {
-        Answer::Truth(_) => None,
-        Answer::Table { columns, rows } => {
-            let mut text = String::new(alloc);
-            push_names(&mut text, columns.as_slice())?;
-            text.push('/').ok()?;
-            push_rows(&mut text, rows.as_slice())?;
-            Some(text)
-        }
-    }
-}
-
-fn push_names(text: &mut String, names: &[Name]) -> Option<()> {
-    for (number, name) in names.iter().enumerate() {
-        push_between(text, number, " ")?;
-        text.push_str(name.text()).ok()?;
-    }
-    Some(())
-}
-
-fn push_rows(text: &mut String, rows: &[Solution]) -> Option<()> {
-    for row in rows {
-        for (number, (name, term)) in row.pairs().iter().enumerate() {
-            push_between(text, number, " ")?;
-            let (name, iri) = (name.text(), iri_text(term));
-            write!(text, "{name}={iri}").ok()?;
-        }
-        text.push(';').ok()?;
-    }
-    Some(())
-}
-
-fn iri_text(term: &Term) -> &str {
-    match term {
-        Term::Iri(iri) => iri.text(),
-        Term::Literal(_) => "no IRI",
-    }
-}
-
-fn push_between(text: &mut String, number: usize, mark: &str) -> Option<()> {
-    if number > 0 {
-        text.push_str(mark).ok()?;
-    }
-    Some(())
 }
 
 // One wire over both endpoints.
@@ -337,11 +171,6 @@ fn push_replies(
     Some(())
 }
 
-fn address(alloc: Global, port: u16) -> Option<Iri> {
-    let text = format!(in alloc; "http://127.0.0.1:{port}/sparql").ok()?;
-    Iri::read(alloc, text.as_str()).ok()
-}
-
 fn reply(alloc: Global, text: &str) -> Option<Vec<u8>> {
     if text.starts_with("HTTP/1.1 ") {
         return Vec::from_slice(alloc, text.as_bytes()).ok();
@@ -356,6 +185,13 @@ fn reply(alloc: Global, text: &str) -> Option<Vec<u8>> {
     let head = "HTTP/1.1 200 OK\r\nContent-Type: application/sparql-results+json\r\n\r\n";
     let reply = format!(in alloc; "{head}{body}").ok()?;
     Some(reply.into_bytes())
+}
+
+fn push_between(text: &mut String, number: usize, mark: &str) -> Option<()> {
+    if number > 0 {
+        text.push_str(mark).ok()?;
+    }
+    Some(())
 }
 
 // The document of a table.
