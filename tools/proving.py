@@ -1,0 +1,251 @@
+"""How crates are proved side by side, each as soon as those below it are done: what tools/build, tools/seconds and tools/plant share.
+
+What is proved of a library lies in crates/fedx/out/libraries, with a sum of all that its proof read. What the proof of a crate printed is in
+crates/NAME/out/build.log."""
+import contextlib
+import fcntl
+import hashlib
+import os
+import shutil
+import subprocess
+import sys
+import time
+
+TOP = os.path.dirname(os.path.dirname(os.path.abspath(__file__)))
+PROGRAM = "fedx"
+OUT = f"{TOP}/crates/{PROGRAM}/out"
+LIBRARIES = f"{OUT}/libraries"
+# How long the last whole run took, in minutes.
+TOOK = f"{OUT}/took"
+# The minutes that the proof of a crate takes, where they aren't one: what has the longest way to the program begins first.
+MINUTES = {
+    "fx_rules": 0.1, "fx_terms": 1.1, "fx_words": 1.4, "fx_tokens": 1.6, "fx_outside": 1.9, "fx_algebra": 2.5, "fx_ntriples": 1.5,
+    "fx_grammar": 0.4, "fx_spelling": 0.3, "fx_depths": 0.1, "fx_trees": 1.3, "fx_expressions": 2.2, "fx_groups": 1.2, "fx_heads": 0.7,
+    "fx_syntax": 1.3, "fx_print": 1.4, "fx_results": 2.1, "fx_expr": 2.6, "fx_solutions": 2.1, "fx_store": 1.8, "fx_member": 2.3,
+    "fx_sources": 2.3, "fx_plan": 2.1, "fx_steps": 0.1, "fx_bound": 2.7, "fx_traffic": 0.1, "fx_pool": 4.1, "fx_engine": 4, "fx_commands": 5,
+    "fedx": 3,
+}
+
+
+def crates():
+    """What each crate uses, by the lines of crates.txt: the libraries of this repository, and those of the toolchain."""
+    lines = {}
+    with open(f"{TOP}/crates.txt", encoding="utf-8") as text:
+        for line in text:
+            name, colon, uses = line.split("#")[0].partition(":")
+            if colon:
+                lines[name.split()[0]] = uses.split()
+    below = {name: [it for it in uses if it in lines] for name, uses in lines.items()}
+    return below, {name: ["std", *(it for it in uses if it not in lines)] for name, uses in lines.items()}
+
+
+def needed(below, name):
+    """The crate and all that it stands on."""
+    return {name}.union(*(needed(below, it) for it in below[name]))
+
+
+def way(below, name, seen):
+    """The minutes from the begin of this crate's proof to the program."""
+    if name not in seen:
+        above = [way(below, it, seen) for it, under in below.items() if name in under]
+        seen[name] = MINUTES.get(name, 1) + max(above, default=0)
+    return seen[name]
+
+
+def root_of(name):
+    """The file with which the compiler begins to read a crate."""
+    return "src/main.rt" if os.path.isfile(f"{TOP}/crates/{name}/src/main.rt") else "src/lib.rt"
+
+
+class Workshop:
+    """The crates to prove, and the toolchain that proves them.
+
+    A crate is proved over the statements of the libraries below it, and not over their proofs, which were checked when these were built: to load them
+    takes longer than most crates take themselves."""
+
+    def __init__(self, below, of_kit):
+        self.below, self.of_kit, self.sums = below, of_kit, {}
+        self.kit = os.path.dirname(os.path.dirname(os.path.realpath(shutil.which("rt"))))
+        self.version = subprocess.run(["rt", "version"], stdout=subprocess.PIPE, check=True).stdout
+
+    def sum(self, name):
+        """A sum of all that the proof of a crate reads."""
+        if name not in self.sums:
+            total = hashlib.sha256(self.version + repr([self.of_kit[name], [self.sum(it) for it in self.below[name]]]).encode())
+            folders = [f"{TOP}/crates/{name}/{part}" for part in ("src", "specs", "proofs")]
+            for file in sorted(f"{at}/{it}" for folder in folders for at, _, files in os.walk(folder) for it in files):
+                with open(file, "rb") as text:
+                    total.update(repr([os.path.relpath(file, TOP), text.read()]).encode())
+            self.sums[name] = total.hexdigest()
+        return self.sums[name]
+
+    def is_done(self, name):
+        """Whether a library is proved as it stands."""
+        with contextlib.suppress(OSError), open(f"{LIBRARIES}/{name}.sum", encoding="utf-8") as kept:
+            return kept.read() == self.sum(name) and os.path.isdir(f"{LIBRARIES}/{name}.rlib")
+        return False
+
+    def words(self, name):
+        """The words of the compiler for a crate, but for what it is to make."""
+        words = [f"{self.kit}/bin/rattle", "build", "--crate-name", name, root_of(name), "--jobs", "1", "--links", f"{name}="]
+        for it in self.of_kit[name]:
+            words += ["--extern", f"{it}={self.kit}/rlibs/{it}.rlib"]
+        for it in self.below[name]:
+            words += ["--extern", f"{it}={LIBRARIES}/{it}.rlib"]
+        words += ["-L", f"dependency={self.kit}/rlibs", "-L", f"dependency={LIBRARIES}"]
+        return [*words, "--antt-project", f"{self.kit}/rattle/logic/antt-project.json", "--logic-built", f"{self.kit}/logic_built"]
+
+    def checking(self, name, folder):
+        """The words that check a crate and make nothing of it, going on from the modules that an earlier check left in a folder."""
+        words = self.words(name)
+        return [words[0], "check", *words[2:], "--incremental", folder]
+
+
+class Proof:
+    """The proof of one crate, as it runs, on one processor: with more it ends no sooner."""
+
+    def __init__(self, shop, name):
+        self.shop, self.name, self.out, self.sum = shop, name, f"{TOP}/crates/{name}/out", shop.sum(name)
+        self.is_program, self.log = root_of(name) == "src/main.rt", f"{self.out}/build.log"
+        made = ["--statements", "-o", f"{LIBRARIES}/{name}.rlib"]
+        if self.is_program:
+            made = ["--toolchain", f"{shop.kit}/toolchain", "--backend", "llvm", "-o", f"out/{name}.o"]
+        os.makedirs(self.out, exist_ok=True)
+        with open(self.log, "wb") as log:
+            words = [*shop.words(name), *made]
+            self.process = subprocess.Popen(words, cwd=f"{TOP}/crates/{name}", stdin=subprocess.DEVNULL, stdout=log, stderr=subprocess.STDOUT)
+
+    def end(self):
+        """Links a program, and keeps the sum of a library. Returns whether the proof came to a good end."""
+        if self.process.returncode:
+            return False
+        if self.is_program:
+            return self.link()
+        with open(f"{LIBRARIES}/{self.name}.sum", "w", encoding="utf-8") as kept:
+            kept.write(self.sum)
+        return True
+
+    def link(self):
+        kit, program = self.shop.kit, f"{self.out}/{self.name}"
+        words = [f"{kit}/bin/rattle-link", "--target", "x86_64-unknown-linux-gnu", "--toolchain", f"{kit}/toolchain", "-o", program, f"{program}.o"]
+        with open(self.log, "ab") as log:
+            how = {"stdin": subprocess.DEVNULL, "stdout": log, "stderr": subprocess.STDOUT, "check": False}
+            return subprocess.run([*words, f"{kit}/c/libos_c.a", f"{kit}/c/liblibc_c.a"], **how).returncode == 0
+
+    def text(self):
+        with open(self.log, encoding="utf-8", errors="replace") as log:
+            return log.read()
+
+
+class Progress:
+    """One line that is written over where somebody looks on, and else a line a minute."""
+
+    def __init__(self):
+        self.is_seen, self.last = sys.stderr.isatty(), time.monotonic()
+
+    def say(self, text):
+        sys.stderr.write(f"\r\x1b[Kfedx: {text}\n" if self.is_seen else f"fedx: {text}\n")
+
+    def show(self, text):
+        if self.is_seen:
+            sys.stderr.write(f"\r\x1b[Kfedx: {text}")
+        elif time.monotonic() - self.last >= 60:
+            self.last = time.monotonic()
+            sys.stderr.write(f"fedx: {text}\n")
+        sys.stderr.flush()
+
+
+def took_last():
+    """What is said of the time that it takes."""
+    try:
+        with open(TOOK, encoding="utf-8") as handle:
+            return f"it took {int(handle.read())} minutes here last"
+    except (OSError, ValueError):
+        return "it takes some 25 minutes the first time on four processors, and longer on fewer"
+
+
+def begin(shop, order, done, running):
+    """Begins the proofs that wait for none, while there are processors."""
+    processors = len(os.sched_getaffinity(0))
+    known = done.union(it.name for it in running)
+    ready = [name for name in order if name not in known and done.issuperset(shop.below[name])]
+    for name in ready[: max(0, processors - len(running))]:
+        running.append(Proof(shop, name))
+
+
+def fail(progress, proof, running):
+    for it in running:
+        it.process.terminate()
+    progress.say(f"the proof of {proof.name} failed; {proof.log} ends with")
+    sys.stderr.write("".join(f"  {line}\n" for line in proof.text().splitlines()[-20:]))
+    return 1
+
+
+@contextlib.contextmanager
+def in_turn():
+    """Waits while another run is at work in this checkout."""
+    os.makedirs(LIBRARIES, exist_ok=True)
+    with open(f"{OUT}/lock", "w", encoding="utf-8") as lock:
+        try:
+            fcntl.flock(lock, fcntl.LOCK_EX | fcntl.LOCK_NB)
+        except BlockingIOError:
+            sys.stderr.write("fedx: another run is building; waiting for it\n")
+            fcntl.flock(lock, fcntl.LOCK_EX)
+        yield
+
+
+def is_built(shop):
+    """Whether the program is there, and newer than all that it is made of."""
+    try:
+        built = os.stat(f"{OUT}/{PROGRAM}").st_mtime
+    except OSError:
+        return False
+    folders = [f"{TOP}/crates/{name}/{part}" for name in shop.below for part in ("src", "specs", "proofs")]
+    files = [f"{at}/{name}" for folder in folders for at, _, names in os.walk(folder) for name in names]
+    return all(os.stat(it).st_mtime <= built for it in [*files, f"{TOP}/crates.txt"])
+
+
+def build(names):
+    below, of_kit = crates()
+    below = {name: below[name] for name in set().union(*(needed(below, it) for it in names))}
+    shop = Workshop(below, of_kit)
+    if names == [PROGRAM] and is_built(shop):
+        return 0
+    if PROGRAM in names:
+        with contextlib.suppress(FileNotFoundError):
+            os.remove(f"{OUT}/{PROGRAM}")
+    ways = {}
+    order = sorted(below, key=lambda name: -way(below, name, ways))
+    progress, begun, running = Progress(), time.monotonic(), []
+    progress.say(f"proving and building {' and '.join(names)}" + (f"; {took_last()}" if names == [PROGRAM] else ""))
+    done = {name for name in order if shop.is_done(name)}
+    # (a run that goes on from an earlier one says nothing of the time that the whole takes)
+    is_whole = names == [PROGRAM] and not done
+    while len(done) < len(order):
+        begin(shop, order, done, running)
+        time.sleep(0.5)
+        for proof in [it for it in running if it.process.poll() is not None]:
+            running.remove(proof)
+            if not proof.end():
+                return fail(progress, proof, running)
+            done.add(proof.name)
+        minutes = (time.monotonic() - begun) / 60
+        progress.show(", ".join([*(it.name for it in running), f"{len(done)} of {len(order)} crates", f"{minutes:.0f} minutes"]))
+    minutes = round((time.monotonic() - begun) / 60)
+    progress.say(f"proved and built in {minutes} minutes")
+    if is_whole:
+        with open(TOOK, "w", encoding="utf-8") as handle:
+            handle.write(f"{minutes}\n")
+    return 0
+
+
+def build_below(name):
+    """Proves all that a crate stands on, and says nothing where that is done. Returns a status, as `build` does."""
+    below, of_kit = crates()
+    if name not in below:
+        sys.exit(f"{name} is no crate of crates.txt")
+    under = sorted(needed(below, name) - {name})
+    if all(map(Workshop(below, of_kit).is_done, under)):
+        return 0
+    with in_turn():
+        return build(under)
