@@ -4,9 +4,11 @@
 
 ghost use Rattle.std.specs.Prelude.{◌<◌, IfOk, vec_len};
 
-use fx_commands::{CommandError, Refusal, Status, run, write_refusal};
+use fx_local::{Refusal, Status, write_refusal};
 use fx_outside::{Folder, Listener, StdSink};
+use fx_program::run;
 use fx_wire::TcpWire;
+use fx_words::CommandError;
 use std::alloc::AllocError;
 use std::process::ExitCode;
 use std::sync::Wait;

@@ -2,8 +2,8 @@
 
 use crate::counting::counted;
 use crate::runs::{sink_of, words_of};
-use fx_commands::reports::write_no_memory;
-use fx_commands::{Command, CommandError, read_command};
+use fx_local::reports::write_no_memory;
+use fx_words::{Command, CommandError, read_command};
 use std::alloc::Global;
 use std::str::from_utf8;
 use std::sync::Wait;

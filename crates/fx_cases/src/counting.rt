@@ -5,7 +5,7 @@ ghost use Rattle.std.specs.Prelude.{◌<◌, ◌≤◌, length};
 
 use crate::runs::{graphs, sink_of};
 use fx_commands::count_rows;
-use fx_commands::reports::write_fed_error;
+use fx_commands::refusals::write_fed_error;
 use fx_engine::FedError;
 use fx_member::{FaultWire, GraphWire};
 use fx_notation::fields::numbers;

@@ -1,4 +1,4 @@
-//! Calls of `fx_commands::run` over devices of which one fails. The calls of `runs` stand in their table too.
+//! Calls of `fx_program::run` over devices of which one fails. The calls of `runs` stand in their table too.
 //!
 //! Words, files and graphs are as in `runs`. Each wire is over all members, and the first fails at its exchange of one number.
 ghost use Rattle.std.specs.Prelude.{◌<◌, length};

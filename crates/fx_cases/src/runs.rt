@@ -1,4 +1,4 @@
-//! Calls of `fx_commands::run` over files, streams and wires in memory.
+//! Calls of `fx_program::run` over files, streams and wires in memory.
 //!
 //! Words have a blank between, and an empty one is written `''`. A file is a field `name=content`; a field whose name begins with
 //! `http://` is a reply of the member with this address, or, over graphs, its graph. Calls that are to fail have a blank between: each
@@ -6,11 +6,12 @@
 //! the wire is told, it has the port and the text of each exchange that was answered.
 ghost use Rattle.std.specs.Prelude.{◌<◌, length};
 
-use fx_commands::{Status, run};
+use fx_local::Status;
 use fx_member::{FaultWire, GraphWire};
 use fx_notation::{escapes, fields};
 use fx_ntriples::read_graph;
 use fx_outside::{MemoryDoor, MemoryFiles, MemorySink};
+use fx_program::run;
 use fx_terms::{Graph, Iri};
 use fx_wire::script_wires::Answered;
 use fx_wire::{ScriptWire, Wire};

@@ -1,4 +1,4 @@
-//! Calls of `fx_commands::run` that serve a graph at a door in memory.
+//! Calls of `fx_program::run` that serve a graph at a door in memory.
 //!
 //! Calls that are to fail have a blank between: `call=3` is the third call of the door, `read.1=2` the second read of the first
 //! connection, `write.1=2` such a write, and `err=1` a write to standard error.

@@ -1,8 +1,8 @@
 //! A command over sockets. How it ends is compared in a function beside each test, which answers nothing where the system has no socket for it.
 ghost use Rattle.std.specs.Prelude.{◌<◌, length};
 
-use fx_commands::run;
 use fx_outside::{MemoryDoor, MemoryFiles, MemorySink};
+use fx_program::run;
 use fx_wire::{TcpWire, Wire};
 use std::alloc::Global;
 use std::io::{Read, Write};

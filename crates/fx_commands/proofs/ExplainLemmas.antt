@@ -11,14 +11,15 @@ use Rattle.fx_traffic.specs.Gains.{faults_at}
 use Rattle.fx_wire.specs.Exchanges.{Seen}
 use Rattle.fx_engine.specs.declared.mediator.FedError.{FedError}
 use Rattle.fx_engine.specs.declared.mediator.FedError.TheVariants as fed
-use Rattle.fx_commands.specs.declared.limits.TheConstants.{QUERY_LIMIT, REGISTRY_LIMIT}
-use Rattle.fx_commands.specs.declared.statuses.Status.{Status}
+use Rattle.fx_local.specs.declared.limits.TheConstants.{QUERY_LIMIT, REGISTRY_LIMIT}
+use Rattle.fx_local.specs.declared.statuses.Status.{Status}
 use Rattle.fx_commands.specs.Asking.{WiresSeen}
 use Rattle.fx_commands.specs.Explain.{IsExplainReported, IsExplanation, IsExplanationOf, IsPlanText}
 use Rattle.fx_commands.specs.FedRefusals.{IsGivenEnd, fed_line, fed_status_of}
-use Rattle.fx_commands.specs.Files.{FileRead}
-use Rattle.fx_commands.specs.LocalSteps.{GivesQuery}
-use Rattle.fx_commands.specs.MemberSteps.{GivesRegistry, IsLaidOut, IsLayoutReported}
+use Rattle.fx_local.specs.Files.{FileRead}
+use Rattle.fx_local.specs.LocalSteps.{GivesQuery}
+use Rattle.fx_commands.specs.MemberSteps.{IsLaidOut, IsLayoutReported}
+use Rattle.fx_local.specs.RegistryFiles.{GivesRegistry}
 use Rattle.fx_commands.proofs.QueryLemmas.{known_from_nothing, want_before}
 
 none_planned : (parts : List Part) → Ok parts ≡ Err fed.Memory → ⊥

@@ -1,17 +1,6 @@
-pub mod CountLemmas
-pub mod GainLemmas
-pub mod LoadLemmas
-pub mod LocalLemmas
-pub mod ReportLemmas
 pub mod SilentLemmas
 pub mod QueryLemmas
 pub mod ExplainLemmas
-pub mod ServiceLemmas
-pub mod HeadlineLemmas
-pub mod HarmlessLemmas
-pub mod CompletenessLemmas
-pub mod UsedLemmas
 pub mod CountingLemmas
 pub mod MembersLemmas
 pub mod GeneratorLemmas
-pub mod ServingLemmas

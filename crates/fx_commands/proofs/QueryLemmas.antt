@@ -16,22 +16,23 @@ use Rattle.fx_engine.specs.Mediation.{AreKnown}
 use Rattle.fx_engine.specs.declared.mediator.FedError.{FedError}
 use Rattle.fx_engine.specs.declared.mediator.FedError.TheVariants as fed
 use Rattle.fx_engine.specs.declared.mediator.Outcome.{Outcome}
-use Rattle.fx_commands.specs.declared.limits.TheConstants.{QUERY_LIMIT, REGISTRY_LIMIT}
-use Rattle.fx_commands.specs.declared.refusals.QueryRefusal.{QueryRefusal}
-use Rattle.fx_commands.specs.declared.refusals.QueryRefusal.TheVariants as query
-use Rattle.fx_commands.specs.declared.refusals.RegistryRefusal.{RegistryRefusal}
-use Rattle.fx_commands.specs.declared.refusals.RegistryRefusal.TheVariants as registry
-use Rattle.fx_commands.specs.declared.statuses.Status.{Status}
-use Rattle.fx_commands.specs.declared.statuses.Status.TheVariants as status
+use Rattle.fx_local.specs.declared.limits.TheConstants.{QUERY_LIMIT, REGISTRY_LIMIT}
+use Rattle.fx_local.specs.declared.refusals.QueryRefusal.{QueryRefusal}
+use Rattle.fx_local.specs.declared.refusals.QueryRefusal.TheVariants as query
+use Rattle.fx_local.specs.declared.refusals.RegistryRefusal.{RegistryRefusal}
+use Rattle.fx_local.specs.declared.refusals.RegistryRefusal.TheVariants as registry
+use Rattle.fx_local.specs.declared.statuses.Status.{Status}
+use Rattle.fx_local.specs.declared.statuses.Status.TheVariants as status
 use Rattle.fx_commands.specs.Asking.{WiresSeen, IsRefusedBefore}
 use Rattle.fx_commands.specs.FedRefusals.{IsGivenEnd, fed_line, fed_status_of}
-use Rattle.fx_commands.specs.Files.{FileRead, IsRegistryFile}
-use Rattle.fx_commands.specs.Lines.{down_lines}
-use Rattle.fx_commands.specs.LocalSteps.{GivesQuery, IsDocumentWritten, IsLineReported, query_line}
-use Rattle.fx_commands.specs.MemberSteps.{GivesRegistry, IsAnswerDone, IsAnswerReported, IsAnswered, IsWant, registry_line}
+use Rattle.fx_local.specs.Files.{FileRead, IsRegistryFile}
+use Rattle.fx_commands.specs.MemberLines.{down_lines}
+use Rattle.fx_local.specs.LocalSteps.{GivesQuery, IsDocumentWritten, IsLineReported, query_line}
+use Rattle.fx_commands.specs.MemberSteps.{IsAnswerDone, IsAnswerReported, IsAnswered, IsWant}
+use Rattle.fx_local.specs.RegistryFiles.{GivesRegistry, registry_line}
 use Rattle.fx_commands.specs.Query.{IsOutcomeWritten, IsQueryDone, IsQueryReported, IsUnionAnswer, IsUnionAnswerOf, IsUnionDocument}
-use Rattle.fx_commands.specs.RefusalStatuses.{query_status, registry_status}
-use Rattle.fx_commands.specs.Sinks.{IsCutShort, SinkWritten, Wrote}
+use Rattle.fx_local.specs.RefusalStatuses.{query_status, registry_status}
+use Rattle.fx_local.specs.Sinks.{IsCutShort, SinkWritten, Wrote}
 use Rattle.fx_commands.proofs.SilentLemmas.{are_down}
 
 -- ---- files

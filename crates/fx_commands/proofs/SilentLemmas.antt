@@ -15,10 +15,10 @@ use Rattle.fx_engine.specs.declared.mediator.DownCause.TheVariants as cause
 use Rattle.fx_engine.specs.declared.mediator.Outcome.{Outcome}
 use Rattle.fx_engine.proofs.RegisteredLemmas.{registered_by, unregistered_by}
 use Rattle.fx_commands.specs.Asking.{WiresSeen}
-use Rattle.fx_commands.specs.Files.{FileRead}
+use Rattle.fx_local.specs.Files.{FileRead}
 use Rattle.fx_commands.specs.Query.{CountsDown, IsQueryDone}
 use Rattle.fx_commands.specs.Silent.{AreDown, AreLicensed, unregistered, wires_failed}
-use Rattle.fx_commands.specs.Sinks.{SinkWritten}
+use Rattle.fx_local.specs.Sinks.{SinkWritten}
 
 -- ---- faults
 

@@ -3,11 +3,11 @@ use Rattle.std.specs.Prelude.{◌≡◌, ◌⊎◌, ℕ, Bool, List, map}
 use Rattle.fx_grammar.specs.declared.refusals.SyntaxKind.{SyntaxKind}
 use Rattle.fx_sources.specs.declared.errors.RegistryError.{RegistryError}
 use Rattle.fx_wire.specs.Exchanges.{Seen}
-use Rattle.fx_commands.specs.declared.limits.TheConstants.{QUERY_LIMIT, REGISTRY_LIMIT}
-use Rattle.fx_commands.specs.declared.statuses.Status.{Status}
-use Rattle.fx_commands.specs.declared.statuses.Status.TheVariants as status
-use Rattle.fx_commands.specs.Files.{FileRead, HasFailed, IsTooLong, IsNoQuery, IsRegistryFile, IsNoRegistry}
-use Rattle.fx_commands.specs.Lines.{cannot_read, query_refused, query_too_long, registry_too_long, registry_refused, no_memory}
+use Rattle.fx_local.specs.declared.limits.TheConstants.{QUERY_LIMIT, REGISTRY_LIMIT}
+use Rattle.fx_local.specs.declared.statuses.Status.{Status}
+use Rattle.fx_local.specs.declared.statuses.Status.TheVariants as status
+use Rattle.fx_local.specs.Files.{FileRead, HasFailed, IsTooLong, IsNoQuery, IsRegistryFile, IsNoRegistry}
+use Rattle.fx_local.specs.Lines.{cannot_read, query_refused, query_too_long, registry_too_long, registry_refused, no_memory}
 
 -- whether they tell their logs, whether they count each address alone, and what is seen of them before the call and after it
 pub record WiresSeen : Type 0 where

@@ -14,11 +14,11 @@ use Rattle.fx_wire.specs.Exchanges.{Seen}
 use Rattle.fx_engine.specs.Mediation.{Planned}
 use Rattle.fx_engine.specs.Sections.{parts_with}
 use Rattle.fx_engine.specs.declared.mediator.FedError.{FedError}
-use Rattle.fx_commands.specs.declared.statuses.Status.{Status}
+use Rattle.fx_local.specs.declared.statuses.Status.{Status}
 use Rattle.fx_commands.specs.Asking.{WiresSeen, IsUnasked, IsRefusedBefore}
 use Rattle.fx_commands.specs.FedRefusals.{IsEnd}
-use Rattle.fx_commands.specs.Files.{FileRead, IsQueryOf, IsRegistryOf}
-use Rattle.fx_commands.specs.Sinks.{Wrote}
+use Rattle.fx_local.specs.Files.{FileRead, IsQueryOf, IsRegistryOf}
+use Rattle.fx_local.specs.Sinks.{Wrote}
 
 -- ---- the text of the plan
 

@@ -2,9 +2,10 @@
 use Rattle.std.specs.Prelude.{◌≡◌, ◌⊎◌, ℕ, List, [], Result, Ok, Err}
 use Rattle.fx_engine.specs.declared.mediator.FedError.{FedError}
 use Rattle.fx_engine.specs.declared.mediator.FedError.TheVariants as fed
-use Rattle.fx_commands.specs.declared.statuses.Status.{Status}
-use Rattle.fx_commands.specs.declared.statuses.Status.TheVariants as status
-use Rattle.fx_commands.specs.Lines.{member_failed, service_failed, bad_reply, request_too_long, no_memory, unknown_service}
+use Rattle.fx_local.specs.declared.statuses.Status.{Status}
+use Rattle.fx_local.specs.declared.statuses.Status.TheVariants as status
+use Rattle.fx_local.specs.Lines.{no_memory, unknown_service}
+use Rattle.fx_commands.specs.MemberLines.{member_failed, service_failed, bad_reply, request_too_long}
 
 abbrev pub fed_status_of : FedError → Status
 fed_status_of (fed.Member name) = status.EndpointFault

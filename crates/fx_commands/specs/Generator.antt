@@ -9,7 +9,7 @@ use Rattle.fx_terms.specs.declared.terms.Term.TheVariants.{Iri, Literal}
 use Rattle.fx_terms.specs.declared.triples.Triple.{Triple}
 use Rattle.fx_algebra.specs.Graphs.{union}
 use Rattle.fx_commands.specs.Counting.{age, generated_rows, knows}
-use Rattle.fx_commands.specs.Lines.{line}
+use Rattle.fx_local.specs.Lines.{line}
 
 -- ---- triples
 

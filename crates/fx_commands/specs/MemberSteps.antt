@@ -1,46 +1,21 @@
 -- What the steps of `fedx query` and `fedx explain` give. `IsQueryReported` and `IsExplainReported` say what the whole gives.
-use Rattle.std.specs.Prelude.{◌≡◌, ◌⊎◌, ℕ, ◌≤◌, List, [], Result, Ok, Err, IfSome, length}
+use Rattle.std.specs.Prelude.{◌≡◌, ◌⊎◌, ℕ, List, [], Result, Ok, Err}
 use Rattle.fx_outside.specs.Endpoints.{EndpointParts}
 use Rattle.fx_algebra.specs.declared.queries.Query.{Query}
 use Rattle.fx_plan.specs.declared.parts.Part.{Part}
 use Rattle.fx_sources.specs.Probes.{Entry}
-use Rattle.fx_sources.specs.Registries.{read_registry}
-use Rattle.fx_sources.specs.declared.errors.RegistryError.TheVariants as error
 use Rattle.fx_engine.specs.Mediation.{Federated, Planned}
 use Rattle.fx_engine.specs.declared.mediator.FedError.{FedError}
 use Rattle.fx_engine.specs.declared.mediator.FedError.TheVariants as fed
 use Rattle.fx_engine.specs.declared.mediator.Outcome.{Outcome}
-use Rattle.fx_commands.specs.declared.limits.TheConstants.{REGISTRY_LIMIT}
-use Rattle.fx_commands.specs.declared.refusals.RegistryRefusal.{RegistryRefusal}
-use Rattle.fx_commands.specs.declared.refusals.RegistryRefusal.TheVariants as refusal
-use Rattle.fx_commands.specs.declared.statuses.Status.{Status}
-use Rattle.fx_commands.specs.declared.statuses.Status.TheVariants as status
+use Rattle.fx_local.specs.declared.statuses.Status.{Status}
+use Rattle.fx_local.specs.declared.statuses.Status.TheVariants as status
 use Rattle.fx_commands.specs.Asking.{WiresSeen, IsUnasked}
 use Rattle.fx_commands.specs.FedRefusals.{IsEnd}
-use Rattle.fx_commands.specs.Files.{FileRead, HasFailed, IsTooLong, IsNoRegistry}
-use Rattle.fx_commands.specs.Lines.{cannot_read, registry_too_long, down_lines, registry_refused, no_memory}
+use Rattle.fx_local.specs.Lines.{no_memory}
+use Rattle.fx_commands.specs.MemberLines.{down_lines}
 use Rattle.fx_commands.specs.Query.{IsOutcomeWritten}
-use Rattle.fx_commands.specs.Sinks.{SinkWritten}
-
--- ---- registries
-
--- the registry of a file, or why there is none
-abbrev pub GivesRegistry : FileRead → Result (List EndpointParts) RegistryRefusal → Type 0
-GivesRegistry f (Ok es) = IfSome f.content (λ all. (length all ≤ REGISTRY_LIMIT) × (read_registry all ≡ Ok es))
-GivesRegistry f (Err refusal.Fault) = HasFailed f
-GivesRegistry f (Err refusal.TooLong) = IsTooLong REGISTRY_LIMIT f
-GivesRegistry f (Err (refusal.Refused error.Memory)) = Unit {0}
-GivesRegistry f (Err (refusal.Refused e)) = IsNoRegistry f e
-GivesRegistry f (Err refusal.Memory) = Unit {0}
-
--- the line of a refusal, by the name of the registry's file
-abbrev pub registry_line : RegistryRefusal → List ℕ → List ℕ
-registry_line refusal.Fault name = cannot_read name
-registry_line refusal.TooLong name = registry_too_long name
-registry_line (refusal.Refused e) name = registry_refused e
-registry_line refusal.Memory name = no_memory
-
--- ---- asking
+use Rattle.fx_local.specs.Sinks.{SinkWritten}
 
 -- a query was asked for with a new cache, unless there was no memory for that
 abbrev pub IsAnswered : WiresSeen → List EndpointParts → Query → ℕ → Result Outcome FedError → Type 0

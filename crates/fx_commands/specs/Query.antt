@@ -16,13 +16,13 @@ use Rattle.fx_engine.specs.Noted.{places}
 use Rattle.fx_engine.specs.declared.mediator.Down.{Down}
 use Rattle.fx_engine.specs.declared.mediator.FedError.{FedError}
 use Rattle.fx_engine.specs.declared.mediator.Outcome.{Outcome}
-use Rattle.fx_commands.specs.declared.statuses.Status.{Status}
+use Rattle.fx_local.specs.declared.statuses.Status.{Status}
 use Rattle.fx_commands.specs.Asking.{WiresSeen, IsUnasked, IsRefusedBefore}
 use Rattle.fx_commands.specs.FedRefusals.{IsEnd}
-use Rattle.fx_commands.specs.Files.{FileRead, IsQueryOf, IsRegistryOf}
-use Rattle.fx_commands.specs.Lines.{down_lines}
+use Rattle.fx_local.specs.Files.{FileRead, IsQueryOf, IsRegistryOf}
+use Rattle.fx_commands.specs.MemberLines.{down_lines}
 use Rattle.fx_commands.specs.Silent.{AreDown, wires_failed}
-use Rattle.fx_commands.specs.Sinks.{SinkWritten, Wrote}
+use Rattle.fx_local.specs.Sinks.{SinkWritten, Wrote}
 
 -- ---- the answer over the union
 

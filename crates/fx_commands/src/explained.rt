@@ -4,22 +4,19 @@ ghost use Rattle.fx_engine.specs.Mediation.{IsSpellable, parts_in};
 ghost use Rattle.fx_plan.specs.Explained.{HasMembers, explained};
 ghost use Rattle.fx_traffic.specs.Gains.{AreAfter, faults_at};
 ghost use Rattle.fx_commands.specs.Asking.{wires_seen};
-ghost use Rattle.fx_commands.specs.Counts.{CountsOnly};
+ghost use Rattle.fx_local.specs.Counts.{CountsOnly};
 ghost use Rattle.fx_commands.specs.Explain.{IsExplainReported, IsExplainWritten, IsPlanText};
 ghost use Rattle.fx_commands.specs.FedRefusals.{IsGivenEnd};
-ghost use Rattle.fx_commands.specs.Files.{file_read};
-ghost use Rattle.fx_commands.specs.Lines.{Gains};
+ghost use Rattle.fx_local.specs.Files.{file_read};
+ghost use Rattle.fx_local.specs.Lines.{Gains};
 ghost use Rattle.fx_commands.specs.MemberSteps.{IsLaidOut, IsLayoutReported};
-ghost use Rattle.fx_commands.specs.Sinks.{IsCutOff, Wrote, sink_written};
+ghost use Rattle.fx_local.specs.Sinks.{IsCutOff, Wrote, sink_written};
 
-use crate::loading::{load_query, load_registry};
-use crate::refusals::fed_status;
-use crate::reports::{
-    write_fed_error, write_no_memory, write_query_refusal, write_registry_refusal,
-};
-use crate::statuses::Status;
+use crate::refusals::{fed_status, write_fed_error};
 use fx_algebra::Query;
 use fx_engine::{FedError, plan_parts};
+use fx_local::reports::{write_no_memory, write_query_refusal, write_registry_refusal};
+use fx_local::{Status, load_query, load_registry};
 use fx_outside::{Endpoint, Files, Sink, write_all};
 use fx_plan::{Part, explain};
 use fx_sources::{AskCache, Registry};

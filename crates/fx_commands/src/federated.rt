@@ -4,24 +4,21 @@ ghost use Rattle.fx_engine.specs.Mediation.{IsSpellable};
 ghost use Rattle.fx_results.specs.Documents.{document};
 ghost use Rattle.fx_traffic.specs.Gains.{AreAfter};
 ghost use Rattle.fx_commands.specs.Asking.{wires_seen};
-ghost use Rattle.fx_commands.specs.Counts.{CountsOnly};
+ghost use Rattle.fx_local.specs.Counts.{CountsOnly};
 ghost use Rattle.fx_commands.specs.FedRefusals.{IsGivenEnd};
-ghost use Rattle.fx_commands.specs.Files.{file_read};
-ghost use Rattle.fx_commands.specs.Lines.{Gains, down_line};
-ghost use Rattle.fx_commands.specs.Lines as spec;
+ghost use Rattle.fx_local.specs.Files.{file_read};
+ghost use Rattle.fx_local.specs.Lines.{Gains};
+ghost use Rattle.fx_commands.specs.MemberLines.{down_line};
+ghost use Rattle.fx_commands.specs.MemberLines as spec;
 ghost use Rattle.fx_commands.specs.MemberSteps.{IsAnswerDone, IsAnswerReported, IsAnswered};
 ghost use Rattle.fx_commands.specs.Query.{IsOutcomeWritten, IsQueryDone, IsQueryReported, IsQueryWritten, IsUnionAnswer, IsUnionDocument};
-ghost use Rattle.fx_commands.specs.Sinks.{IsCutShort, Wrote, sink_written};
+ghost use Rattle.fx_local.specs.Sinks.{IsCutShort, Wrote, sink_written};
 
-use crate::documents::{Report, write_report};
-use crate::loading::{load_query, load_registry};
-use crate::refusals::fed_status;
-use crate::reports::{
-    write_fed_error, write_no_memory, write_query_refusal, write_registry_refusal,
-};
-use crate::statuses::Status;
+use crate::refusals::{fed_status, write_fed_error};
 use fx_algebra::Query;
 use fx_engine::{Down, DownCause, FedError, Options, Outcome, federate};
+use fx_local::reports::{write_no_memory, write_query_refusal, write_registry_refusal};
+use fx_local::{Report, Status, load_query, load_registry, write_report};
 use fx_outside::{Files, Sink};
 use fx_results::write;
 use fx_sources::{AskCache, Registry};

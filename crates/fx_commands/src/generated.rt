@@ -7,13 +7,13 @@ ghost use Rattle.fx_commands.specs.Counting.{generated_rows};
 ghost use Rattle.fx_commands.specs.FedRefusals.{IsGivenEnd};
 ghost use Rattle.fx_commands.specs.Generator as spec;
 ghost use Rattle.fx_commands.specs.GeneratorSteps.{IsOver, at_addresses, graphs_of};
-ghost use Rattle.fx_commands.specs.Lines.{Gains};
-ghost use Rattle.fx_commands.specs.Sinks.{IsCutOff, Wrote, sink_written};
+ghost use Rattle.fx_local.specs.Lines.{Gains};
+ghost use Rattle.fx_local.specs.Sinks.{IsCutOff, Wrote, sink_written};
 
 use crate::counting::count_rows;
 use crate::generator::{members, push_number};
-use crate::reports::write_no_memory;
-use crate::statuses::Status;
+use fx_local::Status;
+use fx_local::reports::write_no_memory;
 use fx_member::GraphWire;
 use fx_outside::{Sink, write_all};
 use fx_terms::{Graph, Iri, Memory, Triple};

@@ -1,24 +1,14 @@
-//! The commands of the program, over files, wires, doors and streams that are handed in.
+//! The commands that ask members, over files, wires and streams that are handed in: `query`, `explain` and `generate`.
 #![tactic(auto)]
 
 pub mod counting;
-mod documents;
-mod explained;
-mod federated;
-mod generated;
+pub mod explained;
+pub mod federated;
+pub mod generated;
 mod generator;
-mod limits;
-mod loading;
-mod local;
 pub mod refusals;
-pub mod reports;
-pub mod running;
-mod serving;
-pub mod statuses;
 
 pub use counting::count_rows;
-pub use fx_words::{Command, CommandError, read_command};
-pub use refusals::Refusal;
-pub use reports::write_refusal;
-pub use running::run;
-pub use statuses::Status;
+pub use explained::run_explain;
+pub use federated::run_query;
+pub use generated::run_generate;

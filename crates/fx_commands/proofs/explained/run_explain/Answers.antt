@@ -3,15 +3,15 @@ use Rattle.fx_algebra.specs.declared.queries.Query.{Query}
 use Rattle.fx_outside.proofs.CountLemmas.{stayed_both}
 use Rattle.fx_pool.proofs.WireLemmas.{after_itself}
 use Rattle.fx_commands.specs.Asking.{wires_seen}
-use Rattle.fx_commands.specs.Counts.{CountsOnly}
-use Rattle.fx_commands.specs.Files.{file_read}
-use Rattle.fx_commands.specs.LocalSteps.{GivesQuery, query_line}
-use Rattle.fx_commands.specs.MemberSteps.{registry_line}
+use Rattle.fx_local.specs.Counts.{CountsOnly}
+use Rattle.fx_local.specs.Files.{file_read}
+use Rattle.fx_local.specs.LocalSteps.{GivesQuery, query_line}
+use Rattle.fx_local.specs.RegistryFiles.{registry_line}
 use Rattle.fx_commands.specs.Explain.{IsExplainReported, IsExplanation}
-use Rattle.fx_commands.specs.RefusalStatuses.{query_status, registry_status}
-use Rattle.fx_commands.specs.declared.statuses.Status.{Status}
-use Rattle.fx_commands.specs.declared.statuses.Status.TheVariants as status
-use Rattle.fx_commands.proofs.CountLemmas.{only_later, only_read}
+use Rattle.fx_local.specs.RefusalStatuses.{query_status, registry_status}
+use Rattle.fx_local.specs.declared.statuses.Status.{Status}
+use Rattle.fx_local.specs.declared.statuses.Status.TheVariants as status
+use Rattle.fx_local.proofs.CountLemmas.{only_later, only_read}
 use Rattle.fx_commands.proofs.QueryLemmas.{query_refused_before, query_since, query_wrote, registry_refused_before, registry_wrote, wrote_so}
 use Rattle.fx_commands.proofs.ExplainLemmas.{an_explanation, plan_explained}
 use Rattle.fx_commands.proofs.explained.run_explain.Goals as goal

@@ -1,5 +1,5 @@
 use Rattle.std.proofs.Common.{◌≡◌, ◌++◌, drop}
-use Rattle.fx_commands.specs.Lines.{down_lines}
+use Rattle.fx_commands.specs.MemberLines.{down_lines}
 use Rattle.fx_commands.proofs.federated.down_lines.Given as goal
 
 -- what is left completes the lines

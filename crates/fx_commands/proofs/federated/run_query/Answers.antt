@@ -3,16 +3,16 @@ use Rattle.fx_algebra.specs.declared.queries.Query.{Query}
 use Rattle.fx_outside.proofs.CountLemmas.{stayed_both}
 use Rattle.fx_pool.proofs.WireLemmas.{after_itself}
 use Rattle.fx_commands.specs.Asking.{wires_seen}
-use Rattle.fx_commands.specs.Counts.{CountsOnly}
-use Rattle.fx_commands.specs.Files.{file_read}
-use Rattle.fx_commands.specs.LocalSteps.{GivesQuery, query_line}
-use Rattle.fx_commands.specs.MemberSteps.{registry_line}
+use Rattle.fx_local.specs.Counts.{CountsOnly}
+use Rattle.fx_local.specs.Files.{file_read}
+use Rattle.fx_local.specs.LocalSteps.{GivesQuery, query_line}
+use Rattle.fx_local.specs.RegistryFiles.{registry_line}
 use Rattle.fx_commands.specs.Query.{IsQueryReported, IsUnionAnswer}
-use Rattle.fx_commands.specs.RefusalStatuses.{query_status, registry_status}
-use Rattle.fx_commands.specs.Sinks.{sink_written}
-use Rattle.fx_commands.specs.declared.statuses.Status.{Status}
-use Rattle.fx_commands.specs.declared.statuses.Status.TheVariants as status
-use Rattle.fx_commands.proofs.CountLemmas.{only_later, only_read}
+use Rattle.fx_local.specs.RefusalStatuses.{query_status, registry_status}
+use Rattle.fx_local.specs.Sinks.{sink_written}
+use Rattle.fx_local.specs.declared.statuses.Status.{Status}
+use Rattle.fx_local.specs.declared.statuses.Status.TheVariants as status
+use Rattle.fx_local.proofs.CountLemmas.{only_later, only_read}
 use Rattle.fx_commands.proofs.QueryLemmas.{a_union, answer_reported, cut_so, query_done, query_not_done, query_refused_before, query_since, query_wrote, registry_not_done, registry_refused_before, registry_wrote, wrote_so}
 use Rattle.fx_commands.proofs.federated.run_query.Goals as goal
 

@@ -1,6 +1,6 @@
 use Rattle.std.proofs.Common.{◌≡◌, ◌∙◌, subst, List, ℕ}
 use Rattle.fx_commands.specs.FedRefusals.{IsGivenEnd}
-use Rattle.fx_commands.specs.Sinks.{Wrote}
+use Rattle.fx_local.specs.Sinks.{Wrote}
 use Rattle.fx_commands.proofs.QueryLemmas.{cut_so, document_done, lines_done, lines_given, wrote_given}
 use Rattle.fx_commands.proofs.federated.write_outcome.Goals as goal
 

@@ -1,5 +1,0 @@
-use Rattle.fx_commands.proofs.CountLemmas.{no_registry_counts}
-use Rattle.fx_commands.proofs.loading.load_registry.Goals as goal
-
-pub returns-clause-counted : goal.returns-clause-counted
-returns-clause-counted g c = no_registry_counts _ _ _ c.in-Err.error c.in-Ok.ensures.counted

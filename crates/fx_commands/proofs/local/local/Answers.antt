@@ -1,7 +1,0 @@
-use Rattle.fx_commands.proofs.LocalLemmas.{local_gives}
-use Rattle.fx_commands.proofs.local.local.Goals as goal
-
-pub returns-in-Ok-clause-outcome : goal.returns-in-Ok-clause-outcome
-returns-in-Ok-clause-outcome g c =
-    local_gives (g.F.Files.seen c.args.files.now) (g.F.Files.seen c.load_store.new.files) (g.F.Files.seen c.answer_over.new.files) c.args.graph.now c.args.query.now c.in-Ok.store c.answer_over.result (c.in-Ok.ensures.same c.args.query.now) (c.in-Ok.ensures.counted c.args.query.now)
-    c.in-Ok.ensures.outcome c.answer_over.ensures.outcome

@@ -1,9 +1,0 @@
-use Rattle.std.proofs.Common.{refl}
-use Rattle.fx_commands.proofs.GainLemmas.{gains_cut, gains_then}
-use Rattle.fx_commands.proofs.reports.write_named.Goals as goal
-
-pub returns-in-Ok : goal.returns-in-Ok
-returns-in-Ok g c = λ told. gains_then _ _ _ _ _ _ c.args.before.now _ (c.in-Ok.ensures.whole told) c.in-Ok.ensures.kept (c.write_name.ensures told)
-
-pub returns-in_default : goal.returns-in_default
-returns-in_default g c = λ told. gains_cut _ _ _ _ c.args.before.now _ (c.in_default.ensures.front told) (c.in_default.ensures.failed refl)

@@ -1,4 +1,0 @@
-use Rattle.fx_commands.proofs.reports.write_registry_error.Goals as goal
-
-pub returns-in-TooMany : goal.returns-in-TooMany
-returns-in-TooMany g c = rw c.in-TooMany.is c.write_number-in-TooMany.ensures

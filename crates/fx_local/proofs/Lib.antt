@@ -1,0 +1,7 @@
+pub mod CountLemmas
+pub mod GainLemmas
+pub mod LoadLemmas
+pub mod LocalLemmas
+pub mod ServiceLemmas
+pub mod ServingLemmas
+pub mod LocalReportLemmas

@@ -1,0 +1,5 @@
+use Rattle.fx_local.proofs.CountLemmas.{no_registry_counts}
+use Rattle.fx_local.proofs.loading.load_registry.Goals as goal
+
+pub returns-clause-counted : goal.returns-clause-counted
+returns-clause-counted g c = no_registry_counts _ _ _ c.in-Err.error c.in-Ok.ensures.counted

@@ -1,0 +1,12 @@
+pub mod Counts
+pub mod Files
+pub mod Lines
+pub mod Local
+pub mod LocalSteps
+pub mod RefusalStatuses
+pub mod RegistryFiles
+pub mod Services
+pub mod Serving
+pub mod ServingSteps
+pub mod Sinks
+pub mod Statuses

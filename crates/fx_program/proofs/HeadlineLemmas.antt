@@ -1,0 +1,282 @@
+-- The theorem of `run` from what its commands report and write.
+use Rattle.std.proofs.Common.{◌≡◌, ◌∙◌, ap, sym, subst, ℕ, ◌≤◌, ◌<◌, ◌⊎◌, List, [], ◌++◌, map, Option, Some, None, Ok, Err, length, inl, inr, arith, take, IsTrue}
+use Rattle.std.specs.Prelude.{Contains, IfSome}
+use Rattle.std.proofs.lemmas.List.{take_all}
+use Rattle.std.proofs.lemmas.List.Elements.{Contains-append_left}
+use Rattle.fx_terms.specs.declared.triples.Triple.{Triple}
+use Rattle.fx_terms.proofs.SetLemmas.{among_from, contains_from}
+use Rattle.fx_outside.specs.Endpoints.{EndpointParts}
+use Rattle.fx_outside.specs.Streams.{AppendsFront}
+use Rattle.fx_algebra.specs.Answers.{answer, no_graphs}
+use Rattle.fx_algebra.specs.Graphs.{union}
+use Rattle.fx_algebra.specs.Occurrences.{services}
+use Rattle.fx_algebra.specs.Units.{sources}
+use Rattle.fx_algebra.specs.declared.answers.Answer.{Answer}
+use Rattle.fx_algebra.specs.declared.queries.Query.{Query}
+use Rattle.fx_algebra.proofs.MemberLemmas.{among_map}
+use Rattle.fx_grammar.specs.Accepted.{Accepted}
+use Rattle.fx_grammar.proofs.OneQuery.{one_query_holds}
+use Rattle.fx_ntriples.specs.Forms.{IsDocument}
+use Rattle.fx_ntriples.proofs.Complete.{document_reads}
+use Rattle.fx_results.specs.Documents.{document}
+use Rattle.fx_plan.specs.Explained.{explained}
+use Rattle.fx_sources.specs.Probes.{Entry}
+use Rattle.fx_sources.specs.Registries.{read_registry}
+use Rattle.fx_traffic.specs.Gains.{TellAll, faults_at}
+use Rattle.fx_engine.specs.Calls.{AreFirst, Call, Occurrence, occurrences}
+use Rattle.fx_engine.specs.Mediation.{Federated, HasPlain, Serve}
+use Rattle.fx_engine.specs.Sections.{parts_with}
+use Rattle.fx_engine.specs.declared.mediator.Down.{Down}
+use Rattle.fx_engine.specs.declared.mediator.DownCause.{DownCause}
+use Rattle.fx_engine.specs.declared.mediator.FedError.TheVariants as fed
+use Rattle.fx_engine.specs.declared.mediator.Outcome.{Outcome}
+use Rattle.fx_local.specs.declared.limits.TheConstants.{GRAPH_LIMIT, QUERY_LIMIT, REGISTRY_LIMIT}
+use Rattle.fx_local.specs.declared.statuses.Status.{Status}
+use Rattle.fx_local.specs.declared.statuses.Status.TheVariants as status
+use Rattle.fx_commands.specs.Asking.{WiresSeen}
+use Rattle.fx_words.specs.Commands.{Asked, over_file, over_members, planned, served, generated}
+use Rattle.fx_commands.specs.Explain.{IsExplainReported, IsExplainWritten}
+use Rattle.fx_local.specs.Files.{FileRead, Holds, IsQueryOf, IsQueryThat, IsRegistryOf}
+use Rattle.fx_commands.specs.FedRefusals.{IsGivenEnd}
+use Rattle.fx_commands.specs.Generator.{summary}
+use Rattle.fx_program.specs.Headline.{AreWritten, Headline, IsTold, NamesFailed}
+use Rattle.fx_local.specs.Lines.{Gains}
+use Rattle.fx_commands.specs.MemberLines.{down_lines, member_failed, service_failed}
+use Rattle.fx_local.specs.Local.{HasLines, IsWritten}
+use Rattle.fx_commands.specs.Query.{IsOutcomeWritten, IsQueryDone, IsQueryReported}
+use Rattle.fx_local.specs.Services.{all_numbers, silent_lines}
+use Rattle.fx_commands.specs.Silent.{AreLicensed, IsPlain}
+use Rattle.fx_local.specs.Sinks.{SinkWritten, Wrote}
+use Rattle.fx_commands.proofs.QueryLemmas.{fed_not_done, known_from_nothing}
+use Rattle.fx_commands.proofs.SilentLemmas.{are_licensed}
+
+-- ---- what is told
+
+pub of_told : (P : List ℕ → Type 0) (o : Option (List ℕ)) (content : List ℕ) → o ≡ Some content → IfSome o P → P content
+of_told P o content is h = subst (λ (v : Option (List ℕ)). IfSome v P) is h
+
+pub same_registry : (all : List ℕ) (es others : List EndpointParts) → read_registry all ≡ Ok es → read_registry all ≡ Ok others → others ≡ es
+same_registry all es others h k = cc
+
+pub registry_told : (r : FileRead) (es others : List EndpointParts) → Holds r REGISTRY_LIMIT (λ content. read_registry content ≡ Ok es) → IsRegistryOf r others → others ≡ es
+registry_told r es others h k = same_registry h.0 es others h.3 (of_told (λ all. (length all ≤ REGISTRY_LIMIT) × (read_registry all ≡ Ok others)) r.content h.0 h.1 k).1
+
+pub query_told : (q : FileRead) (asked other : Query) → Holds q QUERY_LIMIT (λ content. Accepted content asked) → IsQueryOf q other → other ≡ asked
+query_told q asked other h k = one_query_holds h.0 other asked (of_told (λ all. (length all ≤ QUERY_LIMIT) × Accepted all other) q.content h.0 h.1 k).1 h.3
+
+nothing_more : (old new text : List ℕ) → AppendsFront old new text → text ≡ [] → new ≡ old ++ []
+nothing_more old new text front is = front.1 ∙ ap (λ (t : List ℕ). old ++ take front.0 t) is ∙ ap (λ (t : List ℕ). old ++ t) (take_all front.0 [] (omega arith))
+
+-- ---- `query`
+
+-- an endpoint has the line of a refusal for an exchange that failed
+abbrev pub IsFailureLine : Query → EndpointParts → List ℕ → Type 0
+IsFailureLine asked e line = (line ≡ member_failed e.name) ⊎ (IsPlain asked e.iri × (line ≡ service_failed e.iri))
+
+-- the endpoint that a refusal names, and its line
+abbrev FailedAt : WiresSeen → List EndpointParts → (EndpointParts → List ℕ → Type 0) → List ℕ → Type 0
+FailedAt w es IsLine text = (e : EndpointParts) × Contains es e × (faults_at w.before e.iri < faults_at w.after e.iri) × IsLine e text
+
+-- an occurrence that was invoked is one of the query's
+pub of_query : (asked : Query) (calls : List Call) (c : Call) → AreFirst calls (occurrences asked) → Contains calls c → Contains (occurrences asked) c.of
+of_query asked calls c first among =
+    let mine : Contains (map (λ (x : Call). x.of) calls ++ first.others) c.of = Contains-append_left (map (λ (x : Call). x.of) calls) first.others c.of (contains_from (map (λ (x : Call). x.of) calls) c.of (among_map (λ (x : Call). x.of) c calls (among_from calls c among))) in
+    subst (λ (l : List Occurrence). Contains l c.of) first.are mine
+
+plain_at : (asked : Query) (calls : List Call) (why : DownCause) (iri address : List ℕ) → AreFirst calls (occurrences asked) → HasPlain calls why (λ i. i ≡ iri) → address ≡ iri → IsPlain asked address
+plain_at asked calls why iri address first h same = (h.0.of, of_query asked calls h.0 first h.1, h.2, h.4 ∙ sym same)
+
+query_failed : (w : WiresSeen) (r q : FileRead) (block : ℕ) (text : List ℕ) (es : List EndpointParts) (asked : Query) → Holds r REGISTRY_LIMIT (λ content. read_registry content ≡ Ok es) → Holds q QUERY_LIMIT (λ content. Accepted content asked)
+    → IsQueryReported w r q block status.EndpointFault text → FailedAt w es (IsFailureLine asked) text
+query_failed w r q block text es asked h k (inl (none, before)) = absurd before
+query_failed w r q block text es asked h k (inr (Ok outcome, federated, end)) = absurd end
+query_failed w r q block text es asked h k (inr (Err (fed.Member name), federated, end)) =
+    let at = federated.federated.cause.1 in
+    (at.0, subst (λ (l : List EndpointParts). Contains l at.0) (registry_told r es federated.endpoints h federated.registered) at.1, at.3, inl (end.1 ∙ ap member_failed (sym at.2)))
+query_failed w r q block text es asked h k (inr (Err (fed.Service iri), federated, end)) =
+    let cause = federated.federated.cause in
+    let e = cause.1.0 in
+    let plain : IsPlain federated.asked e.iri = plain_at federated.asked federated.federated.calls _ iri e.iri federated.federated.first cause.0 cause.1.2 in (
+      e,
+      subst (λ (l : List EndpointParts). Contains l e) (registry_told r es federated.endpoints h federated.registered) cause.1.1,
+      subst (λ (a : List ℕ). faults_at w.before a < faults_at w.after a) (sym cause.1.2) cause.2,
+      inr (subst (λ (v : Query). IsPlain v e.iri) (query_told q asked federated.asked k federated.accepted) plain, end.1 ∙ ap service_failed (sym cause.1.2)),
+    )
+query_failed w r q block text es asked h k (inr (Err (fed.BadReply name bad), federated, end)) = absurd (other end.0)
+  where
+    other : status.EndpointFault ≡ status.BadReply → ⊥
+    other h = cc
+query_failed w r q block text es asked h k (inr (Err (fed.RequestTooLong name size), federated, end)) = absurd (other end.0)
+  where
+    other : status.EndpointFault ≡ status.RequestTooLong → ⊥
+    other h = cc
+query_failed w r q block text es asked h k (inr (Err (fed.UnknownService iri), federated, end)) = absurd (other end.0)
+  where
+    other : status.EndpointFault ≡ status.UnknownService → ⊥
+    other h = cc
+query_failed w r q block text es asked h k (inr (Err fed.Memory, federated, end)) = absurd (other end.0)
+  where
+    other : status.EndpointFault ≡ status.NoMemory → ⊥
+    other h = cc
+
+-- with `Done`
+abbrev IsAnswerOver : WiresSeen → List EndpointParts → Query → List (List Triple) → (List ℕ → List Triple) → SinkWritten → SinkWritten → Type 0
+IsAnswerOver w es asked graphs graph_at out err = (noted : List Down) × AreLicensed w es asked noted × AreWritten (document (answer asked (union graphs) graph_at (map (λ d. d.place) noted))) (down_lines noted) out err
+
+answer_is : (w : WiresSeen) (es : List EndpointParts) (asked : Query) (graphs : List (List Triple)) (graph_at : List ℕ → List Triple) (block : ℕ) (entries : List Entry) (outcome : Outcome) (out err : SinkWritten) → TellAll w.before es graphs → Serve graph_at es graphs
+    → Federated w.tells w.alone w.before w.after es asked [] entries block (Ok outcome) → IsOutcomeWritten outcome out err → IsAnswerOver w es asked graphs graph_at out err
+answer_is w es asked graphs graph_at block entries outcome out err told serve fed wrote = (
+  outcome.down,
+  are_licensed w es asked entries block outcome fed,
+  (
+    λ tells. wrote.0 tells ∙ ap (λ (a : Answer). out.old ++ document a) (fed.answer graphs (known_from_nothing w.before es graphs told) graph_at serve),
+    wrote.1,
+  ),
+)
+
+query_answered : (w : WiresSeen) (r q : FileRead) (es others : List EndpointParts) (asked other : Query) (graphs : List (List Triple)) (graph_at : List ℕ → List Triple) (block : ℕ) (entries : List Entry) (outcome : Outcome) (out err : SinkWritten) → others ≡ es → other ≡ asked
+    → TellAll w.before es graphs → Serve graph_at es graphs → Federated w.tells w.alone w.before w.after others other [] entries block (Ok outcome) → IsOutcomeWritten outcome out err → IsAnswerOver w es asked graphs graph_at out err
+query_answered w r q es others asked other graphs graph_at block entries outcome out err a b told serve fed =
+    answer_is w es asked graphs graph_at block entries outcome out err told serve
+    (subst (λ (v : Query). Federated w.tells w.alone w.before w.after es v [] entries block (Ok outcome)) b (subst (λ (l : List EndpointParts). Federated w.tells w.alone w.before w.after l other [] entries block (Ok outcome)) a fed))
+
+pub query_headline : (w : WiresSeen) (r q : FileRead) (block : ℕ) (s : Status) (text : List ℕ) (out err : SinkWritten) → IsQueryReported w r q block s text → (IsTrue err.tells → Gains err.old err.new err.before err.after text) → (s ≡ status.Done → IsQueryDone w r q block out err)
+    → (es : List EndpointParts) (asked : Query) (graphs : List (List Triple)) (graph_at : List ℕ → List Triple) → IsTold w r q es asked graphs → Serve graph_at es graphs
+    → (s ≡ status.Done → IsAnswerOver w es asked graphs graph_at out err) × NamesFailed w es (IsFailureLine asked) s err
+query_headline w r q block s text out err reported gains given es asked graphs graph_at told serve = (
+  λ is.
+      let done = given is in
+      let fed = done.1 in
+      query_answered w r q es fed.endpoints asked fed.asked graphs graph_at block fed.entries done.0 out err (registry_told r es fed.endpoints told.registry fed.registered) (query_told q asked fed.asked told.query fed.accepted) told.graphs_are serve fed.federated done.2,
+  λ failed.
+      let at = query_failed w r q block text es asked told.registry told.query (subst (λ (v : Status). IsQueryReported w r q block v text) failed reported) in
+      (at.0, text, at.1, at.2, at.3, gains),
+)
+
+-- ---- `explain`
+
+explain_done : (w : WiresSeen) (r q : FileRead) (text : List ℕ) → IsExplainReported w r q status.Done text → text ≡ []
+explain_done w r q text (inl (none, before)) = absurd before
+explain_done w r q text (inr (Ok parts, made, end)) = end
+explain_done w r q text (inr (Err e, made, end)) = absurd (fed_not_done e (sym end.0))
+
+explain_failed : (w : WiresSeen) (r q : FileRead) (text : List ℕ) (es : List EndpointParts) → Holds r REGISTRY_LIMIT (λ content. read_registry content ≡ Ok es) → IsExplainReported w r q status.EndpointFault text
+    → FailedAt w es (λ e line. line ≡ member_failed e.name) text
+explain_failed w r q text es h (inl (none, before)) = absurd before
+explain_failed w r q text es h (inr (Ok parts, made, end)) = absurd end
+explain_failed w r q text es h (inr (Err (fed.Member name), made, end)) =
+    let at = made.planned.cause.1 in
+    (at.0, subst (λ (l : List EndpointParts). Contains l at.0) (registry_told r es made.endpoints h made.registered) at.1, at.3, end.1 ∙ ap member_failed (sym at.2))
+explain_failed w r q text es h (inr (Err (fed.Service iri), made, end)) = absurd made.planned.cause
+explain_failed w r q text es h (inr (Err (fed.BadReply name bad), made, end)) = absurd (other end.0)
+  where
+    other : status.EndpointFault ≡ status.BadReply → ⊥
+    other h = cc
+explain_failed w r q text es h (inr (Err (fed.RequestTooLong name size), made, end)) = absurd (other end.0)
+  where
+    other : status.EndpointFault ≡ status.RequestTooLong → ⊥
+    other h = cc
+explain_failed w r q text es h (inr (Err (fed.UnknownService iri), made, end)) = absurd (other end.0)
+  where
+    other : status.EndpointFault ≡ status.UnknownService → ⊥
+    other h = cc
+explain_failed w r q text es h (inr (Err fed.Memory, made, end)) = absurd (other end.0)
+  where
+    other : status.EndpointFault ≡ status.NoMemory → ⊥
+    other h = cc
+
+explain_wrote : (w : WiresSeen) (r q : FileRead) (es : List EndpointParts) (asked : Query) (graphs : List (List Triple)) (s : Status) (old new : List ℕ) → IsTold w r q es asked graphs → s ≡ status.Done → IsExplainWritten w.before r q s old new
+    → new ≡ old ++ explained (parts_with (sources graphs) asked) es
+explain_wrote w r q es asked graphs s old new told done h =
+    let wrote = subst (λ (v : Status). IsExplainWritten w.before r q v old new) done h in
+    let inner = of_told _ r.content told.registry.0 told.registry.1 wrote.1 in
+    let answers = of_told _ q.content told.query.0 told.query.1 inner in
+    let same_members = same_registry told.registry.0 es answers.endpoints told.registry.3 answers.registered in
+    let same_asked = one_query_holds told.query.0 answers.asked asked answers.accepted told.query.3 in
+    wrote.2
+    ∙ ap (λ (t : List ℕ). old ++ t) (
+    answers.text_is graphs (subst (λ (l : List EndpointParts). TellAll w.before l graphs) (sym same_members) told.graphs_are)
+    ∙ ap (λ (v : Query). explained (parts_with (sources graphs) v) answers.endpoints) same_asked
+    ∙ ap (λ (l : List EndpointParts). explained (parts_with (sources graphs) asked) l) same_members)
+
+pub explain_headline : (w : WiresSeen) (r q : FileRead) (s : Status) (text : List ℕ) (out err : SinkWritten) → IsExplainReported w r q s text → (IsTrue err.tells → Gains err.old err.new err.before err.after text) → (IsTrue out.tells → IsExplainWritten w.before r q s out.old out.new)
+    → (es : List EndpointParts) (asked : Query) (graphs : List (List Triple)) → IsTold w r q es asked graphs
+    → (s ≡ status.Done → AreWritten (explained (parts_with (sources graphs) asked) es) [] out err) × NamesFailed w es (λ e line. line ≡ member_failed e.name) s err
+explain_headline w r q s text out err reported gains wrote es asked graphs told = (
+  λ done. (
+    λ tells. explain_wrote w r q es asked graphs s out.old out.new told done (wrote tells),
+    λ tells. nothing_more err.old err.new text (gains tells).front (explain_done w r q text (subst (λ (v : Status). IsExplainReported w r q v text) done reported)),
+  ),
+  λ failed.
+      let at = explain_failed w r q text es told.registry (subst (λ (v : Status). IsExplainReported w r q v text) failed reported) in
+      (at.0, text, at.1, at.2, at.3, gains),
+)
+
+-- ---- `local`
+
+local_wrote : (g q : FileRead) (graph : List Triple) (asked : Query) (s : Status) (old new : List ℕ) → Holds g GRAPH_LIMIT (λ content. IsDocument content graph) → Holds q QUERY_LIMIT (λ content. Accepted content asked) → s ≡ status.Done → IsWritten g q s old new
+    → new ≡ old ++ document (answer asked graph no_graphs (all_numbers (services asked)))
+local_wrote g q graph asked s old new h k done written =
+    let wrote = subst (λ (v : Status). IsWritten g q v old new) done written in
+    let inner = of_told _ g.content h.0 h.1 wrote.1 in
+    let answers = of_told _ q.content k.0 k.1 inner in
+    let same_graph = one_graph h.0 graph answers.graph h.3 answers.read in
+    let same_asked = one_query_holds k.0 answers.asked asked answers.accepted k.3 in
+    wrote.2
+    ∙ ap (λ (t : List ℕ). old ++ t) (
+    answers.document_is
+    ∙ ap (λ (v : Query). document (answer v answers.graph no_graphs (all_numbers (services v)))) same_asked
+    ∙ ap (λ (v : List Triple). document (answer asked v no_graphs (all_numbers (services asked)))) same_graph)
+  where
+    one_graph : (all : List ℕ) (graph other : List Triple) → IsDocument all graph → IsDocument all other → other ≡ graph
+    one_graph all graph other a b = let here = document_reads all graph a in let there = document_reads all other b in cc
+
+local_lines : (q : FileRead) (asked : Query) (lines : List ℕ) → Holds q QUERY_LIMIT (λ content. Accepted content asked) → IsQueryThat q (HasLines lines) → lines ≡ silent_lines (services asked)
+local_lines q asked lines k h =
+    let found = of_told _ q.content k.0 k.1 h in
+    found.1.2.1 ∙ ap (λ (v : Query). silent_lines (services v)) (one_query_holds k.0 found.1.0 asked found.1.1 k.3)
+
+pub local_headline : (g q : FileRead) (s : Status) (out err : SinkWritten) → (IsTrue out.tells → IsWritten g q s out.old out.new) → (s ≡ status.Done → IsTrue err.tells → (lines : List ℕ) × IsQueryThat q (HasLines lines) × (err.new ≡ err.old ++ lines))
+    → (graph : List Triple) (asked : Query) → Holds g GRAPH_LIMIT (λ content. IsDocument content graph) → Holds q QUERY_LIMIT (λ content. Accepted content asked)
+    → s ≡ status.Done → AreWritten (document (answer asked graph no_graphs (all_numbers (services asked)))) (silent_lines (services asked)) out err
+local_headline g q s out err written lines graph asked h k = λ done. (
+  λ tells. local_wrote g q graph asked s out.old out.new h k done (written tells),
+  λ tells. let wrote = lines done tells in wrote.2 ∙ ap (λ (t : List ℕ). err.old ++ t) (local_lines q asked wrote.0 k wrote.1),
+)
+
+-- ---- `generate`
+
+pub making_headline : (n : ℕ) (s : Status) (text : List ℕ) (out err : SinkWritten) → IsGivenEnd [] s text → (IsTrue err.tells → Gains err.old err.new err.before err.after text) → (IsTrue out.tells → Wrote (λ t. t ≡ summary n) s out.old out.new)
+    → s ≡ status.Done → AreWritten (summary n) [] out err
+making_headline n s text out err end gains wrote done = (
+  λ tells. let w = subst (λ (v : Status). Wrote (λ t. t ≡ summary n) v out.old out.new) done (wrote tells) in w.2 ∙ ap (λ (t : List ℕ). out.old ++ t) w.1,
+  λ tells. nothing_more err.old err.new text (gains tells).front (subst (λ (v : Status). IsGivenEnd [] v text) done end),
+)
+
+-- ---- by the command
+
+pub no_headline : (read : List ℕ → FileRead) (w : WiresSeen) (asked : Option Asked) (out err : SinkWritten) → Headline read w asked status.NoMemory out err
+no_headline read w None out err = tt
+no_headline read w (Some (over_members r q workers block)) out err = λ es asked graphs graph_at told serve. (λ done. absurd (not_done done), λ failed. absurd (not_failed failed))
+  where
+    not_done : status.NoMemory ≡ status.Done → ⊥
+    not_done h = cc
+
+    not_failed : status.NoMemory ≡ status.EndpointFault → ⊥
+    not_failed h = cc
+no_headline read w (Some (planned r q)) out err = λ es asked graphs told. (λ done. absurd (not_done done), λ failed. absurd (not_failed failed))
+  where
+    not_done : status.NoMemory ≡ status.Done → ⊥
+    not_done h = cc
+
+    not_failed : status.NoMemory ≡ status.EndpointFault → ⊥
+    not_failed h = cc
+no_headline read w (Some (over_file g q)) out err = λ graph asked h k done. absurd (not_done done)
+  where
+    not_done : status.NoMemory ≡ status.Done → ⊥
+    not_done h = cc
+no_headline read w (Some (served g address count)) out err = tt
+no_headline read w (Some (generated n)) out err = λ done. absurd (not_done done)
+  where
+    not_done : status.NoMemory ≡ status.Done → ⊥
+    not_done h = cc

@@ -1,0 +1,80 @@
+-- What a run does, by the command that its words are.
+use Rattle.std.specs.Prelude.{◌≡◌, ℕ, Bool, List, [], ◌++◌, Option, Some, None, IsTrue, drop, take}
+use Rattle.fx_outside.specs.Doors.{DoorSeen}
+use Rattle.fx_traffic.specs.Gains.{faults_at}
+use Rattle.fx_wire.specs.Exchanges.{Seen}
+use Rattle.fx_local.specs.declared.statuses.Status.{Status}
+use Rattle.fx_local.specs.declared.statuses.Status.TheVariants as status
+use Rattle.fx_commands.specs.Asking.{WiresSeen, IsUnasked, wires_seen}
+use Rattle.fx_words.specs.Commands.{Asked, over_file, over_members, planned, served, generated}
+use Rattle.fx_commands.specs.Explain.{IsExplainReported, IsExplainWritten}
+use Rattle.fx_commands.specs.FedRefusals.{IsGivenEnd}
+use Rattle.fx_local.specs.Files.{FileRead}
+use Rattle.fx_commands.specs.Generator.{summary}
+use Rattle.fx_local.specs.Lines.{Gains, usage_line, no_memory}
+use Rattle.fx_local.specs.Local.{IsAnswer, IsReported, IsWritten}
+use Rattle.fx_commands.specs.Query.{CountsDown, IsQueryReported, IsQueryWritten, IsUnionAnswer}
+use Rattle.fx_local.specs.Serving.{IsLastCut, IsMemberReported}
+use Rattle.fx_local.specs.Sinks.{SinkWritten, HasFailed, IsCutOff, IsCutShort, IsUntouched, Wrote}
+
+-- words that are no command give the usage line, unless memory ran out
+abbrev pub IsRefused : Status → List ℕ → Type 0
+IsRefused status.Usage text = text ≡ usage_line
+IsRefused status.NoMemory text = text ≡ no_memory
+IsRefused s text = ⊥
+
+-- What a run reports, by the files that its words name, if they are a command: the lines of connections, which a member alone writes and
+-- which are whole, and the line behind them, which isn't whole where a member's write failed. All that is seen of the wires is as it was where the command asks no members, and all that is
+-- seen of the door where it serves nothing.
+abbrev pub Reports : (List ℕ → FileRead) → WiresSeen → DoorSeen → DoorSeen → Option Asked → Status → List ℕ → List ℕ → SinkWritten → Type 0
+Reports read w door later None s lines text err = IsRefused s text × (lines ≡ []) × IsUnasked w × (later ≡ door)
+Reports read w door later (Some (over_file graph query)) s lines text err = IsReported (read graph) (read query) s text × (lines ≡ []) × IsUnasked w × (later ≡ door)
+Reports read w door later (Some (over_members registry query workers block)) s lines text err = IsQueryReported w (read registry) (read query) block s text × (lines ≡ []) × (later ≡ door)
+Reports read w door later (Some (planned registry query)) s lines text err = IsExplainReported w (read registry) (read query) s text × (lines ≡ []) × (later ≡ door)
+Reports read w door later (Some (served graph address count)) s lines text err = IsMemberReported (read graph) door later address count s lines text × IsUnasked w × IsLastCut s err lines text
+Reports read w door later (Some (generated size)) s lines text err = IsGivenEnd [] s text × (lines ≡ []) × IsUnasked w × (later ≡ door)
+
+-- what a run reports, and that its sink of lines gained these
+abbrev pub HasReport : (List ℕ → FileRead) → WiresSeen → DoorSeen → DoorSeen → Option Asked → Status → SinkWritten → Type 0
+HasReport read w door later asked s err = (lines : List ℕ) × (text : List ℕ) × Reports read w door later asked s lines text err × (IsTrue err.tells → Gains (err.old ++ lines) err.new err.before err.after text)
+
+-- what a run leaves on standard output
+abbrev pub Writes : (List ℕ → FileRead) → List Seen → Option Asked → Status → List ℕ → List ℕ → Type 0
+Writes read before None s old new = new ≡ old
+Writes read before (Some (over_file graph query)) s old new = IsWritten (read graph) (read query) s old new
+Writes read before (Some (over_members registry query workers block)) s old new = IsQueryWritten before (read registry) (read query) s old new
+Writes read before (Some (planned registry query)) s old new = IsExplainWritten before (read registry) (read query) s old new
+Writes read before (Some (served graph address count)) s old new = new ≡ old
+Writes read before (Some (generated size)) s old new = Wrote (λ text. text ≡ summary size) s old new
+
+-- Which write failed, with the status `WriteFault`: for `local` and `query` one of the document, or of the lines behind it, for `explain` and `generate` one on
+-- standard output alone, and for a member one of its lines.
+abbrev pub FailsToWrite : (List ℕ → FileRead) → List Seen → Option Asked → SinkWritten → SinkWritten → Type 0
+FailsToWrite read before None out err = ⊥
+FailsToWrite read before (Some (over_file graph query)) out err = IsCutShort (IsAnswer (read graph) (read query)) out err
+FailsToWrite read before (Some (over_members registry query workers block)) out err = IsCutShort (IsUnionAnswer before (read registry) (read query)) out err
+FailsToWrite read before (Some (planned registry query)) out err = IsCutOff out err
+FailsToWrite read before (Some (served graph address count)) out err = IsUntouched out × HasFailed err
+FailsToWrite read before (Some (generated size)) out err = IsCutOff out err
+
+-- How many faults a run that is done counts at each address, by wires that count each address alone: none, but for `query` as many as its lines say that the wire failed.
+abbrev pub CountsEndpoints : (List ℕ → FileRead) → Option Asked → List Seen → List Seen → SinkWritten → Type 0
+CountsEndpoints read (Some (over_members registry query workers block)) before after err = CountsDown (read query) before after err
+CountsEndpoints read asked before after err = (address : List ℕ) → faults_at after address ≡ faults_at before address
+
+-- how many wires a run uses at most, from the first on: none where it asks no members
+abbrev pub wires_used : Option Asked → ℕ
+wires_used None = 0
+wires_used (Some (over_file graph query)) = 0
+wires_used (Some (over_members registry query workers block)) = workers
+wires_used (Some (planned registry query)) = 4
+wires_used (Some (served graph address count)) = 0
+wires_used (Some (generated size)) = 0
+
+-- So many wires at most are used, from the first on: what they are before and after. The others are as they were.
+abbrev pub OnUsed : {W : Type 0} → ℕ → List W → List W → (List W → List W → Type 0) → Type 0
+OnUsed {W} most old new P = (later : List W) × (new ≡ later ++ drop most old) × P (take most old) later
+
+-- the same of what is seen of them
+abbrev pub OnWires : {W : Type 0} → Bool → Bool → (W → Seen) → ℕ → List W → List W → (WiresSeen → Type 0) → Type 0
+OnWires tells alone seen most old new P = OnUsed most old new (λ used later. P (wires_seen tells alone seen used later))
