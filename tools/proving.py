@@ -22,8 +22,8 @@ MINUTES = {
     "fx_rules": 0.1, "fx_terms": 1.1, "fx_words": 1.4, "fx_tokens": 1.6, "fx_outside": 1.9, "fx_algebra": 2.5, "fx_ntriples": 1.5,
     "fx_grammar": 0.4, "fx_spelling": 0.3, "fx_depths": 0.1, "fx_trees": 1.3, "fx_expressions": 2.2, "fx_groups": 1.2, "fx_heads": 0.7,
     "fx_syntax": 1.3, "fx_print": 1.4, "fx_results": 2.1, "fx_expr": 2.6, "fx_solutions": 2.1, "fx_store": 1.8, "fx_member": 2.3,
-    "fx_sources": 2.3, "fx_plan": 2.1, "fx_steps": 0.1, "fx_bound": 2.7, "fx_traffic": 0.1, "fx_pool": 4.1, "fx_engine": 4, "fx_commands": 5,
-    "fedx": 3,
+    "fx_sources": 2.3, "fx_plan": 2.1, "fx_steps": 0.1, "fx_bound": 2.7, "fx_traffic": 0.1, "fx_pool": 4.1, "fx_engine": 4, "fx_local": 2, "fx_commands": 2.7,
+    "fx_program": 0.9, "fedx": 3,
 }
 
 
@@ -63,8 +63,8 @@ class Workshop:
     A crate is proved over the statements of the libraries below it, and not over their proofs, which were checked when these were built: to load them
     takes longer than most crates take themselves."""
 
-    def __init__(self, below, of_kit):
-        self.below, self.of_kit, self.sums = below, of_kit, {}
+    def __init__(self, below, of_kit, of_gate=False):
+        self.below, self.of_kit, self.of_gate, self.sums = below, of_kit, of_gate, {}
         self.kit = os.path.dirname(os.path.dirname(os.path.realpath(shutil.which("rt"))))
         self.version = subprocess.run(["rt", "version"], stdout=subprocess.PIPE, check=True).stdout
 
@@ -85,14 +85,19 @@ class Workshop:
             return kept.read() == self.sum(name) and os.path.isdir(f"{LIBRARIES}/{name}.rlib")
         return False
 
+    def library(self, name):
+        """Where what is proved of a library lies: by the launcher, or by `rt ci`."""
+        return f"{TOP}/crates/{name}/out/rlib/{name}.rlib" if self.of_gate else f"{LIBRARIES}/{name}.rlib"
+
     def words(self, name):
         """The words of the compiler for a crate, but for what it is to make."""
         words = [f"{self.kit}/bin/rattle", "build", "--crate-name", name, root_of(name), "--jobs", "1", "--links", f"{name}="]
         for it in self.of_kit[name]:
             words += ["--extern", f"{it}={self.kit}/rlibs/{it}.rlib"]
         for it in self.below[name]:
-            words += ["--extern", f"{it}={LIBRARIES}/{it}.rlib"]
-        words += ["-L", f"dependency={self.kit}/rlibs", "-L", f"dependency={LIBRARIES}"]
+            words += ["--extern", f"{it}={self.library(it)}"]
+        folders = sorted({os.path.dirname(self.library(it)) for it in needed(self.below, name) - {name}})
+        words += [word for folder in [f"{self.kit}/rlibs", *folders] for word in ("-L", f"dependency={folder}")]
         return [*words, "--antt-project", f"{self.kit}/rattle/logic/antt-project.json", "--logic-built", f"{self.kit}/logic_built"]
 
     def checking(self, name, folder):
