@@ -25,7 +25,7 @@ use Rattle.fx_bound.specs.declared.faults.BatchError.{BatchError}
 use Rattle.fx_bound.specs.declared.faults.BatchError.TheVariants as error
 use Rattle.fx_bound.specs.declared.faults.RowFault.{RowFault}
 use Rattle.fx_bound.specs.declared.faults.RowFault.TheVariants.{Foreign, Partial}
-use Rattle.fx_bound.specs.declared.founds.Found.{Found}
+use Rattle.fx_founds.specs.declared.founds.Found.{Found}
 use Rattle.fx_bound.proofs.BatchLemmas.{answer_read_as}
 use Rattle.fx_bound.proofs.SentLemmas.{found_of}
 use Rattle.fx_bound.proofs.UnionLemmas.{in_kept}

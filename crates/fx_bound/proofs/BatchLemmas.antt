@@ -44,7 +44,7 @@ use Rattle.fx_bound.specs.Batches.{AreAnswered, AreAnswersOf, AreReadAs, BatchHa
 use Rattle.fx_bound.specs.Branches.{bound_expr, bound_pattern}
 use Rattle.fx_bound.specs.Reading.{AreRead, all_columns, branch_rows, branch_solutions, check_name, checked_by, columns_of, free_names, renamed, unit_names}
 use Rattle.fx_bound.specs.Uniting.{AreAll, AreToldBy, Place, branches}
-use Rattle.fx_bound.specs.declared.founds.Found.{Found}
+use Rattle.fx_founds.specs.declared.founds.Found.{Found}
 use Rattle.fx_bound.proofs.BranchLemmas.{AreTold, holds_kept, value_rises}
 use Rattle.fx_bound.proofs.NamingLemmas.{among_from_test, among_once, test_from}
 use Rattle.fx_bound.proofs.ReadingLemmas.{BindsJust, answer_tells_branches, found_some, no_free, row_binds, solution_rises}

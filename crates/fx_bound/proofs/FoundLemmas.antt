@@ -1,12 +1,11 @@
 -- All that was found, in order and each once, is what was found branch by branch.
-use Rattle.std.proofs.Common.{◌≡◌, ◌∙◌, ap, sym, subst, refl, inl, inr, ℕ, zero, suc, ◌+◌, ◌<◌, ◌≤◌, Bool, true, false, cond, List, [], ◌∷◌, ◌++◌, append-nil, drop, map, filter, length, Contains, arith}
+use Rattle.std.proofs.Common.{◌≡◌, ◌∙◌, ap, sym, subst, refl, inl, inr, ℕ, zero, suc, ◌+◌, ◌<◌, ◌≤◌, Bool, true, false, cond, List, [], ◌∷◌, ◌++◌, map, filter, Contains, arith}
 use Rattle.std.specs.Prelude.{All, ◌==◌, slice_get}
 use Rattle.std.specs.List.{AllByRecursion, flat_map}
 use Rattle.std.specs.List.Sorted.{IsStrictlySortedBy}
 use Rattle.std.specs.declared.cmp.Ordering.{Ordering}
-use Rattle.std.specs.declared.cmp.Ordering.TheVariants.{Less, Equal, Greater}
+use Rattle.std.specs.declared.cmp.Ordering.TheVariants.{Less}
 use Rattle.std.specs.Ordering.{nat_cmp, ordering_then}
-use Rattle.std.proofs.Math.ListN.{drop_of_length-le}
 use Rattle.std.proofs.lemmas.Bool.Decides.{nat_tests}
 use Rattle.std.proofs.lemmas.Cmp.{nat_cmp_total, tied_itself}
 use Rattle.std.proofs.lemmas.List.Elements.{recursion_from_All}
@@ -18,33 +17,17 @@ use Rattle.fx_algebra.specs.declared.units.Row.{Row}
 use Rattle.fx_algebra.proofs.JoinLemmas.{exact_solutions}
 use Rattle.fx_algebra.proofs.MemberLemmas.{among_flat_map, among_from_flat_map, among_from_map, among_map}
 use Rattle.fx_bound.specs.Answers.{numbers, origin_by, row_by}
-use Rattle.fx_bound.specs.FoundOrder.{found_cmp, founds_total}
+use Rattle.fx_founds.specs.FoundOrder.{found_cmp, founds_total}
+use Rattle.fx_founds.proofs.FoundLemmas.{exact_founds}
 use Rattle.fx_bound.specs.Parts.{Parts, places}
 use Rattle.fx_bound.specs.Uniting.{Place, found_for, is_worth_asking, places_from, united}
-use Rattle.fx_bound.specs.declared.founds.Found.{Found}
+use Rattle.fx_founds.specs.declared.founds.Found.{Found}
 use Rattle.fx_bound.proofs.ReadingLemmas.{flat_each, map_both, map_flat}
 use Rattle.fx_bound.proofs.UnionLemmas.{each_of, in_kept, kept_in}
 use Rattle.fx_bound.proofs.UniteLemmas.{number_above}
 
--- ---- the order
-
-tie : (o p : Ordering) → ordering_then o p ≡ Equal → (o ≡ Equal) × (p ≡ Equal)
-tie Equal p h = (refl, h)
-tie Less p h = cc
-tie Greater p h = cc
-
-exact_numbers : (m n : ℕ) → nat_cmp m n ≡ Equal → m ≡ n
-exact_numbers m n h = grind (arith, nat_tests)
-
 below_number : (m n : ℕ) → m < n → nat_cmp m n ≡ Less
 below_number m n h = grind (arith, nat_tests)
-
-pub exact_founds : (a b : Found) → found_cmp a b ≡ Equal → a ≡ b
-exact_founds a b h =
-    let t = tie (nat_cmp a.branch b.branch) (solution_cmp a.solution b.solution) h in
-    let n : a.branch ≡ b.branch = exact_numbers a.branch b.branch t.0 in
-    let s : a.solution ≡ b.solution = exact_solutions a.solution b.solution t.1 in
-    λ i. record { branch = n i; solution = s i }
 
 abbrev found : ℕ → Bindings → Found
 found number s = record { branch = number; solution = s }
@@ -54,11 +37,6 @@ same_branch number s t h = ap (λ (o : Ordering). ordering_then o (solution_cmp 
 
 below_branch : (f g : Found) → f.branch < g.branch → found_cmp f g ≡ Less
 below_branch f g h = ap (λ (o : Ordering). ordering_then o (solution_cmp f.solution g.solution)) (below_number f.branch g.branch h)
-
--- when the last list is added
-pub all_added : (founds : List Found) (i : ℕ) (lists : List (List Found)) → length lists ≤ i → founds ++ flat_map (λ list. list) (drop i lists) ≡ flat_map (λ list. list) lists → founds ≡ flat_map (λ list. list) lists
-all_added founds i lists h e =
-    sym (append-nil founds) ∙ ap (λ (v : List (List Found)). founds ++ flat_map (λ list. list) v) (sym (drop_of_length-le lists h)) ∙ e
 
 -- ---- rising lists
 

@@ -36,7 +36,7 @@ use Rattle.fx_bound.specs.Unions.{beside}
 use Rattle.fx_bound.specs.Uniting.{Place, branches, is_worth_asking, places_from, tells}
 use Rattle.fx_bound.specs.declared.faults.RowFault.{RowFault}
 use Rattle.fx_bound.specs.declared.faults.RowFault.TheVariants.{Foreign, Partial}
-use Rattle.fx_bound.specs.declared.founds.Found.{Found}
+use Rattle.fx_founds.specs.declared.founds.Found.{Found}
 use Rattle.fx_bound.proofs.BranchLemmas.{branch_tells_its_row, told_rises, told_term}
 use Rattle.fx_bound.proofs.NamingLemmas.{among_from_test, among_once, check_apart, place_apart, place_low, sent_apart, sent_is_no_check, test_from}
 use Rattle.fx_bound.proofs.UnionLemmas.{in_kept, kept_in, once_kept}

@@ -27,7 +27,7 @@ use Rattle.fx_bound.specs.Uniting.{Place, is_worth_asking, places_from}
 use Rattle.fx_bound.specs.declared.branches.Branch.{Branch}
 use Rattle.fx_bound.specs.declared.faults.RowFault.{RowFault}
 use Rattle.fx_bound.specs.declared.faults.RowFault.TheVariants.{Foreign, Partial}
-use Rattle.fx_bound.specs.declared.founds.Found.{Found}
+use Rattle.fx_founds.specs.declared.founds.Found.{Found}
 use Rattle.fx_bound.proofs.BranchLemmas.{told_rises, told_term, value_rises}
 use Rattle.fx_bound.proofs.NamingLemmas.{among_from_test, test_from}
 use Rattle.fx_bound.proofs.ReadingLemmas.{BindsJust, all_pass, found_some, row_read}

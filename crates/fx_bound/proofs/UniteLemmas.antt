@@ -21,7 +21,7 @@ use Rattle.fx_spelling.specs.Units.{IsPushed}
 use Rattle.fx_bound.specs.Branches.{bound_pattern, is_hopeless}
 use Rattle.fx_bound.specs.Unions.{beside, of_members}
 use Rattle.fx_bound.specs.Uniting.{AreAll, AreToldBy, Place, UnitedIsTheStep, branches, found_for, is_worth_asking, places_from, tells, united}
-use Rattle.fx_bound.specs.declared.founds.Found.{Found}
+use Rattle.fx_founds.specs.declared.founds.Found.{Found}
 use Rattle.fx_bound.proofs.BranchLemmas.{hopeless_branch_has_none}
 use Rattle.fx_bound.proofs.UnionLemmas.{each_of, in_kept, kept_in, members_have_the_union}
 

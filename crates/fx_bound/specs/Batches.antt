@@ -20,7 +20,7 @@ use Rattle.fx_spelling.specs.Units.{IsFit, IsSound}
 use Rattle.fx_bound.specs.Branches.{bound_expr, bound_pattern}
 use Rattle.fx_bound.specs.Reading.{all_columns, branch_rows, check_name, free_names, read_row, renamed, unit_names}
 use Rattle.fx_bound.specs.Uniting.{Place, branches, united}
-use Rattle.fx_bound.specs.declared.founds.Found.{Found}
+use Rattle.fx_founds.specs.declared.founds.Found.{Found}
 
 -- where no variable is left, the branch says that it has a solution
 abbrev pub check_elements : ℕ → List (List ℕ) → List Element

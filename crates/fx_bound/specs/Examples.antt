@@ -14,7 +14,7 @@ use Rattle.fx_bound.specs.Reading.{read_row}
 use Rattle.fx_bound.specs.Uniting.{branches}
 use Rattle.fx_bound.specs.declared.faults.RowFault.{RowFault}
 use Rattle.fx_bound.specs.declared.faults.RowFault.TheVariants.{Foreign, Mixed, Partial}
-use Rattle.fx_bound.specs.declared.founds.Found.{Found}
+use Rattle.fx_founds.specs.declared.founds.Found.{Found}
 
 -- names and terms are known by their last letter here
 abbrev pub iri : List ℕ → Term

@@ -8,5 +8,4 @@ pub mod Examples
 pub mod Parts
 pub mod Sent
 pub mod Answers
-pub mod FoundOrder
 pub mod Made

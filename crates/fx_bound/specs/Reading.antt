@@ -19,7 +19,7 @@ use Rattle.fx_bound.specs.Branches.{bound_expr, bound_pattern, told}
 use Rattle.fx_bound.specs.Uniting.{Place, branches, tells}
 use Rattle.fx_bound.specs.declared.faults.RowFault.{RowFault}
 use Rattle.fx_bound.specs.declared.faults.RowFault.TheVariants.{Foreign, Mixed, Partial}
-use Rattle.fx_bound.specs.declared.founds.Found.{Found}
+use Rattle.fx_founds.specs.declared.founds.Found.{Found}
 
 -- ---- names in the text
 

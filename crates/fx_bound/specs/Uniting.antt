@@ -12,7 +12,7 @@ use Rattle.fx_algebra.specs.declared.units.Unit as unit
 use Rattle.fx_spelling.specs.Units.{IsSound}
 use Rattle.fx_bound.specs.Branches.{bound_pattern, is_hopeless}
 use Rattle.fx_bound.specs.Unions.{beside}
-use Rattle.fx_bound.specs.declared.founds.Found.{Found}
+use Rattle.fx_founds.specs.declared.founds.Found.{Found}
 
 -- ---- the branches of rows
 

@@ -1,7 +1,5 @@
 //! Batches: several rows asked for in one text.
 ghost use Rattle.std.specs.Prelude.{◌≡◌, ◌≤◌, IfOk, IfSome, length, option_map, string_bytes};
-ghost use Rattle.std.specs.Option.{option_copied};
-ghost use Rattle.fx_algebra.specs.Printed.{joined};
 ghost use Rattle.fx_grammar.specs.Accepted.{Accepted};
 ghost use Rattle.fx_spelling.specs.Units.{IsFit};
 ghost use Rattle.fx_bound.specs.Made.{IsMade};

@@ -1,8 +1,5 @@
 //! The branches of a batch.
 ghost use Rattle.std.specs.Prelude.{◌≡◌, ◌≤◌, false, IfOk, length, map};
-ghost use Rattle.std.specs.Option.{option_copied};
-ghost use Rattle.fx_algebra.specs.Solutions.{Bindings};
-ghost use Rattle.fx_spelling.specs.Units.{IsFit};
 ghost use Rattle.fx_bound.specs.Branches.{bound_pattern, is_hopeless as is_hopeless_list, is_literal as is_literal_part, bound_part};
 ghost use Rattle.fx_bound.specs.Parts as parts;
 ghost use Rattle.fx_bound.specs.Reading as reading;

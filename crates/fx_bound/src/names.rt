@@ -1,5 +1,5 @@
 //! The variables of a unit, and their other names.
-ghost use Rattle.std.specs.Prelude.{◌≡◌, ◌++◌, ◌<◌, ◌^◌, [], fold, IfOk, length, OnOk, string_bytes};
+ghost use Rattle.std.specs.Prelude.{◌≡◌, ◌++◌, ◌<◌, ◌^◌, fold, IfOk, length, OnOk, string_bytes};
 ghost use Rattle.std.specs.Fmt.{decimal};
 ghost use Rattle.fx_algebra.specs.BasicGraphPatterns.{variables};
 ghost use Rattle.fx_algebra.specs.Scopes.{once, part_names, pattern_names, with_name};

@@ -11,9 +11,9 @@ ghost use Rattle.fx_bound.specs.Sent as sent;
 use crate::batches::Batch;
 use crate::branches::Branch;
 use crate::faults::{BatchError, RowFault};
-use crate::founds::Found;
 use crate::tellings::with_told;
 use fx_algebra::{Answer, Solution};
+use fx_founds::Found;
 use fx_terms::{Items, Memory, Name, Term};
 use std::alloc::Global;
 

@@ -1,19 +1,16 @@
 //! What the members of a unit told of a batch, united.
-ghost use Rattle.std.specs.Prelude.{◌≡◌, ◌++◌, All, Contains, IfOk, IsPermutation, List, map, OnOk};
-ghost use Rattle.std.specs.List.{flat_map};
+ghost use Rattle.std.specs.Prelude.{◌≡◌, All, Contains, IfOk, IsPermutation, List, map};
 ghost use Rattle.fx_terms.specs.declared.triples.Triple.{Triple as TripleParts};
-ghost use Rattle.fx_terms.specs.Graphs.{set_of};
 ghost use Rattle.fx_algebra.specs.Graphs.{union};
 ghost use Rattle.fx_algebra.specs.Units.{step};
 ghost use Rattle.fx_spelling.specs.Units.{IsSound};
 ghost use Rattle.fx_bound.specs.Answers as spec;
-ghost use Rattle.fx_bound.specs.FoundOrder.{found_cmp};
-ghost use Rattle.fx_bound.specs.Parts.{IsBatch, places};
+ghost use Rattle.fx_bound.specs.Parts.{places};
 ghost use Rattle.fx_bound.specs.Uniting.{united};
 
 use crate::batches::Batch;
-use crate::founds::Found;
 use fx_algebra::Row;
+use fx_founds::{Found, each_once};
 use fx_terms::{Items, Memory};
 use std::alloc::Global;
 
@@ -29,30 +26,8 @@ pub fn unite(alloc: Global, batch: &Batch, lists: &[Items<Found>]) -> Result<Vec
         → IfOk result (λ rows. IsPermutation rows.items (step (union graphs) batch.now.unit batch.now.rows)) }
 {
     let _branches = batch.branches();
-    let founds = founds_of(alloc, lists)?;
+    let founds = each_once(alloc, lists)?;
     rows_of(alloc, batch.rows(), founds)
-}
-
-// Each thing that was found once, in order.
-fn founds_of(alloc: Global, lists: &[Items<Found>]) -> Result<Vec<Found>, Memory>
-    ensures { IfOk result (λ founds. founds.items ≡ set_of found_cmp (flat_map (λ list. list) lists.now)) }
-{
-    let mut founds = Vec::new(alloc);
-    for list in lists {
-        add_all(alloc, &mut founds, list.as_slice())?;
-    }
-    founds.sort()?;
-    founds.dedup();
-    Ok(founds)
-}
-
-fn add_all(alloc: Global, founds: &mut Vec<Found>, more: &[Found]) -> Result<(), Memory>
-    ensures { OnOk result (founds.new.items ≡ founds.old.items ++ more.now) }
-{
-    for found in more {
-        founds.push(found.copy(alloc)?)?;
-    }
-    Ok(())
 }
 
 // The solutions, each under the number that the row of its branch came with.

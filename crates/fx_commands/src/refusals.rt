@@ -1,5 +1,5 @@
 //! How a run ends that the members refuse: its status, and its line on standard error.
-ghost use Rattle.std.specs.Prelude.{◌≡◌, ◌∷◌, ◌++◌, [], Some, codes, IsTrue};
+ghost use Rattle.std.specs.Prelude.{◌≡◌, ◌++◌, Some, codes, IsTrue};
 ghost use Rattle.std.specs.Fmt.{decimal};
 ghost use Rattle.fx_engine.specs.FaultTexts.{fault_text, with_code};
 ghost use Rattle.fx_local.specs.Lines.{Gains, line};

@@ -8,7 +8,7 @@ use Rattle.fx_algebra.specs.Groups.{alternatives, alternative_seeds, alternative
 use Rattle.fx_algebra.specs.Solutions.{Bindings}
 use Rattle.fx_algebra.specs.Stations.{Station}
 use Rattle.fx_algebra.specs.declared.queries.Group.{Group}
-use Rattle.fx_pool.specs.declared.flows.FlowError.TheVariants as flow
+use Rattle.fx_flows.specs.declared.flows.FlowError.TheVariants as flow
 use Rattle.fx_traffic.specs.Sent.{Sent}
 use Rattle.fx_wire.specs.Exchanges.{Seen}
 use Rattle.fx_engine.specs.Asked.{Asked}

@@ -17,7 +17,7 @@ use Rattle.fx_algebra.proofs.OperatorLemmas.{with_inline_moves}
 use Rattle.fx_solutions.proofs.AnswerLemmas.{one_answer_holds}
 use Rattle.fx_traffic.specs.Sent.{Sent}
 use Rattle.fx_wire.specs.Exchanges.{Seen}
-use Rattle.fx_pool.specs.declared.flows.FlowError.TheVariants as flow
+use Rattle.fx_flows.specs.declared.flows.FlowError.TheVariants as flow
 use Rattle.fx_engine.specs.AnswersAsked.{AnswerDue, AnswerGiven, IsFromRows}
 use Rattle.fx_engine.specs.Asked.{Asked}
 use Rattle.fx_engine.specs.GroupsAsked.{GroupDue, GroupGiven, HasRows, IsNext, Served, all_planned, group_in, seeds_in, stations_in}

@@ -17,10 +17,10 @@ use Rattle.fx_traffic.specs.Sent.{Sent}
 use Rattle.fx_traffic.proofs.GainLemmas.{gain_laws}
 use Rattle.fx_traffic.proofs.SentLemmas.{sent_laws}
 use Rattle.fx_wire.specs.Exchanges.{Exchange, Seen}
-use Rattle.fx_pool.specs.Flows.{IsBatchRead, IsCause}
-use Rattle.fx_pool.specs.RunFlows.{HasFlowCause, IsFlowCause}
-use Rattle.fx_pool.specs.declared.flows.FlowError.{FlowError}
-use Rattle.fx_pool.specs.declared.flows.FlowError.TheVariants as flow
+use Rattle.fx_flows.specs.Flows.{IsBatchRead, IsCause}
+use Rattle.fx_flows.specs.RunFlows.{HasFlowCause, IsFlowCause}
+use Rattle.fx_flows.specs.declared.flows.FlowError.{FlowError}
+use Rattle.fx_flows.specs.declared.flows.FlowError.TheVariants as flow
 use Rattle.fx_pool.proofs.WireLemmas.{after_itself}
 use Rattle.fx_engine.specs.Asked.{Asked, HasRowsCause, IfGiven, IfRefused, Knows, Went}
 use Rattle.fx_engine.specs.GroupsAsked.{solutions_in, units_in}

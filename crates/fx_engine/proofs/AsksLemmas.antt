@@ -19,8 +19,8 @@ use Rattle.fx_traffic.proofs.SentLemmas.{middle_changes, sent_laws}
 use Rattle.fx_wire.specs.Exchanges.{Exchange, Seen}
 use Rattle.fx_pool.specs.Jobs.{AreDone, failures_at}
 use Rattle.fx_pool.specs.Runs.{WiresDid}
-use Rattle.fx_pool.specs.declared.flows.FlowError.{FlowError}
-use Rattle.fx_pool.specs.declared.flows.FlowError.TheVariants as flow
+use Rattle.fx_flows.specs.declared.flows.FlowError.{FlowError}
+use Rattle.fx_flows.specs.declared.flows.FlowError.TheVariants as flow
 use Rattle.fx_pool.specs.declared.jobs.JobReply.{JobReply}
 use Rattle.fx_pool.specs.declared.jobs.JobReply.TheVariants as reply
 use Rattle.fx_pool.proofs.WireLemmas.{after_itself}

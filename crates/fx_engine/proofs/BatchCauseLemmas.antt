@@ -26,10 +26,10 @@ use Rattle.fx_traffic.specs.Gains.{AreAfter, Tell}
 use Rattle.fx_traffic.specs.Sent.{Sent}
 use Rattle.fx_traffic.proofs.TextLemmas.{texts_of_more}
 use Rattle.fx_wire.specs.Exchanges.{Exchange, Seen}
-use Rattle.fx_pool.specs.Flows.{IsBadBatch, IsBatchRead, IsLongBatch}
-use Rattle.fx_pool.specs.RunFlows.{HasFlowCause, IsFlowCause}
-use Rattle.fx_pool.specs.declared.flows.FlowError.{FlowError}
-use Rattle.fx_pool.specs.declared.flows.FlowError.TheVariants as flow
+use Rattle.fx_flows.specs.Flows.{IsBadBatch, IsBatchRead, IsLongBatch}
+use Rattle.fx_flows.specs.RunFlows.{HasFlowCause, IsFlowCause}
+use Rattle.fx_flows.specs.declared.flows.FlowError.{FlowError}
+use Rattle.fx_flows.specs.declared.flows.FlowError.TheVariants as flow
 use Rattle.fx_pool.specs.declared.jobs.BadReply.{BadReply}
 use Rattle.fx_engine.specs.Calls.{Call, IsRefused}
 use Rattle.fx_engine.specs.GroupsAsked.{CanBeAsked, task_units, units_in}

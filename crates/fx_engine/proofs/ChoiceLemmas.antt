@@ -16,8 +16,8 @@ use Rattle.fx_sources.specs.declared.probes.Probe.{Probe}
 use Rattle.fx_sources.proofs.SourceLemmas.{chooses}
 use Rattle.fx_traffic.specs.Gains.{Tell, TellAll}
 use Rattle.fx_wire.specs.Exchanges.{Exchange, Seen}
-use Rattle.fx_pool.specs.declared.flows.FlowError.{FlowError}
-use Rattle.fx_pool.specs.declared.flows.FlowError.TheVariants as flow
+use Rattle.fx_flows.specs.declared.flows.FlowError.{FlowError}
+use Rattle.fx_flows.specs.declared.flows.FlowError.TheVariants as flow
 use Rattle.fx_pool.specs.declared.jobs.BadReply.{BadReply}
 use Rattle.fx_engine.specs.Asks.{AskedAll, HasProbeCause, IsAnsweredBy, IsBadAsk, IsProbeCause}
 use Rattle.fx_engine.specs.Mediation.{HasKept, HasLearned, HasName, HasPlanCause, IsNamed, IsPlaced}

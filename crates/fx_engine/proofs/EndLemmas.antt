@@ -15,7 +15,7 @@ use Rattle.fx_algebra.specs.declared.expressions.Expr.{Expr}
 use Rattle.fx_algebra.specs.declared.queries.Element.TheVariants.{Optional}
 use Rattle.fx_algebra.specs.declared.queries.Group.{Group}
 use Rattle.fx_algebra.specs.declared.units.Row.{Row}
-use Rattle.fx_pool.specs.declared.flows.FlowError.TheVariants as flow
+use Rattle.fx_flows.specs.declared.flows.FlowError.TheVariants as flow
 use Rattle.fx_steps.specs.Optionals.{optional_rows}
 use Rattle.fx_steps.specs.Steps.{solutions_of}
 use Rattle.fx_traffic.specs.Sent.{Sent}

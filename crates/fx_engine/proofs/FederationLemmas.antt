@@ -14,8 +14,8 @@ use Rattle.fx_algebra.specs.Units.{sources}
 use Rattle.fx_algebra.specs.declared.queries.Query.{Query}
 use Rattle.fx_algebra.proofs.CutLemmas.{seeds_for_each}
 use Rattle.fx_plan.specs.declared.parts.Part.{Part}
-use Rattle.fx_pool.specs.Flows.{IsBatchRead}
-use Rattle.fx_pool.specs.declared.flows.FlowError.{FlowError}
+use Rattle.fx_flows.specs.Flows.{IsBatchRead}
+use Rattle.fx_flows.specs.declared.flows.FlowError.{FlowError}
 use Rattle.fx_pool.proofs.WireLemmas.{after_itself}
 use Rattle.fx_sources.specs.Probes.{Entry, chosen, learned, missing, told}
 use Rattle.fx_sources.specs.Sources as source

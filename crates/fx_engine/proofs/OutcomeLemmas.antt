@@ -17,7 +17,7 @@ use Rattle.fx_algebra.specs.declared.answers.Answer.{Answer}
 use Rattle.fx_algebra.specs.declared.queries.Query.{Query}
 use Rattle.fx_grammar.specs.Accepted.{Accepted}
 use Rattle.fx_plan.specs.declared.parts.Part.{Part}
-use Rattle.fx_pool.specs.Flows.{IsBatchRead}
+use Rattle.fx_flows.specs.Flows.{IsBatchRead}
 use Rattle.fx_traffic.specs.Gains.{TellAll, faults_at}
 use Rattle.fx_traffic.proofs.GainLemmas.{gain_laws}
 use Rattle.fx_traffic.proofs.NumberLemmas.{stations_have_the_numbers}

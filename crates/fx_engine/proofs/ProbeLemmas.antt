@@ -22,7 +22,7 @@ use Rattle.fx_pool.specs.Jobs.{AreDone, AreWanted, IsBadReply, IsDone, failures_
 use Rattle.fx_pool.specs.Reading.{an_ask, HasFault, HasResults}
 use Rattle.fx_pool.specs.Runs.{IsHonestOver}
 use Rattle.fx_pool.specs.declared.faults.ReplyFault.TheVariants.{Http}
-use Rattle.fx_pool.specs.declared.flows.FlowError.{FlowError}
+use Rattle.fx_flows.specs.declared.flows.FlowError.{FlowError}
 use Rattle.fx_pool.specs.declared.jobs.BadReply.{BadReply}
 use Rattle.fx_pool.specs.declared.jobs.JobReply.{JobReply}
 use Rattle.fx_pool.specs.declared.jobs.JobReply.TheVariants as reply

@@ -16,9 +16,9 @@ use Rattle.fx_algebra.proofs.CutLemmas.{seeds_for_each}
 use Rattle.fx_algebra.proofs.MemberLemmas.{among_right}
 use Rattle.fx_grammar.specs.Accepted.{Accepted}
 use Rattle.fx_plan.specs.declared.parts.Part.{Part}
-use Rattle.fx_pool.specs.Flows.{IsBatchRead}
-use Rattle.fx_pool.specs.declared.flows.FlowError.{FlowError}
-use Rattle.fx_pool.specs.declared.flows.FlowError.TheVariants as flow
+use Rattle.fx_flows.specs.Flows.{IsBatchRead}
+use Rattle.fx_flows.specs.declared.flows.FlowError.{FlowError}
+use Rattle.fx_flows.specs.declared.flows.FlowError.TheVariants as flow
 use Rattle.fx_pool.specs.declared.jobs.BadReply.{BadReply}
 use Rattle.fx_traffic.specs.Gains.{faults_at}
 use Rattle.fx_traffic.proofs.GainLemmas.{gain_laws}

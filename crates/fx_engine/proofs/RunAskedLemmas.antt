@@ -24,9 +24,9 @@ use Rattle.fx_traffic.specs.Traffic.{SentUnless}
 use Rattle.fx_traffic.proofs.FewerLemmas.{fewer_laws}
 use Rattle.fx_traffic.proofs.TextLemmas.{texts_of_more}
 use Rattle.fx_wire.specs.Exchanges.{Exchange, Seen}
-use Rattle.fx_pool.specs.RunFlows.{HasFlowCause, IsFlowCause, RunFlowed}
-use Rattle.fx_pool.specs.declared.flows.FlowError.{FlowError}
-use Rattle.fx_pool.specs.declared.flows.FlowError.TheVariants as flow
+use Rattle.fx_flows.specs.RunFlows.{HasFlowCause, IsFlowCause, RunFlowed}
+use Rattle.fx_flows.specs.declared.flows.FlowError.{FlowError}
+use Rattle.fx_flows.specs.declared.flows.FlowError.TheVariants as flow
 use Rattle.fx_engine.specs.Asked.{Asked}
 use Rattle.fx_engine.specs.GroupsAsked.{ComesOf, IsRunFound, RunDue, RunGiven, run_task, task_units, units_in}
 use Rattle.fx_engine.specs.Laws.{HasFitUnits, HasSoundUnits}

@@ -19,8 +19,8 @@ use Rattle.fx_algebra.proofs.JoinLemmas.{same_join}
 use Rattle.fx_traffic.specs.Sent.{Sent}
 use Rattle.fx_traffic.specs.Traffic.{AreStationsSent, IsServiceSent}
 use Rattle.fx_wire.specs.Exchanges.{Seen}
-use Rattle.fx_pool.specs.declared.flows.FlowError.{FlowError}
-use Rattle.fx_pool.specs.declared.flows.FlowError.TheVariants as flow
+use Rattle.fx_flows.specs.declared.flows.FlowError.{FlowError}
+use Rattle.fx_flows.specs.declared.flows.FlowError.TheVariants as flow
 use Rattle.fx_engine.specs.Asked.{Asked, HasRowsCause}
 use Rattle.fx_engine.specs.GroupsAsked.{AreAskedFor, HasRows, IsBehindService, IsJoined, IsNext, OperatorDue, OperatorGiven, Served, element_in, group_in, service_task, solutions_in}
 use Rattle.fx_engine.specs.ServicesAsked.{AreRowsOver}

@@ -11,7 +11,7 @@ use Rattle.fx_outside.specs.Endpoints.{EndpointParts}
 use Rattle.fx_algebra.specs.Scopes.{scope}
 use Rattle.fx_algebra.specs.Solutions.{Bindings}
 use Rattle.fx_algebra.specs.declared.queries.Group.{Group}
-use Rattle.fx_bound.specs.declared.founds.Found.{Found}
+use Rattle.fx_founds.specs.declared.founds.Found.{Found}
 use Rattle.fx_traffic.specs.Gains.{Tell, faults_at}
 use Rattle.fx_traffic.specs.Sent.{Sent}
 use Rattle.fx_traffic.specs.Traffic.{IsServiceSent}

@@ -5,8 +5,8 @@ use Rattle.std.specs.declared.alloc.Global.{Global}
 use Rattle.std.specs.declared.vec.Vec.{Vec}
 use Rattle.fx_sources.specs.Sources.{ask_text}
 use Rattle.fx_sources.specs.declared.probes.Probe.{Probe}
-use Rattle.fx_pool.specs.declared.flows.FlowError.{FlowError}
-use Rattle.fx_pool.specs.declared.flows.FlowError.TheVariants as flow
+use Rattle.fx_flows.specs.declared.flows.FlowError.{FlowError}
+use Rattle.fx_flows.specs.declared.flows.FlowError.TheVariants as flow
 use Rattle.fx_pool.specs.declared.jobs.Job.{Job}
 use Rattle.fx_pool.specs.declared.jobs.JobReply.{JobReply}
 use Rattle.fx_pool.specs.declared.jobs.JobReply.TheVariants as reply

@@ -13,11 +13,11 @@ use Rattle.fx_traffic.specs.Gains.{AreAfter, HaveGained, Tell, TellAll, faults_a
 use Rattle.fx_traffic.specs.Sent.{Sent, Sends}
 use Rattle.fx_traffic.specs.Traffic.{AreAsksSent}
 use Rattle.fx_wire.specs.Exchanges.{Exchange, Seen, exchanged}
-use Rattle.fx_pool.specs.Flows.{Names}
+use Rattle.fx_flows.specs.Flows.{Names}
 use Rattle.fx_pool.specs.Reading.{an_ask, HasFault, HasResults}
 use Rattle.fx_pool.specs.declared.faults.ReplyFault.TheVariants.{Http}
-use Rattle.fx_pool.specs.declared.flows.FlowError.{FlowError}
-use Rattle.fx_pool.specs.declared.flows.FlowError.TheVariants as flow
+use Rattle.fx_flows.specs.declared.flows.FlowError.{FlowError}
+use Rattle.fx_flows.specs.declared.flows.FlowError.TheVariants as flow
 use Rattle.fx_pool.specs.declared.jobs.BadReply.{BadReply}
 use Rattle.fx_pool.specs.declared.jobs.JobKind.TheVariants as kind
 

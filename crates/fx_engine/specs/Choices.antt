@@ -3,7 +3,7 @@ use Rattle.std.specs.Prelude.{◌≡◌, ◌≢◌, ◌++◌, false, Bool, List,
 use Rattle.fx_outside.specs.Endpoints.{EndpointParts}
 use Rattle.fx_algebra.specs.declared.queries.Query.{Query}
 use Rattle.fx_plan.specs.Explained.{HasMembers}
-use Rattle.fx_pool.specs.declared.flows.FlowError.{FlowError}
+use Rattle.fx_flows.specs.declared.flows.FlowError.{FlowError}
 use Rattle.fx_sources.specs.Probes.{Entry, chosen, is_held, missing, told}
 use Rattle.fx_engine.specs.Sections.{parts_by, sections}
 use Rattle.fx_engine.specs.declared.choices.Choice.{Choice}

@@ -22,7 +22,7 @@ use Rattle.fx_algebra.specs.declared.queries.Group.{Group}
 use Rattle.fx_algebra.specs.declared.units.Row.{Row}
 use Rattle.fx_algebra.specs.declared.units.Unit as unit
 use Rattle.fx_plan.specs.Plans.{plan}
-use Rattle.fx_pool.specs.declared.flows.FlowError.TheVariants as flow
+use Rattle.fx_flows.specs.declared.flows.FlowError.TheVariants as flow
 use Rattle.fx_spelling.specs.Units.{IsFit}
 use Rattle.fx_steps.specs.Fewer.{AreFewer}
 use Rattle.fx_steps.specs.Steps.{numbered, stepped}

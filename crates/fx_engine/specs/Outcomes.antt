@@ -11,9 +11,9 @@ use Rattle.fx_algebra.specs.Solutions.{Bindings}
 use Rattle.fx_algebra.specs.Units.{sources}
 use Rattle.fx_algebra.specs.declared.queries.Query.{Query}
 use Rattle.fx_plan.specs.declared.parts.Part.{Part}
-use Rattle.fx_pool.specs.Flows.{IsBatchRead}
-use Rattle.fx_pool.specs.RunFlows.{HasFlowCause}
-use Rattle.fx_pool.specs.declared.flows.FlowError.{FlowError}
+use Rattle.fx_flows.specs.Flows.{IsBatchRead}
+use Rattle.fx_flows.specs.RunFlows.{HasFlowCause}
+use Rattle.fx_flows.specs.declared.flows.FlowError.{FlowError}
 use Rattle.fx_traffic.specs.Batches.{IsBatchText}
 use Rattle.fx_traffic.specs.Gains.{AreAfter, HaveGained, TellAll, faults_at}
 use Rattle.fx_traffic.specs.Sent.{Sent, Sends}

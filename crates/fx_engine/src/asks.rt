@@ -6,8 +6,9 @@ ghost use Rattle.fx_engine.specs.AskSteps as spec;
 ghost use Rattle.fx_engine.specs.AskSteps.{AreTruthsOf, IsForAsk, IsTruthOf, truths_in};
 ghost use Rattle.fx_engine.specs.Asks.{AskedAll};
 
+use fx_flows::FlowError;
 use fx_outside::Endpoint;
-use fx_pool::{FlowError, Job, JobReply, RequestText, Work, run_jobs};
+use fx_pool::{Job, JobReply, RequestText, Work, run_jobs};
 use fx_sources::{Probe, ask_text};
 use fx_terms::Memory;
 use fx_wire::Wire;

@@ -5,8 +5,8 @@ ghost use Rattle.fx_plan.specs.declared.parts.Part.{Part as PlanPart};
 ghost use Rattle.fx_engine.specs.Tasks as spec;
 
 use fx_algebra::{Solution, Unit};
+use fx_flows::FlowError;
 use fx_plan::Part;
-use fx_pool::FlowError;
 use fx_terms::{Items, Memory};
 use std::alloc::Global;
 use std::marker::Model;
@@ -113,7 +113,7 @@ pub(crate) enum RowsError {
 
 impl From<Memory> for RowsError {
     ghost use Rattle.std.specs.Prelude.{◌≡◌};
-    ghost use Rattle.fx_pool.specs.declared.flows.FlowError.TheVariants as flow;
+    ghost use Rattle.fx_flows.specs.declared.flows.FlowError.TheVariants as flow;
     ghost use Rattle.fx_engine.specs.declared.tasks.RowsError.TheVariants.{Flow};
 
     ghost from_gives = { λ _ e. e ≡ Flow flow.Memory };

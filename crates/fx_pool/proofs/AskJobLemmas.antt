@@ -2,7 +2,7 @@
 use Rattle.std.proofs.Common.{◌≡◌, subst, sym, ◌<◌, ◌≤◌, length, Bool, List, [], ◌∷◌, ℕ, arith}
 use Rattle.fx_algebra.specs.Solutions.{Bindings}
 use Rattle.fx_algebra.specs.declared.answers.Answer.TheVariants as answer
-use Rattle.fx_bound.specs.declared.founds.Found.{Found}
+use Rattle.fx_founds.specs.declared.founds.Found.{Found}
 use Rattle.fx_outside.specs.Endpoints.{EndpointParts}
 use Rattle.fx_wire.specs.Exchanges.{Exchange, exchanged}
 use Rattle.fx_pool.specs.Jobs.{IsBadReply, IsDone, IsReplyTo}

@@ -12,16 +12,4 @@ pub mod OrderLemmas
 pub mod HonestLemmas
 pub mod FaultLemmas
 pub mod AskJobLemmas
-pub mod BatchLemmas
-pub mod MemberLemmas
-pub mod MembersLemmas
-pub mod AskLemmas
-pub mod CauseLemmas
 pub mod WiresLemmas
-pub mod LineLemmas
-pub mod ParcelLemmas
-pub mod EventLemmas
-pub mod CutLemmas
-pub mod PutLemmas
-pub mod FollowLemmas
-pub mod FlowLemmas

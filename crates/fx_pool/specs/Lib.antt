@@ -6,10 +6,3 @@ pub mod Claims
 pub mod Sharing
 pub mod Telling
 pub mod Laws
-pub mod Flows
-pub mod Parcels
-pub mod FlowLaw
-pub mod Lines
-pub mod Cuts
-pub mod RunFlows
-pub mod Followed

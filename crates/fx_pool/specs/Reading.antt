@@ -9,7 +9,7 @@ use Rattle.fx_bound.specs.Answers.{read_answer}
 use Rattle.fx_bound.specs.Parts.{Parts}
 use Rattle.fx_bound.specs.declared.faults.BatchError.{BatchError}
 use Rattle.fx_bound.specs.declared.faults.BatchError.TheVariants as batch
-use Rattle.fx_bound.specs.declared.founds.Found.{Found}
+use Rattle.fx_founds.specs.declared.founds.Found.{Found}
 use Rattle.fx_http.specs.Replies.{Replies}
 use Rattle.fx_results.specs.Reading.{read_results}
 use Rattle.fx_results.specs.declared.faults.ResultsError.{ResultsError}

@@ -23,7 +23,7 @@ pub enum ReplyFault {
 
 /// Why a reply gives nothing.
 #[derive(Clone, Copy)]
-pub(crate) enum ReadError {
+pub enum ReadError {
     /// It has this fault.
     Bad(ReplyFault),
     /// Memory ran out.

@@ -14,7 +14,7 @@ pub const LONGEST: u64 = 67_108_864;
 
 /// What came of a text that was to be sent.
 #[derive(Drop)]
-pub(crate) enum Posted {
+pub enum Posted {
     /// It was sent in this request, and this is the reply.
     Replied {
         request: Items<u8>,
@@ -29,7 +29,7 @@ pub(crate) enum Posted {
 }
 
 /// Sends a text to an endpoint, where it isn't too long, and takes the reply.
-pub(crate) fn post<W: Wire>(
+pub fn post<W: Wire>(
     alloc: Global,
     wire: &mut W,
     at: &Endpoint,

@@ -1,7 +1,6 @@
 //! What replies tell.
 ghost use Rattle.std.specs.Prelude.{◌≡◌, All, Contains, IfOk, position};
 ghost use Rattle.fx_bound.specs.Answers.{numbers};
-ghost use Rattle.fx_algebra.specs.Scopes.{is_among as is_among_names};
 ghost use Rattle.fx_pool.specs.Reading as spec;
 
 use crate::faults::{ReadError, ReplyFault};
@@ -14,7 +13,7 @@ use fx_terms::{Items, Name};
 use std::alloc::Global;
 
 /// The truth value that a reply to an ASK is, or its first fault.
-pub(crate) fn read_truth(alloc: Global, reply: &[u8]) -> Result<bool, ReadError>
+pub fn read_truth(alloc: Global, reply: &[u8]) -> Result<bool, ReadError>
     ensures { spec.GivesTruth reply.now result }
 {
     match results_of(alloc, reply) {
@@ -25,7 +24,7 @@ pub(crate) fn read_truth(alloc: Global, reply: &[u8]) -> Result<bool, ReadError>
 }
 
 /// The rows of the reply to a SERVICE that asks for these columns, or its first fault.
-pub(crate) fn read_table(
+pub fn read_table(
     alloc: Global,
     reply: &[u8],
     columns: &[Name],
@@ -43,11 +42,7 @@ pub(crate) fn read_table(
 }
 
 /// What is found for the branches of a batch by the reply to it, or its first fault.
-pub(crate) fn read_found(
-    alloc: Global,
-    reply: &[u8],
-    batch: &Batch,
-) -> Result<Items<Found>, ReadError>
+pub fn read_found(alloc: Global, reply: &[u8], batch: &Batch) -> Result<Items<Found>, ReadError>
     ensures found { spec.GivesFound reply.now batch.now result }
     ensures branches { IfOk result (λ founds. All (λ f. Contains (numbers batch.now) f.branch) founds) }
 {

@@ -40,7 +40,7 @@ use Rattle.fx_traffic.specs.Batches.{member_sent, text_sent, to_endpoint, unit_s
 use Rattle.fx_traffic.specs.Gains.{HaveGained}
 use Rattle.fx_traffic.specs.Sent.{Sent}
 use Rattle.fx_wire.specs.Exchanges.{Exchange, exchanged}
-use Rattle.fx_pool.specs.Flows.{IsLongBatch}
+use Rattle.fx_flows.specs.Flows.{IsLongBatch}
 use Rattle.fx_engine.specs.Asks.{IsLongAsk}
 use Rattle.fx_pool.specs.declared.jobs.BadReply.{BadReply}
 use Rattle.fx_engine.specs.Mediation.{Federated, HasBadAsk, HasBadBatch, HasLongAsk, HasLongBatch, HasPlain as HasPlainCall, Planned, Serve}

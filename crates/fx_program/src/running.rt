@@ -1,15 +1,13 @@
 //! The program over files, wires and streams that are handed in.
-ghost use Rattle.std.specs.Prelude.{◌≡◌, ◌≤◌, ◌<◌, ◌++◌, IsTrue, List, ℕ, length, map, string_bytes, take};
+ghost use Rattle.std.specs.Prelude.{◌≡◌, ◌≤◌, ◌<◌, IsTrue, List, ℕ, length, map, string_bytes, take};
 ghost use Rattle.fx_traffic.specs.Gains.{AreAfter};
 ghost use Rattle.fx_words.specs.Commands.{asked, asked_in};
 ghost use Rattle.fx_program.specs.Completeness.{Completes};
 ghost use Rattle.fx_local.specs.Counts.{CountsDoor, CountsOnly};
 ghost use Rattle.fx_local.specs.Files.{file_read};
 ghost use Rattle.fx_program.specs.Headline.{Headline};
-ghost use Rattle.fx_local.specs.Lines.{Gains};
-ghost use Rattle.fx_local.specs.Local.{HasLines, IsAnswer, IsReported, IsWritten};
 ghost use Rattle.fx_program.specs.Runs.{CountsEndpoints, FailsToWrite, HasReport, OnWires, Writes, wires_used};
-ghost use Rattle.fx_local.specs.Sinks.{IsCutShort, sink_written};
+ghost use Rattle.fx_local.specs.Sinks.{sink_written};
 
 use fx_commands::{run_explain, run_generate, run_query};
 use fx_local::{Refusal, Status, run_local, run_member, write_refusal, write_usage};

@@ -2,7 +2,7 @@ use Rattle.std.proofs.Common.{◌≡◌, [], ◌∷◌, ◌++◌, All, List, rul
 use Rattle.std.specs.Prelude.{Contains}
 use Rattle.std.proofs.lemmas.List.Elements.{All-push, All-same}
 use Rattle.fx_bound.specs.Answers.{numbers}
-use Rattle.fx_bound.specs.declared.founds.Found.{Found}
+use Rattle.fx_founds.specs.declared.founds.Found.{Found}
 use Rattle.fx_bound_cases.proofs.batches.lists_of.Goals as goal
 
 pub loop-answer-preserved : goal.loop-answer-preserved

@@ -2,7 +2,7 @@ use Rattle.std.proofs.Common.{◌≡◌, ◌+◌, ◌<◌, ap, sym, subst, List,
 use Rattle.std.proofs.lemmas.List.Elements.{All-contains}
 use Rattle.fx_algebra.specs.declared.units.Row.{Row}
 use Rattle.fx_algebra.specs.declared.units.Unit as unit
-use Rattle.fx_pool.specs.RunFlows.{RunFlowed}
+use Rattle.fx_flows.specs.RunFlows.{RunFlowed}
 use Rattle.fx_spelling.specs.Units.{IsFit}
 use Rattle.fx_steps.specs.Steps.{numbered}
 use Rattle.fx_engine.specs.Asked.{Asked}

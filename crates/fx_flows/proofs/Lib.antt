@@ -1,0 +1,12 @@
+pub mod BatchLemmas
+pub mod MemberLemmas
+pub mod MembersLemmas
+pub mod AskLemmas
+pub mod CauseLemmas
+pub mod LineLemmas
+pub mod ParcelLemmas
+pub mod EventLemmas
+pub mod CutLemmas
+pub mod PutLemmas
+pub mod FollowLemmas
+pub mod FlowLemmas

@@ -1,0 +1,302 @@
+//! The units of a run, asked for in batches.
+ghost use Rattle.std.specs.Prelude.{◌≡◌, ◌↔◌, ◌<◌, ◌≤◌, All, Contains, IfErr, IfOk, IsPermutation, IsTrue, List, None, [], true, length, map};
+ghost use Rattle.crossbeam_queue.specs.SegTies.{IsSegPassOf};
+ghost use Rattle.fx_terms.specs.declared.triples.Triple.{Triple as TripleParts};
+ghost use Rattle.fx_algebra.specs.Graphs.{union};
+ghost use Rattle.fx_algebra.specs.Units.{step};
+ghost use Rattle.fx_algebra.specs.declared.units.Row.{Row as RowParts};
+ghost use Rattle.fx_spelling.specs.Units.{IsFit, IsSound};
+ghost use Rattle.fx_bound.specs.Answers.{AreReadOf, numbers};
+ghost use Rattle.fx_outside.specs.Endpoints.{is_sendable};
+ghost use Rattle.fx_flows.specs.Flows.{AskedBatch, AskedMember, AskedMembers, lists_in, rows_in};
+ghost use Rattle.fx_flows.specs.Flows as spec;
+ghost use Rattle.fx_flows.specs.Lines.{hand};
+ghost use Rattle.fx_flows.specs.RunFlows.{RunFlowed};
+ghost use Rattle.fx_steps.specs.Steps.{numbered};
+ghost use Rattle.fx_traffic.specs.Batches.{AreCut, IsSized};
+
+use crate::cutting::cut;
+use crate::flowing::flow_out;
+use crate::following::put_all;
+use crate::gates::Gate;
+use crate::lines::{Line, Ticket, lined, waiting};
+use crate::parcels::RunShape;
+use crate::steps::Step;
+use fx_algebra::{Row, Solution, Unit};
+use fx_bound::{Batch, Found, batch_text, unite};
+use fx_outside::Endpoint;
+use fx_pool::faults::ReadError;
+use fx_pool::posting::{Posted, post};
+use fx_pool::reading::read_found;
+use fx_pool::{BadReply, JobKind};
+use fx_terms::{Items, Memory};
+use fx_wire::Wire;
+use std::alloc::Global;
+use std::sync::Wait;
+use std::thread::Threads;
+
+/// Why there are no rows behind the units of a run. An endpoint is named by its number, from 0.
+#[derive(Drop)]
+pub enum FlowError {
+    /// An exchange with the endpoint failed, and was counted as a fault at its address.
+    Member { at: u32 },
+    /// A reply of the endpoint is bad.
+    BadReply { at: u32, bad: BadReply },
+    /// A text for the endpoint has more than 67,108,864 bytes, so many, and wasn't sent.
+    RequestTooLong { at: u32, length: u64 },
+    /// Memory ran out.
+    Memory,
+}
+
+/// The rows behind the units of a run that begins with these solutions, numbered from 0, asked for over wires in batches of `block` rows at
+/// most, by a worker for each wire. A worker that is free follows the next batch that waits: it asks the members of its unit for it, cuts the rows
+/// that these have into batches for the next unit, keeps one of them in hand and leaves the others to whoever is free. So no unit waits for another.
+///
+/// Where the wires tell the graphs of all endpoints, and each unit is sound over these, the rows are those of the steps over their union, in
+/// some order: each merges a solution under its number with what the units' patterns have there. Where wires tell their logs, they gained texts
+/// of batches of the units; where they tell the graphs too, of batches of the rows that enter each unit, and no batch is sent to a member twice.
+/// What ends a run early is one of these: `Member`, an exchange with the endpoint failed, which its wire counted as a fault at its address;
+/// `BadReply`, with the first fault of what was replied; `RequestTooLong`, a text has more than 67,108,864 bytes, and wasn't sent; `Memory`.
+/// Where several workers met one, the first of them in the order of the wires is answered.
+pub fn run_flow<R: Threads + Wait + Sync, W: Wire + Send>(
+    rt: &R,
+    alloc: Global,
+    endpoints: &[Endpoint],
+    units: &[Unit],
+    rows: &[Solution],
+    block: u32,
+    wires: &mut [W],
+) -> Result<Vec<Row>, FlowError>
+    requires wired { (0 < length wires.old) × (length wires.old ≤ 16) }
+    requires sendable { All (λ e. is_sendable e ≡ true) endpoints.now }
+    requires some { 0 < length units.now }
+    requires fit { All IsFit units.now }
+    requires block { (0 < block) × (block ≤ 64) }
+    requires within { All (λ u. All (λ at. at < length endpoints.now) u.members) units.now }
+    ensures { RunFlowed W.tells_log W.counts_alone (map W.seen wires.old) (map W.seen wires.new) endpoints.now units.now block (numbered 0 rows.now) (rows_in result) }
+{
+    let shape = RunShape {
+        units: units.len() as u64,
+        block: block as u64,
+    };
+    let Ok(first) = first_batches(alloc, rows, shape) else {
+        return Err(FlowError::Memory);
+    };
+    if is_none(first.as_slice()) {
+        return Ok(Vec::new(alloc));
+    }
+    let Ok((line, mut me)) = lined(alloc) else {
+        return Err(FlowError::Memory);
+    };
+    let found = all_rows(
+        rt, alloc, &line, &mut me, shape, first, endpoints, units, wires,
+    );
+    line.destroy();
+    found
+}
+
+// The batches that enter the first unit.
+fn first_batches(
+    alloc: Global,
+    rows: &[Solution],
+    shape: RunShape,
+) -> Result<Vec<Items<Row>>, Memory>
+    requires { 0 < shape.block }
+    ensures { IfOk result (λ batches. AreCut (numbered 0 rows.now) shape.block batches.items) }
+{
+    let first = number(alloc, rows)?;
+    cut(alloc, first, shape.block)
+}
+
+// Puts the first batches, and follows them over all wires.
+fn all_rows<R: Threads + Wait + Sync, W: Wire + Send, U: Step + Sync>(
+    rt: &R,
+    alloc: Global,
+    line: &Line,
+    me: &mut Ticket,
+    shape: RunShape,
+    first: Vec<Items<Row>>,
+    endpoints: &[Endpoint],
+    units: &[U],
+    wires: &mut [W],
+) -> Result<Vec<Row>, FlowError>
+    requires pass { IsSegPassOf line.now me.old × (me.old.me.view.client ≡ hand 16 None [] []) }
+    requires first { (0 < length first.items) × All (IsSized shape.block) first.items }
+    requires shape { (shape.units ≡ length (map U.unit units.now)) × (0 < shape.units) × (0 < shape.block) × (shape.block ≤ 64) }
+    requires wired { (0 < length wires.old) × (length wires.old ≤ 16) }
+    requires sendable { All (λ e. is_sendable e ≡ true) endpoints.now }
+    requires fit { All IsFit (map U.unit units.now) }
+    requires within { All (λ u. All (λ at. at < length endpoints.now) u.members) (map U.unit units.now) }
+    ensures { (rows : List RowParts) → AreCut rows shape.block first.items
+        → RunFlowed W.tells_log W.counts_alone (map W.seen wires.old) (map W.seen wires.new) endpoints.now (map U.unit units.now) shape.block rows (rows_in result) }
+{
+    let gate = Gate::new(first.len() as u64);
+    let count = wanted(first.len(), units.len(), wires.len());
+    if put_all(rt, line, me, shape, 0, first).is_err() {
+        return Err(FlowError::Memory);
+    }
+    let (used, _idle) = wires.split_at_mut(count);
+    let found = flow_out(rt, alloc, line, me, &gate, shape, endpoints, units, used);
+    // After a refusal the parcels that wait are those that nobody took.
+    let _left = waiting(rt, line, me);
+    found
+}
+
+// How many wires a run can use: no more than batches, where no unit makes further ones.
+fn wanted(batches: usize, units: usize, wires: usize) -> usize
+    requires { (0 < batches) × (0 < wires) }
+    ensures { (0 < result) × (result ≤ wires) }
+{
+    if units == 1 {
+        batches.min(wires)
+    } else {
+        wires
+    }
+}
+
+// Solutions as rows, numbered from 0.
+fn number(alloc: Global, solutions: &[Solution]) -> Result<Vec<Row>, Memory>
+    ensures { IfOk result (λ rows. rows.items ≡ numbered 0 solutions.now) }
+{
+    let mut rows = Vec::new(alloc);
+    for solution in solutions {
+        let row = Row {
+            origin: rows.len() as u64,
+            solution: solution.copy(alloc)?,
+        };
+        if rows.push(row).is_err() {
+            return Err(Memory);
+        }
+    }
+    Ok(rows)
+}
+
+fn is_none(batches: &[Items<Row>]) -> bool
+    ensures { IsTrue result ↔ (batches.now ≡ []) }
+{
+    batches.is_empty()
+}
+
+/// What the members of a unit have for rows, united.
+pub(crate) fn ask_batch<W: Wire>(
+    alloc: Global,
+    wire: &mut W,
+    endpoints: &[Endpoint],
+    unit: &Unit,
+    rows: &[Row],
+) -> Result<Vec<Row>, FlowError>
+    requires sendable { All (λ e. is_sendable e ≡ true) endpoints.now }
+    requires fit { IsFit unit.now }
+    requires few { length rows.now ≤ 64 }
+    requires within { All (λ at. at < length endpoints.now) unit.now.members }
+    ensures { AskedBatch W.counts_alone (W.seen wire.old) (W.seen wire.new) endpoints.now (record { unit = unit.now; rows = rows.now }) (rows_in result) }
+{
+    match batch_text(alloc, unit, rows) {
+        Err(Memory) => Err(FlowError::Memory),
+        Ok(batch) => match ask_members(alloc, wire, endpoints, &batch, unit.members.as_slice()) {
+            Err(error) => Err(error),
+            Ok(lists) => united(alloc, &batch, lists.as_slice()),
+        },
+    }
+}
+
+fn united(alloc: Global, batch: &Batch, lists: &[Items<Found>]) -> Result<Vec<Row>, FlowError>
+    requires { All (λ list. All (λ f. Contains (numbers batch.now) f.branch) list) lists.now }
+    ensures step { (graphs : List (List TripleParts)) → IsSound graphs batch.now.unit → AreReadOf graphs batch.now batch.now.unit.members lists.now
+        → IfOk result (λ rows. IsPermutation rows.items (step (union graphs) batch.now.unit batch.now.rows)) }
+    ensures memory { IfErr result (λ e. e ≡ FlowError.Memory) }
+{
+    match unite(alloc, batch, lists) {
+        Ok(rows) => Ok(rows),
+        Err(Memory) => Err(FlowError::Memory),
+    }
+}
+
+// What members have for a batch, one after another.
+fn ask_members<W: Wire>(
+    alloc: Global,
+    wire: &mut W,
+    endpoints: &[Endpoint],
+    batch: &Batch,
+    members: &[u32],
+) -> Result<Vec<Items<Found>>, FlowError>
+    requires sendable { All (λ e. is_sendable e ≡ true) endpoints.now }
+    requires within { All (λ at. at < length endpoints.now) members.now }
+    ensures { AskedMembers W.counts_alone (W.seen wire.old) (W.seen wire.new) endpoints.now batch.now members.now (lists_in result) }
+{
+    let mut lists = Vec::new(alloc);
+    for at in members {
+        match ask_member(alloc, wire, endpoints, batch, *at) {
+            Err(error) => return Err(error),
+            Ok(founds) => {
+                if lists.push(founds).is_err() {
+                    return Err(FlowError::Memory);
+                }
+            }
+        }
+    }
+    Ok(lists)
+}
+
+// What a member has for the branches of a batch: nothing, where the batch has no text.
+fn ask_member<W: Wire>(
+    alloc: Global,
+    wire: &mut W,
+    endpoints: &[Endpoint],
+    batch: &Batch,
+    at: u32,
+) -> Result<Items<Found>, FlowError>
+    requires sendable { All (λ e. is_sendable e ≡ true) endpoints.now }
+    requires within { at < length endpoints.now }
+    ensures { AskedMember W.counts_alone (W.seen wire.old) (W.seen wire.new) endpoints.now batch.now at result }
+{
+    let _branches = batch.branches();
+    let endpoint = &endpoints[at as usize];
+    match batch.text() {
+        None => Ok(Items::new(alloc)),
+        Some(text) => match post(alloc, wire, endpoint, text) {
+            Err(Memory) => Err(FlowError::Memory),
+            Ok(posted) => found_by(alloc, batch, at, posted),
+        },
+    }
+}
+
+// What came of the text of a batch.
+fn found_by(
+    alloc: Global,
+    batch: &Batch,
+    at: u32,
+    posted: Posted,
+) -> Result<Items<Found>, FlowError>
+    ensures { spec.FoundBy batch.now at posted result }
+{
+    match posted {
+        Posted::Failed => Err(FlowError::Member { at }),
+        Posted::TooLong { length } => Err(FlowError::RequestTooLong { at, length }),
+        Posted::Replied { request, reply } => found_in(alloc, batch, at, request, reply),
+    }
+}
+
+fn found_in(
+    alloc: Global,
+    batch: &Batch,
+    at: u32,
+    request: Items<u8>,
+    reply: Items<u8>,
+) -> Result<Items<Found>, FlowError>
+    ensures { spec.FoundIn batch.now at request reply result }
+{
+    match read_found(alloc, reply.as_slice(), batch) {
+        Ok(founds) => Ok(founds),
+        Err(ReadError::Memory) => Err(FlowError::Memory),
+        Err(ReadError::Bad(why)) => Err(FlowError::BadReply {
+            at,
+            bad: BadReply {
+                kind: JobKind::Batch,
+                request,
+                reply,
+                why,
+            },
+        }),
+    }
+}

@@ -1,0 +1,23 @@
+//! The rows of a run's units, asked for in batches by workers that share the parcels of the run.
+#![tactic(auto)]
+
+mod cutting;
+mod flowing;
+pub mod flows;
+mod following;
+mod gates;
+pub mod laws;
+pub mod lines;
+pub mod parcels;
+pub mod steps;
+
+pub use flows::{FlowError, run_flow};
+use fx_terms::shareable;
+use parcels::{Parcel, RunShape};
+
+/// Every type of this crate may be shared between threads and sent to them.
+pub fn all_shareable() {
+    shareable::<FlowError>();
+    shareable::<RunShape>();
+    shareable::<Parcel>();
+}

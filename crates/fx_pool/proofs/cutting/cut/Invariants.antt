@@ -1,9 +1,0 @@
-use Rattle.std.proofs.Common.{◌≡◌, ◌++◌}
-use Rattle.fx_pool.proofs.CutLemmas.{AreCutSoFar}
-use Rattle.fx_pool.proofs.cutting.cut.Given as goal
-
-abbrev pub invariant-loop-row : goal.invariant-loop-row
-invariant-loop-row l = record {
-  whole : l.yielded ++ l.row-iterator.rest.items ≡ l.fn.rows.items;
-  cut : AreCutSoFar l.yielded l.fn.block l.batches.items l.batch;
-}

@@ -1,6 +1,0 @@
--- The law is the lemma of `EventLemmas`.
-use Rattle.fx_pool.proofs.EventLemmas.{flows_are_kept}
-use Rattle.fx_pool.proofs.laws.flows_are_kept.Goals as goal
-
-pub returns : goal.returns
-returns c = flows_are_kept

@@ -1,5 +1,0 @@
-use Rattle.fx_pool.proofs.LineLemmas.{forks}
-use Rattle.fx_pool.proofs.lines.shared_out.Goals as goal
-
-pub another-requires-clause-rule : goal.another-requires-clause-rule
-another-requires-clause-rule c = forks _ _ c.requires.1
