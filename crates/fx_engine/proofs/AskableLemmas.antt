@@ -18,7 +18,8 @@ use Rattle.fx_algebra.specs.declared.queries.Query.{Query}
 use Rattle.fx_grammar.specs.Accepted.{Accepted}
 use Rattle.fx_spelling.specs.Runs.{HasRun, IsRun}
 use Rattle.fx_spelling.proofs.Runs.{runs_are_of_the_grammar}
-use Rattle.fx_sources.specs.Probes.{Entry, chosen, is_yes, key_of, known, members_of, probe}
+use Rattle.fx_keys.specs.Probes.{key_of, probe}
+use Rattle.fx_sources.specs.Probes.{Entry, chosen, is_yes, known, members_of}
 use Rattle.fx_plan.specs.Plans.{plan}
 use Rattle.fx_plan.specs.declared.parts.Part.{Part}
 use Rattle.fx_traffic.proofs.PlannedLemmas.{planned_laws}

@@ -9,8 +9,8 @@ use Rattle.fx_terms.specs.declared.triples.Triple.{Triple}
 use Rattle.fx_terms.proofs.SetLemmas.{Among, among_from, contains_from}
 use Rattle.fx_outside.specs.Endpoints.{EndpointParts}
 use Rattle.fx_spelling.specs.Printable.{IsTriple}
+use Rattle.fx_keys.specs.declared.probes.Probe.{Probe}
 use Rattle.fx_sources.specs.Sources as source
-use Rattle.fx_sources.specs.declared.probes.Probe.{Probe}
 use Rattle.fx_traffic.specs.Gains.{AreAfter, Tell, TellAll, faults_at}
 use Rattle.fx_traffic.specs.Sent.{Sent}
 use Rattle.fx_traffic.specs.Traffic.{AreAsksSent}

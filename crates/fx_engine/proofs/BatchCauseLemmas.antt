@@ -18,8 +18,9 @@ use Rattle.fx_plan.specs.Laws.{IsGroup, IsSingle}
 use Rattle.fx_plan.specs.Plans.{plan}
 use Rattle.fx_plan.specs.declared.parts.Part.{Part}
 use Rattle.fx_plan.proofs.LawLemmas.{units_are_of_the_run}
+use Rattle.fx_keys.specs.Probes.{key_of}
 use Rattle.fx_sources.specs.Patterns.{patterns}
-use Rattle.fx_sources.specs.Probes.{Entry, chosen, key_of, members_of}
+use Rattle.fx_sources.specs.Probes.{Entry, chosen, members_of}
 use Rattle.fx_spelling.specs.Units.{IsFit}
 use Rattle.fx_traffic.specs.Batches.{IsBatchText}
 use Rattle.fx_traffic.specs.Gains.{AreAfter, Tell}

@@ -9,10 +9,11 @@ use Rattle.fx_terms.proofs.SetLemmas.{Among, among_from, contains_from}
 use Rattle.fx_outside.specs.Endpoints.{EndpointParts}
 use Rattle.fx_algebra.specs.Units.{sources}
 use Rattle.fx_algebra.specs.declared.queries.Query.{Query}
+use Rattle.fx_keys.specs.Probes.{key_of}
+use Rattle.fx_keys.specs.declared.probes.Probe.{Probe}
 use Rattle.fx_sources.specs.Patterns.{patterns}
-use Rattle.fx_sources.specs.Probes.{Entry, chosen, key_of, learned, missing, missing_at, told, with_key}
+use Rattle.fx_sources.specs.Probes.{Entry, chosen, learned, missing, missing_at, told, with_key}
 use Rattle.fx_sources.specs.Sources as source
-use Rattle.fx_sources.specs.declared.probes.Probe.{Probe}
 use Rattle.fx_sources.proofs.SourceLemmas.{chooses}
 use Rattle.fx_traffic.specs.Gains.{Tell, TellAll}
 use Rattle.fx_wire.specs.Exchanges.{Exchange, Seen}

@@ -19,11 +19,12 @@ use Rattle.fx_grammar.specs.Accepted.{Accepted}
 use Rattle.fx_spelling.specs.Printable.{IsPart, IsTriple, IsVerb}
 use Rattle.fx_spelling.specs.Runs.{HasRun}
 use Rattle.fx_spelling.proofs.Runs.{runs_are_of_the_grammar}
-use Rattle.fx_sources.specs.Keys.{key, name_among, numbered, place, renamed_part}
+use Rattle.fx_keys.specs.Keys.{key, name_among, numbered, place, renamed_part}
+use Rattle.fx_keys.specs.Probes.{key_of, probe, same_key}
+use Rattle.fx_keys.specs.declared.keys.AskKey.{AskKey}
+use Rattle.fx_keys.specs.declared.probes.Probe.{Probe}
 use Rattle.fx_sources.specs.Patterns.{patterns}
-use Rattle.fx_sources.specs.Probes.{Entry, is_held, key_of, keys_of, missing, missing_at, probe, same_key, with_key}
-use Rattle.fx_sources.specs.declared.keys.AskKey.{AskKey}
-use Rattle.fx_sources.specs.declared.probes.Probe.{Probe}
+use Rattle.fx_sources.specs.Probes.{Entry, is_held, keys_of, missing, missing_at, with_key}
 use Rattle.fx_engine.specs.Sections.{run_patterns, section_of}
 use Rattle.fx_engine.proofs.SectionLemmas.{runs_have}
 

@@ -3,8 +3,9 @@ use Rattle.std.proofs.Common.{◌≡◌, ◌∙◌, ap, sym, ℕ, List, length}
 use Rattle.std.proofs.lemmas.List.{length-map}
 use Rattle.std.specs.List.{flat_map}
 use Rattle.fx_algebra.specs.declared.queries.Query.{Query}
+use Rattle.fx_keys.specs.Probes.{key_of}
 use Rattle.fx_sources.specs.Patterns.{patterns}
-use Rattle.fx_sources.specs.Probes.{Entry, chosen, key_of, members_of}
+use Rattle.fx_sources.specs.Probes.{Entry, chosen, members_of}
 use Rattle.fx_engine.specs.Sections.{run_patterns, sections}
 use Rattle.fx_engine.proofs.SectionLemmas.{runs_have}
 

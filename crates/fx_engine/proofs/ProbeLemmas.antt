@@ -10,9 +10,9 @@ use Rattle.fx_algebra.specs.Units.{fits, graph_of}
 use Rattle.fx_algebra.specs.declared.answers.Answer.TheVariants.{Truth}
 use Rattle.fx_http.specs.declared.replies.ReplyError.TheVariants.{TooLong}
 use Rattle.fx_spelling.specs.Printable.{IsTriple}
+use Rattle.fx_keys.specs.declared.probes.Probe.{Probe}
 use Rattle.fx_sources.specs.Sources.{ask_text}
 use Rattle.fx_sources.specs.Sources as source
-use Rattle.fx_sources.specs.declared.probes.Probe.{Probe}
 use Rattle.fx_traffic.specs.Gains.{Tell, TellAll, faults_at}
 use Rattle.fx_traffic.specs.Sent.{Sent}
 use Rattle.fx_traffic.specs.Traffic.{AreAsksSent}

@@ -3,7 +3,7 @@ use Rattle.std.proofs.Common.{◌≡◌, ◌∙◌, ap, sym, subst, refl, ◌+�
 use Rattle.std.specs.List.{AllByRecursion, zip}
 use Rattle.std.proofs.lemmas.List.{length-map, map-append}
 use Rattle.fx_terms.proofs.SetLemmas.{Among, contains_from}
-use Rattle.fx_sources.specs.declared.probes.Probe.{Probe}
+use Rattle.fx_keys.specs.declared.probes.Probe.{Probe}
 use Rattle.fx_flows.specs.declared.flows.FlowError.{FlowError}
 use Rattle.fx_flows.specs.declared.flows.FlowError.TheVariants as flow
 use Rattle.fx_pool.specs.declared.jobs.JobReply.{JobReply}

@@ -19,10 +19,10 @@ use Rattle.fx_flows.specs.Flows.{IsBadBatch, IsBatchRead, IsLongBatch}
 use Rattle.fx_flows.specs.declared.flows.FlowError.{FlowError}
 use Rattle.fx_flows.specs.declared.flows.FlowError.TheVariants as flow
 use Rattle.fx_pool.specs.declared.jobs.BadReply.{BadReply}
+use Rattle.fx_keys.specs.declared.probes.Probe.{Probe}
 use Rattle.fx_sources.specs.Patterns.{patterns}
 use Rattle.fx_sources.specs.Probes.{Entry, chosen, learned, missing, told}
 use Rattle.fx_sources.specs.Sources as source
-use Rattle.fx_sources.specs.declared.probes.Probe.{Probe}
 use Rattle.fx_spelling.specs.Units.{IsFit}
 use Rattle.fx_traffic.specs.Batches.{IsBatchText, IsSized, unit_sent}
 use Rattle.fx_traffic.specs.Gains.{AreAfter, HaveGained, Tell, TellAll, faults_at}

@@ -6,7 +6,7 @@ use Rattle.fx_terms.specs.declared.patterns.Pattern.{Pattern}
 use Rattle.fx_outside.specs.Endpoints.{EndpointParts}
 use Rattle.fx_algebra.specs.Stations.{Station}
 use Rattle.fx_algebra.specs.Stations as station
-use Rattle.fx_sources.specs.declared.probes.Probe.{Probe}
+use Rattle.fx_keys.specs.declared.probes.Probe.{Probe}
 use Rattle.fx_traffic.specs.Gains.{faults_at}
 use Rattle.fx_traffic.specs.Sent.{Sent}
 use Rattle.fx_wire.specs.Exchanges.{Exchange, Seen}

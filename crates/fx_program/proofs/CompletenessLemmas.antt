@@ -15,6 +15,7 @@ use Rattle.fx_ntriples.specs.Forms.{IsDocument}
 use Rattle.fx_ntriples.specs.Reading.{read_document}
 use Rattle.fx_ntriples.specs.declared.faults.NtError.{NtError}
 use Rattle.fx_ntriples.proofs.Complete.{document_reads}
+use Rattle.fx_keys.specs.declared.probes.Probe.{Probe}
 use Rattle.fx_sources.specs.Registries.{read_registry}
 use Rattle.fx_sources.specs.declared.errors.RegistryError.{RegistryError}
 use Rattle.fx_traffic.specs.Gains.{Tell, TellAll, faults_at}
@@ -35,7 +36,6 @@ use Rattle.fx_bound.specs.Parts.{printed_by, text_of}
 use Rattle.fx_bound.specs.Uniting.{Place, branches}
 use Rattle.fx_sources.specs.Probes.{Entry, missing}
 use Rattle.fx_sources.specs.Sources.{ask_text}
-use Rattle.fx_sources.specs.declared.probes.Probe.{Probe}
 use Rattle.fx_traffic.specs.Batches.{member_sent, text_sent, to_endpoint, unit_sent}
 use Rattle.fx_traffic.specs.Gains.{HaveGained}
 use Rattle.fx_traffic.specs.Sent.{Sent}

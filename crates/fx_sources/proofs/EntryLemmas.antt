@@ -10,10 +10,11 @@ use Rattle.std.proofs.lemmas.List.{take_all}
 use Rattle.std.proofs.Math.ListN.{length-take}
 use Rattle.lru.specs.LruCache.{LruCache, put_entries}
 use Rattle.fx_terms.proofs.SetLemmas.{Among, contains_from}
-use Rattle.fx_sources.specs.Probes.{Entry, known, is_held, told, learned, is_yes, same_probe, probes_decide, probe, key_of, members_of}
+use Rattle.fx_keys.specs.Probes.{same_probe, probes_decide, probe, key_of}
+use Rattle.fx_keys.specs.declared.keys.AskKey.{AskKey}
+use Rattle.fx_keys.specs.declared.probes.Probe.{Probe}
+use Rattle.fx_sources.specs.Probes.{Entry, known, is_held, told, learned, is_yes, members_of}
 use Rattle.fx_terms.specs.declared.patterns.Pattern.{Pattern}
-use Rattle.fx_sources.specs.declared.keys.AskKey.{AskKey}
-use Rattle.fx_sources.specs.declared.probes.Probe.{Probe}
 
 -- ---- look-ups
 

@@ -18,7 +18,7 @@ use Rattle.fx_algebra.specs.Scopes.{is_among, once, part_names, pattern_names, w
 use Rattle.fx_algebra.specs.Solutions.{Bindings, term_of, with_pair, same_term}
 use Rattle.fx_algebra.proofs.BgpLemmas.{rows_from-bgp}
 use Rattle.fx_algebra.proofs.ForcedLemmas.{name_from, with_pair_has}
-use Rattle.fx_sources.specs.Keys.{name_among, numbered, place, renamed, renamed_part}
+use Rattle.fx_keys.specs.Keys.{name_among, numbered, place, renamed, renamed_part}
 use Rattle.fx_algebra.specs.Units.{fits}
 use Rattle.fx_sources.specs.Sources.{KeyFitsAlike}
 

@@ -9,12 +9,13 @@ use Rattle.fx_terms.specs.declared.patterns.Pattern.{Pattern}
 use Rattle.fx_terms.proofs.SetLemmas.{Among}
 use Rattle.fx_algebra.specs.declared.queries.Query.{Query}
 use Rattle.fx_algebra.proofs.MemberLemmas.{IsOnce, pairs_differ, once_append, once_map, among_left, among_right, among_map, among_from_map, among_flat_map, among_from_flat_map}
+use Rattle.fx_keys.specs.Probes.{same_key, same_probe, keys_decide, probes_decide, probe, key_of}
+use Rattle.fx_keys.specs.declared.keys.AskKey.{AskKey}
+use Rattle.fx_keys.specs.declared.probes.Probe.{Probe}
 use Rattle.fx_sources.specs.Patterns.{patterns}
-use Rattle.fx_sources.specs.Probes.{Entry, known, is_held, is_yes, told, learned, same_key, same_probe, keys_decide, probes_decide, probe, key_of, with_key, keys_of, missing, missing_at, members_of, chosen}
+use Rattle.fx_sources.specs.Probes.{Entry, known, is_held, is_yes, told, learned, with_key, keys_of, missing, missing_at, members_of, chosen}
 use Rattle.fx_algebra.specs.Units.{fits, graph_of, sources}
 use Rattle.fx_sources.specs.Sources.{Tells, ChoosesSources}
-use Rattle.fx_sources.specs.declared.keys.AskKey.{AskKey}
-use Rattle.fx_sources.specs.declared.probes.Probe.{Probe}
 use Rattle.fx_sources.proofs.KeyLemmas.{key_fits}
 
 -- ---- lists

@@ -1,5 +1,4 @@
 pub mod Addresses
-pub mod Keys
 pub mod Lines
 pub mod Patterns
 pub mod Probes

@@ -11,7 +11,7 @@ use Rattle.fx_algebra.specs.declared.queries.Element.TheVariants as element
 use Rattle.fx_algebra.specs.declared.queries.Form.TheVariants as form
 use Rattle.fx_algebra.specs.declared.queries.Group.{roll-Group}
 use Rattle.fx_algebra.specs.declared.queries.Query.{Query}
-use Rattle.fx_sources.specs.Keys.{key}
+use Rattle.fx_keys.specs.Keys.{key}
 use Rattle.fx_sources.specs.Patterns.{patterns}
 use Rattle.fx_sources.specs.Probes.{Entry, chosen, missing, told}
 

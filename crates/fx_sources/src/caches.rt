@@ -3,7 +3,7 @@ ghost use Rattle.std.specs.Prelude.{◌≡◌, ◌≢◌, ◌≤◌, ◌==◌, �
 ghost use Rattle.std.specs.List.{zip};
 ghost use Rattle.fx_sources.specs.Probes as spec;
 
-use crate::probes::Probe;
+use fx_keys::Probe;
 use fx_terms::Memory;
 use lru::LruCache;
 use std::alloc::Global;
@@ -19,7 +19,7 @@ pub struct AskCache {
 
 impl Model for AskCache {
     ghost use Rattle.std.specs.Prelude.{List, ◌≡◌, Bool};
-    ghost use Rattle.fx_sources.specs.declared.probes.Probe.{Probe as TheProbe};
+    ghost use Rattle.fx_keys.specs.declared.probes.Probe.{Probe as TheProbe};
 
     ghost Value = { List (TheProbe × Bool) };
 

@@ -1,15 +1,15 @@
 //! Which probes are missing, and which members are chosen.
 ghost use Rattle.std.specs.Prelude.{◌≡◌, ◌≢◌, ◌<◌, [], ◌∷◌, ◌++◌, All, AllPairs, IfOk, OnOk, false, fold, if◌then◌else◌, length, map};
 ghost use Rattle.indexmap.specs.IndexMap.{get};
+ghost use Rattle.fx_keys.specs.Probes.{key_of, same_probe};
+ghost use Rattle.fx_keys.specs.declared.probes.Probe.{Probe as TheProbe};
 ghost use Rattle.fx_sources.specs.Probes as spec;
-ghost use Rattle.fx_sources.specs.declared.probes.Probe.{Probe as TheProbe};
 
 use crate::caches::AskCache;
-use crate::keys::AskKey;
 use crate::patterns::patterns;
-use crate::probes::Probe;
 use crate::registries::Registry;
 use fx_algebra::Query;
+use fx_keys::{AskKey, Probe};
 use fx_terms::{Items, Memory, Pattern};
 use indexmap::{IndexMap, IndexSet};
 use std::alloc::Global;
@@ -80,7 +80,7 @@ pub fn choose(
 
 // The keys of patterns, each once, at its first place.
 fn keys_once(alloc: Global, patterns: &[Pattern]) -> Result<Vec<AskKey>, Memory>
-    ensures { IfOk result (λ keys. keys.items ≡ fold spec.with_key [] (map spec.key_of patterns.now)) }
+    ensures { IfOk result (λ keys. keys.items ≡ fold spec.with_key [] (map key_of patterns.now)) }
 {
     let mut keys = IndexSet::new(alloc);
     for pattern in patterns {
@@ -117,7 +117,7 @@ fn answers(
     probes: &[Probe],
     truths: &[bool],
 ) -> Result<IndexMap<Probe, bool>, Memory>
-    ensures { IfOk result (λ answers. (p : TheProbe) → get spec.same_probe answers p ≡ spec.known (spec.told probes.now truths.now) p) }
+    ensures { IfOk result (λ answers. (p : TheProbe) → get same_probe answers p ≡ spec.known (spec.told probes.now truths.now) p) }
 {
     let mut answers = IndexMap::new(alloc);
     for (probe, truth) in probes.iter().zip(truths) {
@@ -134,7 +134,7 @@ fn members_for_all(
     answers: &IndexMap<Probe, bool>,
     patterns: &[Pattern],
 ) -> Result<Items<Items<u32>>, Memory>
-    ensures { IfOk result (λ chosen. chosen ≡ map (λ p. spec.members_of (answers.now.entries ++ cache.now) members (spec.key_of p)) patterns.now) }
+    ensures { IfOk result (λ chosen. chosen ≡ map (λ p. spec.members_of (answers.now.entries ++ cache.now) members (key_of p)) patterns.now) }
 {
     let mut chosen = Items::new(alloc);
     for pattern in patterns {
@@ -151,7 +151,7 @@ fn members_for(
     answers: &IndexMap<Probe, bool>,
     pattern: &Pattern,
 ) -> Result<Items<u32>, Memory>
-    ensures { IfOk result (λ chosen. chosen ≡ spec.members_of (answers.now.entries ++ cache.now) members (spec.key_of pattern.now)) }
+    ensures { IfOk result (λ chosen. chosen ≡ spec.members_of (answers.now.entries ++ cache.now) members (key_of pattern.now)) }
 {
     let mut probe = Probe {
         at: 0,

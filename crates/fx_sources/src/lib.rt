@@ -6,32 +6,29 @@
 #![tactic(auto)]
 
 mod addresses;
+pub mod asks;
 pub mod caches;
 pub mod choices;
 mod entries;
 pub mod errors;
-pub mod keys;
 pub mod laws;
 mod lines;
 pub mod patterns;
-pub mod probes;
 pub mod registries;
 mod searches;
 mod words;
 
+pub use asks::ask_text;
 pub use caches::AskCache;
 pub use choices::{Sources, choose, missing};
 pub use errors::RegistryError;
+pub use fx_keys::{AskKey, Probe};
 use fx_terms::shareable;
-pub use keys::{AskKey, ask_text};
-pub use probes::Probe;
 pub use registries::Registry;
 
 /// Every type of this crate may be shared between threads and sent to them.
 pub fn all_shareable() {
     shareable::<AskCache>();
-    shareable::<AskKey>();
-    shareable::<Probe>();
     shareable::<Registry>();
     shareable::<RegistryError>();
     shareable::<Sources>();

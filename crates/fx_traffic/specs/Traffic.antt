@@ -17,9 +17,9 @@ use Rattle.fx_algebra.specs.declared.queries.Form.TheVariants as form
 use Rattle.fx_algebra.specs.declared.queries.Group.{Group}
 use Rattle.fx_algebra.specs.declared.queries.Query.{Query}
 use Rattle.fx_http.specs.Requests.{request_of}
+use Rattle.fx_keys.specs.declared.probes.Probe.{Probe}
 use Rattle.fx_sources.specs.Probes.{Entry, missing}
 use Rattle.fx_sources.specs.Sources.{ask_text}
-use Rattle.fx_sources.specs.declared.probes.Probe.{Probe}
 use Rattle.fx_plan.specs.Plans.{plan}
 use Rattle.fx_steps.specs.Steps.{numbered}
 use Rattle.fx_wire.specs.Exchanges.{Exchange}

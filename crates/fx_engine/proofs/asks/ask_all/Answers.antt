@@ -1,6 +1,6 @@
 use Rattle.std.proofs.Common.{rules, ◌≡◌, ◌+◌, ◌++◌, sym, subst, Bool, List, [], Ok, map, slice_range, take, arith}
 use Rattle.std.proofs.lemmas.List.{take_all}
-use Rattle.fx_sources.specs.declared.probes.Probe.{Probe}
+use Rattle.fx_keys.specs.declared.probes.Probe.{Probe}
 use Rattle.fx_engine.specs.Asks.{AskedAll}
 use Rattle.fx_engine.proofs.AsksLemmas.{are_some, lost, none, some_more, stopped}
 use Rattle.fx_pool.proofs.WiresLemmas.{all_tell}

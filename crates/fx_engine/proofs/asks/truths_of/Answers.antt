@@ -1,7 +1,7 @@
 use Rattle.std.proofs.Common.{◌≡◌, ◌∙◌, ◌++◌, ◌∷◌, [], ap, sym, subst, Bool, List, length, vec_len, inl, inr, arith, rules}
 use Rattle.std.specs.Vec.Iter.{into_iter_items, into_iter_len}
 use Rattle.std.proofs.lemmas.List.Elements.{recursion_from_All}
-use Rattle.fx_sources.specs.declared.probes.Probe.{Probe}
+use Rattle.fx_keys.specs.declared.probes.Probe.{Probe}
 use Rattle.fx_pool.specs.declared.jobs.JobReply.{JobReply}
 use Rattle.fx_engine.specs.AskSteps.{IsForAsk}
 use Rattle.fx_engine.proofs.RepliesLemmas.{Reading, all_read, before_one, one_read, one_refused, reading_starts}

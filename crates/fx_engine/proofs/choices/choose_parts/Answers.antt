@@ -1,7 +1,7 @@
 use Rattle.std.proofs.Common.{◌∙◌, ◌++◌, ap, sym, subst, List, Bool, length, map, Ok, Err}
 use Rattle.std.specs.Prelude.{All}
+use Rattle.fx_keys.specs.declared.probes.Probe.{Probe}
 use Rattle.fx_sources.specs.Probes.{chosen, missing, told}
-use Rattle.fx_sources.specs.declared.probes.Probe.{Probe}
 use Rattle.fx_spelling.specs.Printable.{IsTriple}
 use Rattle.fx_engine.specs.Sections.{parts_by, sections}
 use Rattle.fx_engine.proofs.AsksLemmas.{unasked}

@@ -3,8 +3,9 @@ use Rattle.std.specs.Prelude.{All, Contains}
 use Rattle.std.specs.List.{zip}
 use Rattle.fx_outside.specs.Endpoints.{EndpointParts}
 use Rattle.fx_plan.specs.declared.parts.Part.{Part}
-use Rattle.fx_sources.specs.Probes.{Entry, key_of, learned, members_of, missing, told}
-use Rattle.fx_sources.specs.declared.probes.Probe.{Probe}
+use Rattle.fx_keys.specs.Probes.{key_of}
+use Rattle.fx_keys.specs.declared.probes.Probe.{Probe}
+use Rattle.fx_sources.specs.Probes.{Entry, learned, members_of, missing, told}
 use Rattle.fx_engine.specs.GroupsAsked.{CanBeAsked}
 use Rattle.fx_engine.specs.Mediation.{IsNamed, IsPlaced}
 use Rattle.fx_engine.specs.Tasks.{tasks_with}

@@ -2,8 +2,8 @@ use Rattle.std.proofs.Common.{◌∙◌, ◌⊎◌, ap, sym, subst, List, Bool, 
 use Rattle.std.specs.Prelude.{All, Contains}
 use Rattle.std.specs.List.{zip}
 use Rattle.fx_outside.specs.Endpoints.{EndpointParts}
+use Rattle.fx_keys.specs.declared.probes.Probe.{Probe}
 use Rattle.fx_sources.specs.Probes.{Entry, learned, missing}
-use Rattle.fx_sources.specs.declared.probes.Probe.{Probe}
 use Rattle.fx_engine.specs.Mediation.{IsNamed, IsPlaced}
 use Rattle.fx_engine.proofs.ChoiceLemmas.{probe_placed}
 use Rattle.fx_engine.proofs.MediationLemmas.{planned, planned_lost, planned_refused}

@@ -1,4 +1,5 @@
 use Rattle.std.proofs.Common.{◌≡◌, ◌∙◌, ◌++◌, length, map, ap}
+use Rattle.fx_keys.specs.Probes.{key_of}
 use Rattle.fx_sources.specs.Probes as spec
 use Rattle.fx_sources.specs.Patterns.{patterns}
 use Rattle.fx_sources.proofs.EntryLemmas.{known_before, same_choice}
@@ -13,7 +14,7 @@ returns c =
     let same = same_choice (here ++ c.args.cache.now) (told ++ c.args.cache.now) count (patterns c.args.query.now) (λ p. known_before here told c.args.cache.now p (c.in_ok-answers.ensures p)) in
     let found : c.in_ok-members_for_all.field-0 ≡ spec.chosen c.args.query.now count (told ++ c.args.cache.now) =
     c.in_ok-members_for_all.ensures
-    ∙ ap (λ n. map (λ p. spec.members_of (here ++ c.args.cache.now) n (spec.key_of p)) c.as_slice.result.now) (ap length c.endpoints.ensures.value)
-    ∙ ap (map (λ p. spec.members_of (here ++ c.args.cache.now) count (spec.key_of p))) (c.as_slice.ensures.value ∙ c.in_ok-patterns.ensures)
+    ∙ ap (λ n. map (λ p. spec.members_of (here ++ c.args.cache.now) n (key_of p)) c.as_slice.result.now) (ap length c.endpoints.ensures.value)
+    ∙ ap (map (λ p. spec.members_of (here ++ c.args.cache.now) count (key_of p))) (c.as_slice.ensures.value ∙ c.in_ok-patterns.ensures)
     ∙ same in
     record { chosen = found; within = choice_within c.args.query.now count (told ++ c.args.cache.now) _ found }

@@ -1,5 +1,6 @@
 use Rattle.std.proofs.Common.{◌≡◌, [], drop, fold, map}
-use Rattle.fx_sources.specs.Probes.{with_key, key_of}
+use Rattle.fx_keys.specs.Probes.{key_of}
+use Rattle.fx_sources.specs.Probes.{with_key}
 use Rattle.fx_sources.proofs.choices.keys_once.Given as goal
 
 -- what is left completes the keys

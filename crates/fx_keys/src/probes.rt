@@ -27,7 +27,7 @@ impl Probe {
 
 impl PartialEq for Probe {
     ghost use Rattle.std.specs.Cmp.{decided, partial_equiv_from_equiv};
-    ghost use Rattle.fx_sources.specs.Probes.{same_probe, probes_decide};
+    ghost use Rattle.fx_keys.specs.Probes.{same_probe, probes_decide};
 
     ghost eq = { same_probe };
 
@@ -40,14 +40,14 @@ impl PartialEq for Probe {
 
 impl Eq for Probe {
     ghost use Rattle.std.specs.Cmp.{decided};
-    ghost use Rattle.fx_sources.specs.Probes.{same_probe, probes_decide};
+    ghost use Rattle.fx_keys.specs.Probes.{same_probe, probes_decide};
 
     ghost laws = { decided same_probe probes_decide };
 }
 
 impl Hash for Probe {
     ghost use Rattle.std.proofs.Common.{ap};
-    ghost use Rattle.fx_sources.specs.Probes.{probe_writes, probes_decide};
+    ghost use Rattle.fx_keys.specs.Probes.{probe_writes, probes_decide};
 
     ghost hash_input = { probe_writes };
 

@@ -1,6 +1,6 @@
 use Rattle.std.proofs.Common.{refl}
 use Rattle.std.specs.Str.{chars}
-use Rattle.fx_sources.proofs.keys.numbered.Goals as goal
+use Rattle.fx_keys.proofs.keys.numbered.Goals as goal
 
 pub known-requires : goal.known-requires
 unfolding chars

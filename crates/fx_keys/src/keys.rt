@@ -1,14 +1,11 @@
 //! Keys of patterns, under which answers to ASK are remembered.
-ghost use Rattle.std.specs.Prelude.{◌≡◌, ◌++◌, IfOk, OnOk, Ok, string_bytes};
+ghost use Rattle.std.specs.Prelude.{◌≡◌, ◌++◌, IfOk, OnOk, Ok};
 ghost use Rattle.fx_algebra.specs.Scopes.{once as once_each, part_names, pattern_names};
-ghost use Rattle.fx_sources.specs.Keys as spec;
-ghost use Rattle.fx_sources.specs.Probes.{key_of};
-ghost use Rattle.fx_sources.specs.Sources as sources;
+ghost use Rattle.fx_keys.specs.Keys as spec;
+ghost use Rattle.fx_keys.specs.Probes.{key_of};
 
 use fx_algebra::scopes::once;
-use fx_algebra::{Element, Form, Group, Query};
-use fx_print::print;
-use fx_terms::{Boxed, Items, Memory, Name, Pattern, PatternTerm, Term};
+use fx_terms::{Boxed, Memory, Name, Pattern, PatternTerm, Term};
 use std::alloc::Global;
 use std::hash::{Hash, Hasher};
 
@@ -47,29 +44,6 @@ fn boxed(alloc: Global, pattern: Result<Pattern, Memory>) -> Result<Boxed<Patter
         Ok(pattern) => Ok(Boxed::new(alloc, pattern)?),
         Err(memory) => Err(memory),
     }
-}
-
-/// The text that asks whether a key fits: the printed query `ASK WHERE { t . }`, where t is the key.
-pub fn ask_text(alloc: Global, key: &AskKey) -> Result<String, Memory>
-    ensures { IfOk result (λ text. string_bytes text ≡ sources.ask_text key.now.pattern) }
-{
-    let query = ask_query(alloc, key.pattern.get())?;
-    print(alloc, &query)
-}
-
-fn ask_query(alloc: Global, pattern: &Pattern) -> Result<Query, Memory>
-    ensures { IfOk result (λ query. query ≡ sources.ask_query pattern.now) }
-{
-    let mut elements = Items::new(alloc);
-    elements.push(Element::Triple(pattern.copy()?))?;
-    Ok(Query {
-        form: Form::Ask,
-        group: Group { elements },
-        order: Items::new(alloc),
-        offset: 0,
-        limit: None,
-        inline: None,
-    })
 }
 
 // The variables of a pattern, each once, in the order of subject, predicate, object.
@@ -152,7 +126,7 @@ fn text_of(part: &PatternTerm) -> &str
 
 impl PartialEq for AskKey {
     ghost use Rattle.std.specs.Cmp.{decided, partial_equiv_from_equiv};
-    ghost use Rattle.fx_sources.specs.Probes.{same_key, keys_decide};
+    ghost use Rattle.fx_keys.specs.Probes.{same_key, keys_decide};
 
     ghost eq = { same_key };
 
@@ -168,7 +142,7 @@ impl PartialEq for AskKey {
 
 impl Eq for AskKey {
     ghost use Rattle.std.specs.Cmp.{decided};
-    ghost use Rattle.fx_sources.specs.Probes.{same_key, keys_decide};
+    ghost use Rattle.fx_keys.specs.Probes.{same_key, keys_decide};
 
     ghost laws = { decided same_key keys_decide };
 }
@@ -186,7 +160,7 @@ fn same_part(part: &PatternTerm, other: &PatternTerm) -> bool
 
 impl Hash for AskKey {
     ghost use Rattle.std.proofs.Common.{ap};
-    ghost use Rattle.fx_sources.specs.Probes.{key_writes, keys_decide};
+    ghost use Rattle.fx_keys.specs.Probes.{key_writes, keys_decide};
 
     ghost hash_input = { key_writes };
 

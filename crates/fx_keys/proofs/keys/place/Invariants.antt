@@ -1,6 +1,6 @@
 use Rattle.std.proofs.Common.{◌≡◌, ◌+◌, drop}
-use Rattle.fx_sources.specs.Keys as spec
-use Rattle.fx_sources.proofs.keys.place.Given as goal
+use Rattle.fx_keys.specs.Keys as spec
+use Rattle.fx_keys.proofs.keys.place.Given as goal
 
 -- what is left says the place
 abbrev pub invariant-loop-before : goal.invariant-loop-before
