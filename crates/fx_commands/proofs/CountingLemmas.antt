@@ -38,9 +38,9 @@ use Rattle.fx_sources.specs.Probes.{Entry}
 use Rattle.fx_traffic.specs.Gains.{TellAll}
 use Rattle.fx_engine.specs.Calls.{AreFirst, Call, Occurrence, down_in, occurrence_in, occurrences}
 use Rattle.fx_engine.specs.Mediation.{Federated, IsSpellable, Serve}
-use Rattle.fx_engine.specs.Noted.{places}
+use Rattle.fx_services.specs.Noted.{places}
 use Rattle.fx_engine.specs.Unknown.{first_unknown, unknown_of}
-use Rattle.fx_engine.specs.declared.mediator.Down.{Down}
+use Rattle.fx_services.specs.declared.noted.Down.{Down}
 use Rattle.fx_engine.specs.declared.mediator.FedError.{FedError}
 use Rattle.fx_engine.specs.declared.mediator.FedError.TheVariants as fed
 use Rattle.fx_engine.specs.declared.mediator.Outcome.{Outcome}

@@ -9,9 +9,9 @@ use Rattle.fx_traffic.specs.Gains.{faults_at}
 use Rattle.fx_wire.specs.Exchanges.{Exchange, Seen}
 use Rattle.fx_engine.specs.Calls.{AreCalls, Call, Came, HasComeTo, IsPassed, Occurrence, Passes, down_from, down_if, failed, failure_of, failures_at, lost, told}
 use Rattle.fx_engine.specs.Mediation.{Federated}
-use Rattle.fx_engine.specs.Noted.{places}
-use Rattle.fx_engine.specs.declared.mediator.Down.{Down}
-use Rattle.fx_engine.specs.declared.mediator.DownCause.TheVariants as cause
+use Rattle.fx_services.specs.Noted.{places}
+use Rattle.fx_services.specs.declared.noted.Down.{Down}
+use Rattle.fx_services.specs.declared.noted.DownCause.TheVariants as cause
 use Rattle.fx_engine.specs.declared.mediator.Outcome.{Outcome}
 use Rattle.fx_engine.proofs.RegisteredLemmas.{registered_by, unregistered_by}
 use Rattle.fx_commands.specs.Asking.{WiresSeen}

@@ -5,10 +5,10 @@ use Rattle.fx_algebra.specs.declared.queries.Query.{Query}
 use Rattle.fx_traffic.specs.Gains.{HaveGained, faults_at}
 use Rattle.fx_wire.specs.Exchanges.{Exchange}
 use Rattle.fx_engine.specs.Calls.{AreCalls, Call, IsPassed, Occurrence, down_in, failed, failure_of, occurrences}
-use Rattle.fx_engine.specs.Noted.{places}
+use Rattle.fx_services.specs.Noted.{places}
 use Rattle.fx_engine.specs.Unknown.{is_registered}
-use Rattle.fx_engine.specs.declared.mediator.Down.{Down}
-use Rattle.fx_engine.specs.declared.mediator.DownCause.TheVariants as cause
+use Rattle.fx_services.specs.declared.noted.Down.{Down}
+use Rattle.fx_services.specs.declared.noted.DownCause.TheVariants as cause
 use Rattle.fx_commands.specs.Asking.{WiresSeen}
 
 -- an occurrence without SILENT has the IRI

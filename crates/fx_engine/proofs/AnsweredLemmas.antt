@@ -20,7 +20,8 @@ use Rattle.fx_wire.specs.Exchanges.{Seen}
 use Rattle.fx_flows.specs.declared.flows.FlowError.TheVariants as flow
 use Rattle.fx_engine.specs.AnswersAsked.{AnswerDue, AnswerGiven, IsFromRows}
 use Rattle.fx_engine.specs.Asked.{Asked}
-use Rattle.fx_engine.specs.GroupsAsked.{GroupDue, GroupGiven, HasRows, IsNext, Served, all_planned, group_in, seeds_in, stations_in}
+use Rattle.fx_engine.specs.GroupsAsked.{GroupDue, GroupGiven, HasRows, IsNext, all_planned, seeds_in, stations_in}
+use Rattle.fx_services.specs.Served.{Served, group_in}
 use Rattle.fx_engine.specs.RunsSent.{AreRunsSent}
 use Rattle.fx_engine.specs.declared.tasks.RowsError.{RowsError}
 use Rattle.fx_engine.specs.declared.tasks.RowsError.TheVariants as rows_error

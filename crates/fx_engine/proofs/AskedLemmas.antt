@@ -21,8 +21,9 @@ use Rattle.fx_flows.specs.Flows.{IsBatchRead, IsCause}
 use Rattle.fx_flows.specs.RunFlows.{HasFlowCause, IsFlowCause}
 use Rattle.fx_flows.specs.declared.flows.FlowError.{FlowError}
 use Rattle.fx_flows.specs.declared.flows.FlowError.TheVariants as flow
-use Rattle.fx_pool.proofs.WireLemmas.{after_itself}
-use Rattle.fx_engine.specs.Asked.{Asked, HasRowsCause, IfGiven, IfRefused, Knows, Went}
+use Rattle.fx_services.proofs.WentLemmas.{went_nowhere}
+use Rattle.fx_engine.specs.Asked.{Asked, HasRowsCause, IfGiven, IfRefused, Knows}
+use Rattle.fx_services.specs.Went.{Went}
 use Rattle.fx_engine.specs.GroupsAsked.{solutions_in, units_in}
 use Rattle.fx_engine.specs.declared.tasks.RowsError.{RowsError}
 use Rattle.fx_engine.specs.declared.tasks.RowsError.TheVariants as rows_error
@@ -31,9 +32,6 @@ use Rattle.fx_pool.proofs.WiresLemmas.{all_after, as_many, gained_both, still_te
 pub use Rattle.fx_pool.proofs.WiresLemmas.{AllTell, all_tell, still_tell_all}
 
 -- ---- what was exchanged
-
-pub went_nowhere : (tells alone : Bool) (wires : List Seen) → Went tells alone 0 wires wires []
-went_nowhere tells alone wires = record { gained = λ told. gain_laws.nothing wires; after_all = after_itself wires; counted = λ is address. omega arith }
 
 -- what both of two calls exchanged, in the order of the wires
 pub record WentBoth (tells alone : Bool) (failed : ℕ) (before after : List Seen) (xs ys : List Exchange) : Type 0 where

@@ -1,5 +1,5 @@
 -- The cause of a refusal of a query's batches, with the name of the endpoint.
-use Rattle.std.proofs.Common.{◌≡◌, sym, subst, ℕ, zero, suc, ◌<◌, ◌≤◌, ◌⊎◌, inl, inr, Bool, true, false, if◌then◌else◌, List, [], ◌∷◌, ◌++◌, map, length, arith}
+use Rattle.std.proofs.Common.{◌≡◌, sym, subst, ℕ, zero, suc, ◌<◌, ◌≤◌, ◌⊎◌, inl, inr, Bool, true, false, if◌then◌else◌, List, [], ◌∷◌, map, length, arith}
 use Rattle.std.specs.Prelude.{All, Contains, Some, slice_get}
 use Rattle.std.specs.List.{AllByRecursion, flat_map, list_any, zip}
 use Rattle.std.proofs.lemmas.List.Elements.{All-contains, All-contains_itself, All-from_recursion, recursion_from_All}
@@ -46,7 +46,8 @@ use Rattle.fx_engine.specs.declared.tasks.Task.{Task}
 use Rattle.fx_engine.specs.declared.tasks.Task.TheVariants as task
 use Rattle.fx_engine.proofs.AskableLemmas.{by_members}
 use Rattle.fx_engine.proofs.AskedLemmas.{flow_cause_behind, read_of_more}
-use Rattle.fx_engine.proofs.ChoiceLemmas.{below, found_here, its_name}
+use Rattle.fx_engine.proofs.ChoiceLemmas.{below, its_name}
+use Rattle.fx_services.proofs.WentLemmas.{found_here}
 use Rattle.fx_engine.proofs.FrontLemmas.{all_both, all_split, units_in_front}
 use Rattle.fx_engine.proofs.SectionLemmas.{runs_have}
 use Rattle.fx_engine.proofs.TaskLemmas.{run_in_front}

@@ -13,11 +13,11 @@ use Rattle.fx_wire.specs.Exchanges.{Exchange, Seen}
 use Rattle.fx_pool.proofs.WireLemmas.{after_itself}
 use Rattle.fx_engine.specs.Calls.{AreCalls, Call, Came, HasComeTo, IsCertain, Occurrence, failed, failure_of, failures_at, lost, told}
 use Rattle.fx_engine.specs.Invocations.{Calling}
-use Rattle.fx_engine.specs.ServicesAsked.{HasFailed, IsSettled, ServiceAsked}
-use Rattle.fx_engine.specs.declared.mediator.DownCause.TheVariants as cause
-use Rattle.fx_engine.specs.declared.services.ServiceError.{ServiceError}
-use Rattle.fx_engine.specs.declared.services.ServiceError.TheVariants as error
-use Rattle.fx_engine.proofs.ChoiceLemmas.{found_here}
+use Rattle.fx_services.specs.ServicesAsked.{HasFailed, IsSettled, ServiceAsked}
+use Rattle.fx_services.specs.declared.noted.DownCause.TheVariants as cause
+use Rattle.fx_services.specs.declared.services.ServiceError.{ServiceError}
+use Rattle.fx_services.specs.declared.services.ServiceError.TheVariants as error
+use Rattle.fx_services.proofs.WentLemmas.{found_here}
 use Rattle.fx_pool.proofs.WiresLemmas.{AllTell, all_after, gained_both, still_tell}
 
 -- ---- none

@@ -20,6 +20,7 @@ use Rattle.fx_wire.specs.Exchanges.{Exchange, Seen}
 use Rattle.fx_flows.specs.declared.flows.FlowError.{FlowError}
 use Rattle.fx_flows.specs.declared.flows.FlowError.TheVariants as flow
 use Rattle.fx_pool.specs.declared.jobs.BadReply.{BadReply}
+use Rattle.fx_services.proofs.WentLemmas.{found_here}
 use Rattle.fx_engine.specs.Asks.{AskedAll, HasProbeCause, IsAnsweredBy, IsBadAsk, IsProbeCause}
 use Rattle.fx_engine.specs.Mediation.{HasKept, HasLearned, HasName, HasPlanCause, IsNamed, IsPlaced}
 use Rattle.fx_engine.specs.Sections.{parts_by, parts_with, sections}
@@ -102,14 +103,6 @@ pub all_kept : (es : List EndpointParts) (q : Query) (old : List Entry) (xs : Li
 all_kept es q old xs = record { each = All-weaker (Contains old) (λ (e : Entry). Contains old e ⊎ (Contains (missing q (length es) old) e.0 × IsAnsweredBy es xs e)) (λ e m. inl m) old (All-contains_itself old) }
 
 -- ---- the cause of a refusal, with the name of the endpoint
-
-get_among : (es : List EndpointParts) (at : ℕ) (e : EndpointParts) → slice_get es at ≡ Some e → Among e es
-get_among [] at e h = absurd (cc)
-get_among (d ∷ es) zero e h = let same : d ≡ e = cc in inl same
-get_among (d ∷ es) (suc at) e h = inr (get_among es at e h)
-
-pub found_here : (es : List EndpointParts) (at : ℕ) (e : EndpointParts) → slice_get es at ≡ Some e → Contains es e
-found_here es at e h = contains_from es e (get_among es at e h)
 
 -- the endpoint that is named is the one at that number
 pub its_name : (es : List EndpointParts) (at it : ℕ) (e : EndpointParts) (name : List ℕ) → it ≡ at → slice_get es at ≡ Some e → HasName es it name → e.name ≡ name

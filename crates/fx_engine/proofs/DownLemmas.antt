@@ -2,8 +2,8 @@
 use Rattle.std.proofs.Common.{◌≡◌, ◌∙◌, ap, subst, refl, ℕ, zero, suc, ◌+◌, ◌<◌, ◌||◌, Bool, true, false, List, [], ◌∷◌, ◌++◌, length, Some, arith, slice_get}
 use Rattle.fx_algebra.specs.Groups.{is_down}
 use Rattle.fx_engine.specs.Calls.{Call, Came, down_from, down_if, failed, lost, told}
-use Rattle.fx_engine.specs.Noted.{RiseWithin, places}
-use Rattle.fx_engine.proofs.NotedLemmas.{down_both, none_below, rise_both, the_same}
+use Rattle.fx_services.specs.Noted.{RiseWithin, places}
+use Rattle.fx_services.proofs.NotedLemmas.{down_both, none_below, rise_both, the_same}
 
 -- whether an occurrence is down
 abbrev pub has_gone : Bool → Came → Bool

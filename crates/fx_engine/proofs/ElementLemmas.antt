@@ -20,7 +20,8 @@ use Rattle.fx_algebra.proofs.OperatorLemmas.{minus_moves}
 use Rattle.fx_steps.specs.Fewer.{AreFewer}
 use Rattle.fx_steps.proofs.FewerLemmas.{fewer_laws}
 use Rattle.fx_traffic.specs.Sent.{Sent}
-use Rattle.fx_engine.specs.GroupsAsked.{AlternativesDue, AlternativesGiven, AreAskedFor, GroupDue, GroupGiven, IsNext, OperatorDue, OperatorGiven, Served, UnfilteredGiven, element_in, group_in, operator_rows, operator_seeds, operator_stations, own_patterns, run_joined, run_seeds, run_stations, run_tasks, with_run}
+use Rattle.fx_engine.specs.GroupsAsked.{AlternativesDue, AlternativesGiven, AreAskedFor, GroupDue, GroupGiven, IsNext, OperatorDue, OperatorGiven, UnfilteredGiven, operator_rows, operator_seeds, operator_stations, own_patterns, run_joined, run_seeds, run_stations, run_tasks, with_run}
+use Rattle.fx_services.specs.Served.{Served, element_in, group_in}
 use Rattle.fx_engine.specs.RunsSent.{AreRunsSent}
 use Rattle.fx_engine.specs.SectionSteps.{group_of, part_filters, part_of, part_patterns}
 use Rattle.fx_engine.specs.declared.tasks.Task.{Task}

@@ -9,7 +9,8 @@ use Rattle.fx_algebra.specs.Operators.{join}
 use Rattle.fx_algebra.specs.Solutions.{Bindings}
 use Rattle.fx_algebra.specs.declared.queries.Element.{Element, Element-F, map-Element, fold-roll-Element, roll-Element, ind-Element}
 use Rattle.fx_algebra.specs.declared.queries.Group.{Group, Group-F, ind-Group, fold-roll-Group, map-Group, roll-Group}
-use Rattle.fx_engine.specs.GroupsAsked.{AreEven, Served, element_in, group_in, with_run}
+use Rattle.fx_engine.specs.GroupsAsked.{AreEven, with_run}
+use Rattle.fx_services.specs.Served.{Served, element_in, group_in}
 
 abbrev pub IsEven : Cut → Type 0
 IsEven c = (graph : List Triple) (number other : ℕ) (rows : List Bindings) (known : List (List ℕ)) → length (c.seeds graph number rows) ≡ length (c.stations other known)

@@ -30,7 +30,7 @@ use Rattle.fx_wire.specs.Exchanges.{Exchange, Seen}
 use Rattle.fx_engine.specs.Asks.{AskedAll, IsAskRead}
 use Rattle.fx_engine.specs.Calls.{AgreesWith, AreCalls, Call, IsPassed, Occurrence, down_in, failures_at, occurrences}
 use Rattle.fx_engine.specs.Mediation.{AreKnown, Federated, HasFedCause, HasPlanCause, HoldsBehind, IsNamed, IsRead, IsUnitBefore, IsUnitOf, KnowsServices, Serve}
-use Rattle.fx_engine.specs.Noted.{places}
+use Rattle.fx_services.specs.Noted.{places}
 use Rattle.fx_engine.specs.GroupsAsked.{CanBeAsked, units_in}
 use Rattle.fx_engine.specs.Order.{AreAnswered, AreGiven}
 use Rattle.fx_engine.specs.Outcomes.{HasBatchRefusal, HasOutcomeCause, HasRefusal, Outcomed}

@@ -10,7 +10,8 @@ use Rattle.fx_algebra.specs.declared.expressions.Expr.{Expr}
 use Rattle.fx_algebra.specs.declared.queries.Group.{Group}
 use Rattle.fx_steps.proofs.FewerLemmas.{fewer_laws}
 use Rattle.fx_traffic.specs.Sent.{Sent}
-use Rattle.fx_engine.specs.GroupsAsked.{GroupGiven, UnfilteredGiven, group_in}
+use Rattle.fx_engine.specs.GroupsAsked.{GroupGiven, UnfilteredGiven}
+use Rattle.fx_services.specs.Served.{group_in}
 use Rattle.fx_engine.specs.SectionSteps.{group_of}
 use Rattle.fx_engine.specs.declared.tasks.Task.{Task}
 use Rattle.fx_engine.proofs.ServedLemmas.{same_filters}

@@ -1,7 +1,7 @@
 -- The tasks before the first occurrence of SERVICE that was refused.
 use Rattle.std.proofs.Common.{◌≡◌, ◌∙◌, ap, sym, refl, ℕ, zero, suc, ◌+◌, ◌<◌, ◌≤◌, List, [], ◌∷◌, ◌++◌, drop, take, length, get_or, Contains, inl, inr, arith}
 use Rattle.std.specs.List.{AllByRecursion, flat_map}
-use Rattle.fx_terms.proofs.SetLemmas.{Among, among_from, contains_from}
+use Rattle.fx_terms.proofs.SetLemmas.{Among, contains_from}
 use Rattle.fx_algebra.specs.declared.units.Unit as unit
 use Rattle.fx_engine.specs.GroupsAsked.{task_units, units_in}
 use Rattle.fx_engine.specs.Tasks.{front_of}

@@ -10,12 +10,12 @@ use Rattle.fx_algebra.specs.declared.queries.Group.{Group}
 use Rattle.fx_wire.specs.Exchanges.{Exchange, Seen}
 use Rattle.fx_engine.specs.Calls.{Call, IsPassed, Occurrence, Passes, down_from, down_if, rows_of}
 use Rattle.fx_engine.specs.Invocations.{AreInvoked, AreServable, Calling, IsAt, IsRefusedBy, IsStopped, one_of}
-use Rattle.fx_engine.specs.Noted.{ComesTo, OccurrenceAsked}
-use Rattle.fx_engine.specs.ServicesAsked.{HasServiceCause, IsServable}
-use Rattle.fx_engine.specs.declared.mediator.Down.{Down}
-use Rattle.fx_engine.specs.declared.mediator.DownCause.TheVariants as cause
-use Rattle.fx_engine.specs.declared.services.ServiceError.{ServiceError}
-use Rattle.fx_engine.specs.declared.services.ServiceError.TheVariants as error
+use Rattle.fx_services.specs.Noted.{ComesTo, OccurrenceAsked}
+use Rattle.fx_services.specs.ServicesAsked.{HasServiceCause, IsServable}
+use Rattle.fx_services.specs.declared.noted.Down.{Down}
+use Rattle.fx_services.specs.declared.noted.DownCause.TheVariants as cause
+use Rattle.fx_services.specs.declared.services.ServiceError.{ServiceError}
+use Rattle.fx_services.specs.declared.services.ServiceError.TheVariants as error
 use Rattle.fx_engine.proofs.CallLemmas.{call_of, called_behind, came_by, none_called, one_called}
 use Rattle.fx_pool.proofs.WiresLemmas.{AllTell}
 

@@ -16,7 +16,7 @@ use Rattle.fx_engine.specs.Calls.{Occurrence, occurrence_in, occurrences}
 use Rattle.fx_depths.specs.Shallow.{IsShallow}
 use Rattle.fx_depths.proofs.ServiceDepths.{services_are_shallow}
 use Rattle.fx_engine.specs.Invocations.{AreServable}
-use Rattle.fx_engine.specs.ServicesAsked.{IsServable}
+use Rattle.fx_services.specs.ServicesAsked.{IsServable}
 use Rattle.fx_engine.specs.Unknown.{first_unknown, is_registered, unknown_of}
 use Rattle.fx_engine.proofs.ServableLemmas.{HasServed, servable, services_of_the_grammar}
 use Rattle.fx_engine.proofs.RegisteredLemmas.{unregistered_by}

@@ -7,13 +7,8 @@ pub mod UnitLemmas
 pub mod TaskLemmas
 pub mod AskedLemmas
 pub mod ServedLemmas
-pub mod WithinLemmas
-pub mod FreeLemmas
-pub mod ServiceRowLemmas
-pub mod ServiceLemmas
 pub mod ServableLemmas
 pub mod ServiceElementLemmas
-pub mod NotedLemmas
 pub mod RegisteredLemmas
 pub mod RunLemmas
 pub mod EvenLemmas

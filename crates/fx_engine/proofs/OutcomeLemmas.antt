@@ -25,16 +25,17 @@ use Rattle.fx_wire.specs.Exchanges.{Exchange, Seen}
 use Rattle.fx_engine.specs.AnswersAsked.{AnswerDue, AnswerGiven}
 use Rattle.fx_engine.specs.Asked.{Asked, Knows}
 use Rattle.fx_engine.specs.Calls.{AgreesWith, AreCalls, AreFirst, Call, Came, IsCertain, IsPassed, IsRefused, Occurrence, Passes, down_in, failed, failures_at, lost, occurrences, rows_of, told}
-use Rattle.fx_engine.specs.GroupsAsked.{HasRows, Served, all_planned, units_in}
+use Rattle.fx_engine.specs.GroupsAsked.{HasRows, all_planned, units_in}
+use Rattle.fx_services.specs.Served.{Served}
 use Rattle.fx_engine.specs.Invocations.{Calling}
 use Rattle.fx_engine.specs.Mediation.{Serve}
-use Rattle.fx_engine.specs.Noted.{places}
+use Rattle.fx_services.specs.Noted.{places}
 use Rattle.fx_engine.specs.Order.{AreGiven}
 use Rattle.fx_engine.specs.Outcomes.{HasBatchRefusal, HasOutcomeCause, Outcomed}
 use Rattle.fx_engine.specs.RunsSent.{AreRunsSent}
 use Rattle.fx_engine.specs.Sections.{part_with, parts_with, section_of}
 use Rattle.fx_engine.specs.Tasks.{tasks_with}
-use Rattle.fx_engine.specs.declared.mediator.DownCause.{DownCause}
+use Rattle.fx_services.specs.declared.noted.DownCause.{DownCause}
 use Rattle.fx_engine.specs.declared.mediator.FedError.{FedError}
 use Rattle.fx_engine.specs.declared.mediator.Outcome.{Outcome}
 use Rattle.fx_engine.specs.declared.tasks.RowsError.{RowsError}

@@ -11,7 +11,8 @@ use Rattle.fx_algebra.specs.declared.expressions.Expr.{Expr}
 use Rattle.fx_algebra.specs.declared.queries.Element.{Element}
 use Rattle.fx_steps.specs.Fewer.{AreFewer}
 use Rattle.fx_traffic.specs.Sent.{Sent}
-use Rattle.fx_engine.specs.GroupsAsked.{AreAskedFor, AreEven, AreSentFrom, ElementDue, ElementGiven, EndDue, EndGiven, IsNext, IsPlace, IsReached, OperatorDue, OperatorGiven, Served, all_planned, element_in, is_run, number_behind, operator_rows, operator_seeds, operator_stations, run_joined, run_seeds, run_stations, run_tasks, with_run}
+use Rattle.fx_engine.specs.GroupsAsked.{AreAskedFor, AreEven, AreSentFrom, ElementDue, ElementGiven, EndDue, EndGiven, IsNext, IsPlace, IsReached, OperatorDue, OperatorGiven, all_planned, is_run, number_behind, operator_rows, operator_seeds, operator_stations, run_joined, run_seeds, run_stations, run_tasks, with_run}
+use Rattle.fx_services.specs.Served.{Served, element_in}
 use Rattle.fx_engine.specs.RunsSent.{AreRunsSent}
 use Rattle.fx_engine.specs.SectionSteps.{part_of, part_patterns}
 use Rattle.fx_engine.specs.declared.tasks.Task.{Task}

@@ -1,5 +1,5 @@
 -- What one reply to the ASK of a probe tells, or why there is no answer.
-use Rattle.std.proofs.Common.{◌≡◌, ◌∙◌, ap, sym, subst, refl, ℕ, zero, suc, ◌<◌, ◌≤◌, Bool, true, false, List, [], ◌∷◌, ◌++◌, map, Some, All, Contains, cond, length, ltb, ltb-true, ltb-false, slice_get, inl, inr, ◌⊎◌, arith}
+use Rattle.std.proofs.Common.{◌≡◌, ◌∙◌, ap, sym, subst, refl, ℕ, zero, suc, ◌<◌, ◌≤◌, Bool, true, false, List, [], ◌∷◌, ◌++◌, map, Some, All, Contains, cond, length, ltb, slice_get, inl, inr, ◌⊎◌, arith}
 use Rattle.std.specs.List.{AllByRecursion, zip}
 use Rattle.std.proofs.lemmas.List.Elements.{All-append, All-contains, All-from_recursion, All-nil, Contains-append_left, Contains-append_right}
 use Rattle.std.proofs.lemmas.Slice.Eq.{bytes_eq-Decides}
@@ -31,6 +31,7 @@ use Rattle.fx_pool.proofs.FaultLemmas.{long_truth, truth_faultless}
 use Rattle.fx_engine.specs.AskSteps.{IsForAsk, IsRefusal, job_of}
 use Rattle.fx_engine.specs.Asks.{HasProbeCause, IsAnsweredBy, IsAskRead, IsBadAsk}
 use Rattle.fx_engine.proofs.TruthLemmas.{honest_truth, same_truth}
+use Rattle.fx_services.proofs.WentLemmas.{long_or_short}
 
 -- all of these exchanges are among those
 abbrev pub AllAmong : List Exchange → List Exchange → Type 0
@@ -42,10 +43,6 @@ tell_at wires [] graphs at e h s = cc
 tell_at wires (d ∷ es) [] at e h s = absurd h
 tell_at wires (d ∷ es) (g ∷ graphs) zero e h s = let same : d ≡ e = cc in subst (λ (x : EndpointParts). Tell wires x.iri g) same h.0
 tell_at wires (d ∷ es) (g ∷ graphs) (suc at) e h s = tell_at wires es graphs at e h.1 s
-
-pub long_or_short : (n : ℕ) (b : Bool) → ltb 67108864 n ≡ b → (67108864 < n) ⊎ (n ≤ 67108864)
-long_or_short n true h = inl (ltb-true 67108864 n h)
-long_or_short n false h = inr (ltb-false 67108864 n h)
 
 -- ---- one job
 

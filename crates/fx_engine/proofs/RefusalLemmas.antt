@@ -29,23 +29,24 @@ use Rattle.fx_engine.specs.Calls.{AreFirst, Call, IsCertain, IsPassed, Occurrenc
 use Rattle.fx_engine.specs.GroupsAsked.{units_in}
 use Rattle.fx_engine.specs.Invocations.{AreInvoked, Calling, IsAt, IsRefusedBy, IsStopped}
 use Rattle.fx_engine.specs.Mediation.{IsNamed}
-use Rattle.fx_engine.specs.Noted.{cause_of, places}
+use Rattle.fx_services.specs.Noted.{cause_of, places}
 use Rattle.fx_engine.specs.Outcomes.{HasBatchRefusal, HasRefusal, IsPlacedOrLost, IsTold, Outcomed, is_lost}
 use Rattle.fx_engine.specs.Tasks.{tasks_with}
 use Rattle.fx_engine.specs.Unknown.{unknown_of}
-use Rattle.fx_engine.specs.declared.mediator.Down.{Down}
-use Rattle.fx_engine.specs.declared.mediator.DownCause.{DownCause}
-use Rattle.fx_engine.specs.declared.mediator.DownCause.TheVariants as cause
+use Rattle.fx_services.specs.declared.noted.Down.{Down}
+use Rattle.fx_services.specs.declared.noted.DownCause.{DownCause}
+use Rattle.fx_services.specs.declared.noted.DownCause.TheVariants as cause
 use Rattle.fx_engine.specs.declared.mediator.FedError.{FedError}
 use Rattle.fx_engine.specs.declared.mediator.FedError.TheVariants as fed
 use Rattle.fx_engine.specs.declared.mediator.Outcome.{Outcome}
-use Rattle.fx_engine.specs.declared.services.ServiceError.{ServiceError}
-use Rattle.fx_engine.specs.declared.services.ServiceError.TheVariants as error
+use Rattle.fx_services.specs.declared.services.ServiceError.{ServiceError}
+use Rattle.fx_services.specs.declared.services.ServiceError.TheVariants as error
 use Rattle.fx_engine.specs.declared.tasks.RowsError.{RowsError}
 use Rattle.fx_engine.specs.declared.tasks.RowsError.TheVariants as rows_error
 use Rattle.fx_engine.proofs.AskedLemmas.{flow_cause_behind, unasked}
 use Rattle.fx_engine.proofs.CallLemmas.{failures_behind}
-use Rattle.fx_engine.proofs.ChoiceLemmas.{found_here, get_below}
+use Rattle.fx_engine.proofs.ChoiceLemmas.{get_below}
+use Rattle.fx_services.proofs.WentLemmas.{found_here}
 use Rattle.fx_engine.proofs.KnownLemmas.{plain_is_known}
 use Rattle.fx_engine.proofs.OutcomeLemmas.{each_certain, its_answer, none_but_theirs, outcomed}
 use Rattle.fx_engine.proofs.StationLemmas.{no_run_sent}

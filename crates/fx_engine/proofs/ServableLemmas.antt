@@ -30,7 +30,7 @@ use Rattle.fx_spelling.proofs.Queries.{printed_is_accepted}
 use Rattle.fx_spelling.proofs.Saying.{fine_both}
 use Rattle.fx_spelling.proofs.TakenQueries.{accepted_is_printable}
 use Rattle.fx_traffic.specs.Traffic.{service_query}
-use Rattle.fx_engine.specs.ServicesAsked.{IsServable}
+use Rattle.fx_services.specs.ServicesAsked.{IsServable}
 
 both_true : (b c : Bool) → (b && c) ≡ true → (b ≡ true) × (c ≡ true)
 both_true true c e = (refl, e)

@@ -7,7 +7,8 @@ use Rattle.fx_algebra.specs.Groups.{Meaning, Part, element_meaning, group_meanin
 use Rattle.fx_algebra.specs.declared.queries.Element.{Element, Element-F, fold_out-Element, map-Element, out-Element}
 use Rattle.fx_algebra.specs.declared.queries.Group.{Group}
 use Rattle.fx_algebra.proofs.CutLemmas.{meanings_alike}
-use Rattle.fx_engine.specs.GroupsAsked.{Served, element_in, group_in, own_patterns}
+use Rattle.fx_engine.specs.GroupsAsked.{own_patterns}
+use Rattle.fx_services.specs.Served.{Served, element_in, group_in}
 use Rattle.fx_engine.specs.SectionSteps.{group_of, part_of, part_patterns}
 
 -- two parts have the same patterns, and a run goes on behind both or behind neither

@@ -22,8 +22,9 @@ use Rattle.fx_wire.specs.Exchanges.{Seen}
 use Rattle.fx_flows.specs.declared.flows.FlowError.{FlowError}
 use Rattle.fx_flows.specs.declared.flows.FlowError.TheVariants as flow
 use Rattle.fx_engine.specs.Asked.{Asked, HasRowsCause}
-use Rattle.fx_engine.specs.GroupsAsked.{AreAskedFor, HasRows, IsBehindService, IsJoined, IsNext, OperatorDue, OperatorGiven, Served, element_in, group_in, service_task, solutions_in}
-use Rattle.fx_engine.specs.ServicesAsked.{AreRowsOver}
+use Rattle.fx_engine.specs.GroupsAsked.{AreAskedFor, HasRows, IsBehindService, IsJoined, IsNext, OperatorDue, OperatorGiven, service_task, solutions_in}
+use Rattle.fx_services.specs.Served.{Served, element_in, group_in}
+use Rattle.fx_services.specs.ServicesAsked.{AreRowsOver}
 use Rattle.fx_engine.specs.declared.tasks.RowsError.{RowsError}
 use Rattle.fx_engine.specs.declared.tasks.RowsError.TheVariants as rows_error
 use Rattle.fx_engine.specs.declared.tasks.Task.{Task}

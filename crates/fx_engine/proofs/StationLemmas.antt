@@ -19,7 +19,8 @@ use Rattle.fx_traffic.specs.Batches.{IsRunSent}
 use Rattle.fx_traffic.specs.Sent.{Sent}
 use Rattle.fx_traffic.specs.Traffic.{SentUnless}
 use Rattle.fx_traffic.proofs.CutLemmas.{batch_laws}
-use Rattle.fx_engine.specs.GroupsAsked.{HasRows, IsNext, Served, all_planned, planned, run_stations, run_tasks}
+use Rattle.fx_engine.specs.GroupsAsked.{HasRows, IsNext, all_planned, planned, run_stations, run_tasks}
+use Rattle.fx_services.specs.Served.{Served}
 use Rattle.fx_engine.specs.RunsSent.{AreRunsSent, IsSentForRun}
 use Rattle.fx_engine.specs.declared.tasks.Task.{Task}
 

@@ -16,7 +16,8 @@ use Rattle.fx_plan.specs.Plans.{plan}
 use Rattle.fx_plan.specs.declared.parts.Part.{Part}
 use Rattle.fx_plan.specs.declared.parts.Part.TheVariants as part
 use Rattle.fx_engine.specs.Calls.{occurrence_in}
-use Rattle.fx_engine.specs.GroupsAsked.{Served, all_planned, planned, service_task}
+use Rattle.fx_engine.specs.GroupsAsked.{all_planned, planned, service_task}
+use Rattle.fx_services.specs.Served.{Served}
 use Rattle.fx_engine.specs.Sections.{part_with, section_of}
 use Rattle.fx_engine.specs.Outcomes.{IsAllOf, IsPlanOf}
 use Rattle.fx_engine.specs.Tasks.{tasks_with}

@@ -16,7 +16,8 @@ use Rattle.fx_steps.proofs.FewerLemmas.{fewer_laws}
 use Rattle.fx_traffic.specs.Sent.{Sent}
 use Rattle.fx_wire.specs.Exchanges.{Seen}
 use Rattle.fx_engine.specs.Asked.{Asked}
-use Rattle.fx_engine.specs.GroupsAsked.{AreSentFrom, ElementDue, ElementGiven, EndDue, EndGiven, GroupDue, IsNext, IsPlace, IsReached, Served, UnfilteredGiven, all_planned, element_in, group_in, number_behind, run_joined, run_seeds, run_stations, run_tasks, seeds_in, stations_in, with_run}
+use Rattle.fx_engine.specs.GroupsAsked.{AreSentFrom, ElementDue, ElementGiven, EndDue, EndGiven, GroupDue, IsNext, IsPlace, IsReached, UnfilteredGiven, all_planned, number_behind, run_joined, run_seeds, run_stations, run_tasks, seeds_in, stations_in, with_run}
+use Rattle.fx_services.specs.Served.{Served, element_in, group_in}
 use Rattle.fx_engine.specs.RunsSent.{AreRunsSent}
 use Rattle.fx_engine.specs.declared.tasks.RowsError.{RowsError}
 use Rattle.fx_engine.specs.declared.tasks.Task.{Task}

@@ -9,7 +9,8 @@ use Rattle.fx_algebra.specs.Solutions.{Bindings}
 use Rattle.fx_algebra.specs.declared.answers.Answer.{Answer}
 use Rattle.fx_algebra.specs.declared.queries.Query.{Query}
 use Rattle.fx_traffic.specs.Sent.{Sent}
-use Rattle.fx_engine.specs.GroupsAsked.{HasRows, Served, all_planned}
+use Rattle.fx_engine.specs.GroupsAsked.{HasRows, all_planned}
+use Rattle.fx_services.specs.Served.{Served}
 use Rattle.fx_engine.specs.RunsSent.{AreRunsSent}
 use Rattle.fx_engine.specs.declared.tasks.Task.{Task}
 

@@ -1,25 +1,19 @@
 -- What asking over several wires leaves of them, whatever was asked for.
-use Rattle.std.specs.Prelude.{◌≡◌, ◌≤◌, ◌+◌, ℕ, Bool, List, length, IfErr, IsTrue, All, Contains, Result, Ok, Err}
+use Rattle.std.specs.Prelude.{◌≡◌, ◌≤◌, ℕ, Bool, List, length, IfErr, All, Contains, Result, Ok, Err}
 use Rattle.fx_terms.specs.declared.triples.Triple.{Triple}
 use Rattle.fx_outside.specs.Endpoints.{EndpointParts}
 use Rattle.fx_traffic.specs.Batches.{IsBatchText}
-use Rattle.fx_traffic.specs.Gains.{AreAfter, HaveGained, TellAll, faults_at}
+use Rattle.fx_traffic.specs.Gains.{TellAll}
 use Rattle.fx_traffic.specs.Sent.{Sent, Sends}
 use Rattle.fx_wire.specs.Exchanges.{Exchange, Seen}
 use Rattle.fx_flows.specs.Flows.{IsBatchRead}
 use Rattle.fx_flows.specs.RunFlows.{HasFlowCause}
+use Rattle.fx_services.specs.Went.{Went}
 use Rattle.fx_engine.specs.GroupsAsked.{units_in}
 use Rattle.fx_engine.specs.declared.tasks.RowsError.{RowsError}
 use Rattle.fx_engine.specs.declared.tasks.RowsError.TheVariants as rows_error
 use Rattle.fx_engine.specs.declared.tasks.Task.{Task}
 use Rattle.fx_engine.specs.declared.tasks.Task.TheVariants as task
-
--- Wires went through these exchanges, one wire's part behind the other's; beside them so many failed, and if wires count each address alone
--- no more is counted anywhere.
-pub record Went (tells alone : Bool) (failed : ℕ) (before after : List Seen) (xs : List Exchange) : Type 0 where
-  pub gained : IsTrue tells → HaveGained before after xs
-  pub after_all : AreAfter before after
-  pub counted : IsTrue alone → (address : List ℕ) → faults_at after address ≤ faults_at before address + failed
 
 -- what is known over the graphs of the endpoints, with what was wanted: of something given the one, of a refusal the other
 abbrev pub Knows : {X : Type 0} → (List (List Triple) → List Sent → X → Type 0) → (List (List Triple) → List Sent → Type 0) → List (List Triple) → List Sent → Result X RowsError → Type 0

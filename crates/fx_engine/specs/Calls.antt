@@ -15,11 +15,11 @@ use Rattle.fx_traffic.specs.Gains.{Tell}
 use Rattle.fx_traffic.specs.Sent.{Sent, Sends}
 use Rattle.fx_traffic.specs.Traffic.{IsServiceSent}
 use Rattle.fx_wire.specs.Exchanges.{Exchange, Seen}
-use Rattle.fx_engine.specs.Noted.{down_of, places}
-use Rattle.fx_engine.specs.ServicesAsked.{AreRowsOver, IsBadService, IsToldBy, service_text}
-use Rattle.fx_engine.specs.declared.mediator.Down.{Down}
-use Rattle.fx_engine.specs.declared.mediator.DownCause.{DownCause}
-use Rattle.fx_engine.specs.declared.mediator.DownCause.TheVariants as cause
+use Rattle.fx_services.specs.Noted.{down_of, places}
+use Rattle.fx_services.specs.ServicesAsked.{AreRowsOver, IsBadService, IsToldBy, service_text}
+use Rattle.fx_services.specs.declared.noted.Down.{Down}
+use Rattle.fx_services.specs.declared.noted.DownCause.{DownCause}
+use Rattle.fx_services.specs.declared.noted.DownCause.TheVariants as cause
 
 -- ---- occurrences
 

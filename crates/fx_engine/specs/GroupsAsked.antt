@@ -9,7 +9,7 @@ use Rattle.fx_outside.specs.Endpoints.{EndpointParts}
 use Rattle.fx_algebra.specs.Answers.{is_empty_list}
 use Rattle.fx_algebra.specs.BasicGraphPatterns.{bgp}
 use Rattle.fx_algebra.specs.Graphs.{union}
-use Rattle.fx_algebra.specs.Groups.{Meaning, Part as GroupPart, pattern, condition, operator, Step, with_pattern, with_part, stations_of, seeds_of, after, group_rows, alternatives, alternative_seeds, alternative_stations, one_empty, element_meaning, group_meaning, meaning, service_rows}
+use Rattle.fx_algebra.specs.Groups.{Part as GroupPart, pattern, condition, operator, Step, with_pattern, with_part, stations_of, seeds_of, after, group_rows, alternatives, alternative_seeds, alternative_stations, one_empty, service_rows}
 use Rattle.fx_algebra.specs.Operators.{join}
 use Rattle.fx_algebra.specs.Scopes.{once}
 use Rattle.fx_algebra.specs.Solutions.{Bindings}
@@ -17,7 +17,7 @@ use Rattle.fx_algebra.specs.Stations.{Station}
 use Rattle.fx_algebra.specs.Stations as station
 use Rattle.fx_algebra.specs.Units.{sources}
 use Rattle.fx_algebra.specs.declared.expressions.Expr.{Expr}
-use Rattle.fx_algebra.specs.declared.queries.Element.{Element, fold-Element}
+use Rattle.fx_algebra.specs.declared.queries.Element.{Element}
 use Rattle.fx_algebra.specs.declared.queries.Group.{Group}
 use Rattle.fx_algebra.specs.declared.units.Row.{Row}
 use Rattle.fx_algebra.specs.declared.units.Unit as unit
@@ -27,6 +27,7 @@ use Rattle.fx_spelling.specs.Units.{IsFit}
 use Rattle.fx_steps.specs.Fewer.{AreFewer}
 use Rattle.fx_steps.specs.Steps.{numbered, stepped}
 use Rattle.fx_traffic.specs.Sent.{Sent}
+use Rattle.fx_services.specs.Served.{Served, element_in, group_in}
 use Rattle.fx_engine.specs.RunsSent.{AreRunsSent}
 use Rattle.fx_engine.specs.SectionSteps.{part_of, part_patterns}
 use Rattle.fx_engine.specs.Tasks.{front_of}
@@ -34,22 +35,6 @@ use Rattle.fx_engine.specs.declared.tasks.RowsError.{RowsError}
 use Rattle.fx_engine.specs.declared.tasks.RowsError.TheVariants as rows_error
 use Rattle.fx_engine.specs.declared.tasks.Task.{Task}
 use Rattle.fx_engine.specs.declared.tasks.Task.TheVariants as task
-
--- ---- how SERVICE is served
-
--- The graph that each IRI has for SERVICE, the numbers of the occurrences that are down, and the rows at hand of the occurrence of a number: none where
--- it was refused, or stands behind one that was.
-pub record Served : Type 0 where
-  pub graphs : List ℕ → List Triple
-  pub down : List ℕ
-  pub rows : ℕ → Option (List Bindings)
-
--- what a group and an element are to the group around them, where SERVICE is served so
-abbrev pub group_in : Served → Group → Meaning
-group_in served = meaning served.graphs served.down
-
-abbrev pub element_in : Served → Element → GroupPart
-element_in served = fold-Element GroupPart Meaning (element_meaning served.graphs served.down) group_meaning
 
 -- the rows at hand of an occurrence of SERVICE are its rows, in some order
 abbrev pub HasRows : Served → Station → Type 0

@@ -9,13 +9,13 @@ use Rattle.fx_algebra.specs.declared.queries.Group.{Group}
 use Rattle.fx_traffic.specs.Gains.{AreAfter, HaveGained, faults_at}
 use Rattle.fx_wire.specs.Exchanges.{Exchange, Seen}
 use Rattle.fx_engine.specs.Calls.{AreCalls, Call, IsCertain, IsPassed, Occurrence, down_from, failed, failures_at, occurrence_in, rows_of}
-use Rattle.fx_engine.specs.Noted.{cause_of}
+use Rattle.fx_services.specs.Noted.{cause_of}
 use Rattle.fx_engine.specs.SectionSteps.{group_of, part_of}
-use Rattle.fx_engine.specs.ServicesAsked.{IsServable}
-use Rattle.fx_engine.specs.declared.mediator.Down.{Down}
-use Rattle.fx_engine.specs.declared.mediator.DownCause.{DownCause}
-use Rattle.fx_engine.specs.declared.services.ServiceError.{ServiceError}
-use Rattle.fx_engine.specs.declared.services.ServiceError.TheVariants as error
+use Rattle.fx_services.specs.ServicesAsked.{IsServable}
+use Rattle.fx_services.specs.declared.noted.Down.{Down}
+use Rattle.fx_services.specs.declared.noted.DownCause.{DownCause}
+use Rattle.fx_services.specs.declared.services.ServiceError.{ServiceError}
+use Rattle.fx_services.specs.declared.services.ServiceError.TheVariants as error
 
 -- ---- the occurrences in a group
 

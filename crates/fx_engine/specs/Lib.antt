@@ -10,12 +10,10 @@ pub mod Invocations
 pub mod Laws
 pub mod LeftRows
 pub mod Mediation
-pub mod Noted
 pub mod Order
 pub mod Outcomes
 pub mod RunsSent
 pub mod SectionSteps
 pub mod Sections
-pub mod ServicesAsked
 pub mod Tasks
 pub mod Unknown

@@ -21,17 +21,17 @@ use Rattle.fx_wire.specs.Exchanges.{Exchange, Seen}
 use Rattle.fx_engine.specs.Calls.{AgreesWith, AreCalls, AreFirst, Call, IsPassed, IsRefused, down_in, failures_at, occurrences}
 use Rattle.fx_engine.specs.GroupsAsked.{units_in}
 use Rattle.fx_engine.specs.Mediation.{AtNamed, HasName, HasPlain, IsNamed, Serve}
-use Rattle.fx_engine.specs.Noted.{places}
+use Rattle.fx_services.specs.Noted.{places}
 use Rattle.fx_engine.specs.Order.{AreGiven}
 use Rattle.fx_engine.specs.RunsSent.{AreRunsSent}
 use Rattle.fx_engine.specs.Sections.{part_with, parts_with, sections}
 use Rattle.fx_engine.specs.Tasks.{tasks_with}
-use Rattle.fx_engine.specs.declared.mediator.DownCause.TheVariants as cause
+use Rattle.fx_services.specs.declared.noted.DownCause.TheVariants as cause
 use Rattle.fx_engine.specs.declared.mediator.FedError.{FedError}
 use Rattle.fx_engine.specs.declared.mediator.FedError.TheVariants as fed
 use Rattle.fx_engine.specs.declared.mediator.Outcome.{Outcome}
-use Rattle.fx_engine.specs.declared.services.ServiceError.{ServiceError}
-use Rattle.fx_engine.specs.declared.services.ServiceError.TheVariants as error
+use Rattle.fx_services.specs.declared.services.ServiceError.{ServiceError}
+use Rattle.fx_services.specs.declared.services.ServiceError.TheVariants as error
 
 -- ---- refusals
 

@@ -15,6 +15,7 @@ use crate::tasks::{RowsError, Task, Tasks};
 use fx_algebra::{Element, Expr, Group, Inline, Row, Solution};
 use fx_flows::{FlowError, run_flow};
 use fx_outside::Endpoint;
+use fx_services::noted::one_row;
 use fx_solutions::known_rows::known_to_rise;
 use fx_solutions::{extend, filter, inline_rows, join, join_with, left_join_with, minus_with};
 use fx_terms::{Memory, Name};
@@ -397,15 +398,6 @@ fn after_service(
         Task::Service { rows } => with_rows(alloc, before, rows.as_slice()),
         Task::Refused => Err(RowsError::Refused),
     }
-}
-
-// The one empty solution.
-pub(crate) fn one_row(alloc: Global) -> Result<Vec<Solution>, Memory>
-    ensures { IfOk result (λ rows. rows.items ≡ [] ∷ []) }
-{
-    let mut rows = Vec::new(alloc);
-    rows.push(Solution::empty(alloc))?;
-    Ok(rows)
 }
 
 // Whether an element is a triple pattern.

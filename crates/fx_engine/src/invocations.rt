@@ -2,12 +2,10 @@
 ghost use Rattle.std.specs.Prelude.{◌≡◌, ◌<◌, ◌≤◌, length, map};
 ghost use Rattle.std.specs.List.{flat_map};
 ghost use Rattle.fx_engine.specs.Invocations as spec;
-ghost use Rattle.fx_engine.specs.ServicesAsked.{IsServable};
+ghost use Rattle.fx_services.specs.ServicesAsked.{IsServable};
 
-use crate::mediator::Down;
-use crate::noted::rows_or_down;
-use crate::services::ServiceError;
 use fx_algebra::{Element, Group, Solution};
+use fx_services::{Down, ServiceError, rows_or_down};
 use fx_sources::Registry;
 use fx_terms::{Iri, Items};
 use fx_wire::Wire;

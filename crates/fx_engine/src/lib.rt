@@ -9,27 +9,24 @@ mod groups;
 mod invocations;
 pub mod laws;
 pub mod mediator;
-mod noted;
 mod optionals;
 mod outcomes;
 mod parts;
 mod planning;
 mod sections;
-mod services;
 mod tasks;
 mod unknown;
 
 pub use fault_texts::{fault_code, fault_words};
 pub use fx_pool::{BadReply, ReplyFault};
+pub use fx_services::{Down, DownCause};
 use fx_terms::shareable;
-pub use mediator::{Down, DownCause, FedError, MemberName, Options, Outcome, federate, plan_parts};
+pub use mediator::{FedError, MemberName, Options, Outcome, federate, plan_parts};
 
 /// Every type that the calls of this crate take or give may be shared between threads and sent to them.
 pub fn all_shareable() {
     shareable::<Options>();
     shareable::<Outcome>();
-    shareable::<Down>();
-    shareable::<DownCause>();
     shareable::<MemberName>();
     shareable::<FedError>();
 }

@@ -11,6 +11,7 @@ use fx_flows::FlowError;
 use fx_outside::Endpoint;
 use fx_plan::Part;
 use fx_pool::BadReply;
+use fx_services::Down;
 use fx_sources::{AskCache, Registry};
 use fx_terms::{Iri, Items, Memory};
 use fx_wire::Wire;
@@ -33,28 +34,6 @@ pub struct Outcome {
     pub answer: Answer,
     /// The occurrences of SERVICE SILENT that failed, by number, each of which gave the one empty solution.
     pub down: Items<Down>,
-}
-
-/// An occurrence of SERVICE SILENT that failed.
-#[derive(Drop)]
-pub struct Down {
-    /// Its number among the occurrences of the query in text order, from 0.
-    pub place: u64,
-    pub iri: Iri,
-    pub why: DownCause,
-}
-
-/// Why an occurrence of SERVICE SILENT failed.
-#[derive(Drop)]
-pub enum DownCause {
-    /// Its exchange failed, and was counted as a fault at the address.
-    Failed,
-    /// The reply is bad.
-    Bad(BadReply),
-    /// Its text has more than 67,108,864 bytes, so many, and wasn't sent.
-    TooLong { length: u64 },
-    /// No endpoint of the registry has its IRI as its address.
-    Unknown,
 }
 
 /// The name of an endpoint in a registry. Contracts see its bytes.

@@ -22,7 +22,7 @@ use Rattle.fx_traffic.specs.Gains.{Tell, TellAll, faults_at}
 use Rattle.fx_wire.specs.Exchanges.{Seen}
 use Rattle.fx_engine.specs.Calls.{Call}
 use Rattle.fx_engine.specs.Unknown.{unknown_of}
-use Rattle.fx_engine.specs.declared.mediator.DownCause.TheVariants as cause
+use Rattle.fx_services.specs.declared.noted.DownCause.TheVariants as cause
 use Rattle.fx_engine.specs.declared.mediator.FedError.{FedError}
 use Rattle.fx_engine.specs.declared.mediator.FedError.TheVariants as fed
 use Rattle.fx_terms.proofs.SetLemmas.{Among, among_from, contains_from}

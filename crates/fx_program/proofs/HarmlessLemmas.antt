@@ -28,16 +28,16 @@ use Rattle.fx_traffic.proofs.CutLemmas.{batch_laws}
 use Rattle.fx_wire.specs.Exchanges.{Exchange, Seen, exchanged}
 use Rattle.fx_engine.specs.Calls.{AgreesWith, AreCalls, Call, Came, HasComeTo, IsPassed, Occurrence, Passes, down_in, failed, failure_of, failures_at, lost, occurrence_in, occurrences, told}
 use Rattle.fx_engine.specs.Mediation.{Federated, HasPlain, Serve}
-use Rattle.fx_engine.specs.Noted.{places}
+use Rattle.fx_services.specs.Noted.{places}
 use Rattle.fx_engine.specs.RunsSent.{AreRunsSent, IsSentForRun}
-use Rattle.fx_engine.specs.ServicesAsked.{service_text}
+use Rattle.fx_services.specs.ServicesAsked.{service_text}
 use Rattle.fx_engine.specs.Unknown.{is_registered}
-use Rattle.fx_engine.specs.declared.mediator.DownCause.{DownCause}
-use Rattle.fx_engine.specs.declared.mediator.DownCause.TheVariants as cause
+use Rattle.fx_services.specs.declared.noted.DownCause.{DownCause}
+use Rattle.fx_services.specs.declared.noted.DownCause.TheVariants as cause
 use Rattle.fx_engine.specs.declared.mediator.FedError.{FedError}
 use Rattle.fx_engine.specs.declared.mediator.Outcome.{Outcome}
 use Rattle.fx_engine.proofs.DownLemmas.{down_at, has_gone}
-use Rattle.fx_engine.proofs.NotedLemmas.{apart_below, the_same}
+use Rattle.fx_services.proofs.NotedLemmas.{apart_below, the_same}
 use Rattle.fx_engine.proofs.RegisteredLemmas.{registered_by, unregistered_by}
 use Rattle.fx_commands.specs.Asking.{WiresSeen}
 use Rattle.fx_program.specs.Completeness.{AreRepliesShort, AreTextsShort, AreWell}

@@ -26,8 +26,8 @@ use Rattle.fx_traffic.specs.Gains.{TellAll, faults_at}
 use Rattle.fx_engine.specs.Calls.{AreFirst, Call, Occurrence, occurrences}
 use Rattle.fx_engine.specs.Mediation.{Federated, HasPlain, Serve}
 use Rattle.fx_engine.specs.Sections.{parts_with}
-use Rattle.fx_engine.specs.declared.mediator.Down.{Down}
-use Rattle.fx_engine.specs.declared.mediator.DownCause.{DownCause}
+use Rattle.fx_services.specs.declared.noted.Down.{Down}
+use Rattle.fx_services.specs.declared.noted.DownCause.{DownCause}
 use Rattle.fx_engine.specs.declared.mediator.FedError.TheVariants as fed
 use Rattle.fx_engine.specs.declared.mediator.Outcome.{Outcome}
 use Rattle.fx_local.specs.declared.limits.TheConstants.{GRAPH_LIMIT, QUERY_LIMIT, REGISTRY_LIMIT}

@@ -15,7 +15,7 @@ use Rattle.fx_sources.specs.Registries.{read_registry}
 use Rattle.fx_traffic.specs.Gains.{TellAll, faults_at}
 use Rattle.fx_engine.specs.Mediation.{Serve}
 use Rattle.fx_engine.specs.Sections.{parts_with}
-use Rattle.fx_engine.specs.declared.mediator.Down.{Down}
+use Rattle.fx_services.specs.declared.noted.Down.{Down}
 use Rattle.fx_local.specs.declared.limits.TheConstants.{GRAPH_LIMIT, QUERY_LIMIT, REGISTRY_LIMIT}
 use Rattle.fx_local.specs.declared.statuses.Status.{Status}
 use Rattle.fx_local.specs.declared.statuses.Status.TheVariants as status

@@ -2,7 +2,7 @@ use Rattle.std.proofs.Common.{subst, List, [], map}
 use Rattle.fx_algebra.specs.Solutions.{Bindings}
 use Rattle.fx_engine.specs.Calls.{occurrences}
 use Rattle.fx_engine.specs.Invocations.{AreInvoked, IsStopped}
-use Rattle.fx_engine.specs.declared.mediator.Down.{Down}
+use Rattle.fx_services.specs.declared.noted.Down.{Down}
 use Rattle.fx_engine.proofs.AskedLemmas.{all_tell}
 use Rattle.fx_engine.proofs.KnownLemmas.{occurrences_servable}
 use Rattle.fx_engine.proofs.RefusalLemmas.{placed_so}

@@ -10,8 +10,8 @@ use Rattle.fx_algebra.specs.Solutions.{Bindings}
 use Rattle.fx_algebra.specs.declared.expressions.Expr.{Expr}
 use Rattle.fx_algebra.specs.declared.queries.Element.{Element, Element-F, map-Element, fold-roll-Element, roll-Element}
 use Rattle.fx_algebra.specs.declared.queries.Group.{Group, Group-F, ind-Group, fold-roll-Group, map-Group, roll-Group}
-use Rattle.fx_engine.specs.GroupsAsked.{Served, element_in, group_in}
-use Rattle.fx_engine.proofs.ServedLemmas.{same_filters}
+use Rattle.fx_algebra.proofs.CutLemmas.{meanings_alike}
+use Rattle.fx_services.specs.Served.{Served, element_in, group_in}
 
 none_front : {X : Type 0} (xs ys : List X) → xs ++ ys ≡ [] → xs ≡ []
 none_front [] ys h = refl
@@ -73,7 +73,7 @@ module _ (served other : Served) where
   KnownGroup = (g : Group) × GroupFree g
 
   filters_same : (g : Group) → (group_in served g).filters ≡ (group_in other g).filters
-  filters_same g = same_filters served g ∙ sym (same_filters other g)
+  filters_same g = (meanings_alike served.graphs other.graphs served.down other.down g).filters
 
   whole_same : (g : Group) → ((graph : List Triple) (n m : ℕ) → (group_in served g).rows graph n ≡ (group_in other g).rows graph m) → (graph : List Triple) (n m : ℕ) → group_rows (group_in served g) graph n ≡ group_rows (group_in other g) graph m
   whole_same g h graph n m =

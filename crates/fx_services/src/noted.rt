@@ -1,22 +1,43 @@
 //! Occurrences of SERVICE, plain and silent.
-ghost use Rattle.std.specs.Prelude.{◌≡◌, ◌<◌, ◌≤◌, length, map};
-ghost use Rattle.fx_engine.specs.Noted as spec;
-ghost use Rattle.fx_engine.specs.ServicesAsked.{IsServable};
+ghost use Rattle.std.specs.Prelude.{◌≡◌, ◌∷◌, ◌<◌, ◌≤◌, [], IfOk, length, map};
+ghost use Rattle.fx_services.specs.Noted as spec;
+ghost use Rattle.fx_services.specs.ServicesAsked.{IsServable};
 
-use crate::groups::one_row;
-use crate::mediator::{Down, DownCause};
 use crate::services::{ServiceError, ask_service};
 use fx_algebra::{Group, Solution};
+use fx_pool::BadReply;
 use fx_sources::Registry;
-use fx_terms::{Iri, Items};
+use fx_terms::{Iri, Items, Memory};
 use fx_wire::Wire;
 use std::alloc::Global;
 use std::sync::Wait;
 use std::thread::Threads;
 
+/// An occurrence of SERVICE SILENT that failed.
+#[derive(Drop)]
+pub struct Down {
+    /// Its number among the occurrences of the query in text order, from 0.
+    pub place: u64,
+    pub iri: Iri,
+    pub why: DownCause,
+}
+
+/// Why an occurrence of SERVICE SILENT failed.
+#[derive(Drop)]
+pub enum DownCause {
+    /// Its exchange failed, and was counted as a fault at the address.
+    Failed,
+    /// The reply is bad.
+    Bad(BadReply),
+    /// Its text has more than 67,108,864 bytes, so many, and wasn't sent.
+    TooLong { length: u64 },
+    /// No endpoint of the registry has its IRI as its address.
+    Unknown,
+}
+
 /// The rows of the occurrence of SERVICE of this number. Where it is silent and has none, it gives the one empty solution, and is noted behind what was down;
 /// where it is plain and has none, the reason is the refusal.
-pub(crate) fn rows_or_down<R: Threads + Wait + Sync, W: Wire + Send>(
+pub fn rows_or_down<R: Threads + Wait + Sync, W: Wire + Send>(
     rt: &R,
     alloc: Global,
     number: u64,
@@ -92,4 +113,13 @@ fn cause_of(error: ServiceError) -> Option<DownCause>
         ServiceError::TooLong { at: _, length } => Some(DownCause::TooLong { length }),
         ServiceError::Memory => None,
     }
+}
+
+/// The one empty solution.
+pub fn one_row(alloc: Global) -> Result<Vec<Solution>, Memory>
+    ensures { IfOk result (λ rows. rows.items ≡ [] ∷ []) }
+{
+    let mut rows = Vec::new(alloc);
+    rows.push(Solution::empty(alloc))?;
+    Ok(rows)
 }

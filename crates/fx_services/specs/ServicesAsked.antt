@@ -23,9 +23,9 @@ use Rattle.fx_pool.specs.declared.jobs.JobKind.TheVariants as kind
 use Rattle.fx_pool.specs.declared.jobs.JobReply.{JobReply}
 use Rattle.fx_pool.specs.declared.jobs.JobReply.TheVariants as reply
 use Rattle.fx_pool.specs.declared.jobs.Work.TheVariants as work
-use Rattle.fx_engine.specs.Asked.{Went}
-use Rattle.fx_engine.specs.declared.services.ServiceError.{ServiceError}
-use Rattle.fx_engine.specs.declared.services.ServiceError.TheVariants as error
+use Rattle.fx_services.specs.Went.{Went}
+use Rattle.fx_services.specs.declared.services.ServiceError.{ServiceError}
+use Rattle.fx_services.specs.declared.services.ServiceError.TheVariants as error
 
 -- ---- what is asked
 

@@ -36,10 +36,10 @@ use Rattle.fx_pool.specs.declared.faults.ReplyFault.{ReplyFault}
 use Rattle.fx_pool.specs.declared.faults.ReplyFault.TheVariants as fault
 use Rattle.fx_pool.proofs.FaultLemmas.{same_results}
 use Rattle.fx_pool.proofs.HonestLemmas.{honest_results}
-use Rattle.fx_engine.specs.GroupsAsked.{Served, group_in}
-use Rattle.fx_engine.specs.ServicesAsked.{AreRowsOver, IsServable, service_text}
-use Rattle.fx_engine.proofs.FreeLemmas.{rows_free}
-use Rattle.fx_engine.proofs.WithinLemmas.{AllBind, Binds, group_rows_bind}
+use Rattle.fx_services.specs.Served.{Served, group_in}
+use Rattle.fx_services.specs.ServicesAsked.{AreRowsOver, IsServable, service_text}
+use Rattle.fx_services.proofs.FreeLemmas.{rows_free}
+use Rattle.fx_services.proofs.WithinLemmas.{AllBind, Binds, group_rows_bind}
 
 -- ---- what is sorted is the same in some order
 

@@ -2,10 +2,10 @@ use Rattle.std.proofs.Common.{◌≡◌, ◌∙◌, ◌∷◌, [], subst, map, L
 use Rattle.fx_outside.specs.Endpoints.{EndpointParts}
 use Rattle.fx_pool.specs.Runs.{WiresDid}
 use Rattle.fx_pool.specs.declared.jobs.Job.{Job}
-use Rattle.fx_engine.specs.ServicesAsked.{job_of}
-use Rattle.fx_engine.specs.declared.services.ServiceError.TheVariants as error
-use Rattle.fx_engine.proofs.ServiceLemmas.{asked_in_vain, endpoint_at, one_reply_for, rows_by_one, unasked}
-use Rattle.fx_engine.proofs.services.ask_at.Goals as goal
+use Rattle.fx_services.specs.ServicesAsked.{job_of}
+use Rattle.fx_services.specs.declared.services.ServiceError.TheVariants as error
+use Rattle.fx_services.proofs.ServiceLemmas.{asked_in_vain, endpoint_at, one_reply_for, rows_by_one, unasked}
+use Rattle.fx_services.proofs.services.ask_at.Goals as goal
 
 pub returns-in-Err : goal.returns-in-Err
 returns-in-Err g c =

@@ -1,7 +1,7 @@
 use Rattle.std.proofs.Common.{map, refl}
-use Rattle.fx_engine.specs.declared.services.ServiceError.TheVariants as error
-use Rattle.fx_engine.proofs.ServiceLemmas.{asked_there, unasked}
-use Rattle.fx_engine.proofs.services.ask_service.Goals as goal
+use Rattle.fx_services.specs.declared.services.ServiceError.TheVariants as error
+use Rattle.fx_services.proofs.ServiceLemmas.{asked_there, unasked}
+use Rattle.fx_services.proofs.services.ask_service.Goals as goal
 
 pub returns-in-None : goal.returns-in-None
 returns-in-None g c = unasked g.W.Wire.tells_log g.W.Wire.counts_alone (map g.W.Wire.seen c.args.wires.now) c.args.registry.now c.args.iri.now c.args.group.now error.Unknown refl (c.in-None.ensures.none, refl)

@@ -1,8 +1,8 @@
 -- What is noted down of one part of a group behind another: the numbers of each part are its own.
 use Rattle.std.proofs.Common.{◌≡◌, ◌∙◌, ap, sym, refl, ℕ, suc, ◌<◌, ◌≤◌, ◌==◌, Bool, true, false, ◌||◌, List, [], ◌∷◌, ◌++◌, arith}
 use Rattle.fx_algebra.specs.Groups.{is_down}
-use Rattle.fx_engine.specs.Noted.{AgreesOn, RiseWithin, places}
-use Rattle.fx_engine.specs.declared.mediator.Down.{Down}
+use Rattle.fx_services.specs.Noted.{AgreesOn, RiseWithin, places}
+use Rattle.fx_services.specs.declared.noted.Down.{Down}
 
 -- ---- numbers that rise
 

@@ -6,12 +6,12 @@ use Rattle.fx_algebra.specs.Groups.{is_down, one_empty}
 use Rattle.fx_algebra.specs.Solutions.{Bindings}
 use Rattle.fx_algebra.specs.declared.queries.Group.{Group}
 use Rattle.fx_wire.specs.Exchanges.{Seen}
-use Rattle.fx_engine.specs.ServicesAsked.{ServiceAsked}
-use Rattle.fx_engine.specs.declared.mediator.Down.{Down}
-use Rattle.fx_engine.specs.declared.mediator.DownCause.{DownCause}
-use Rattle.fx_engine.specs.declared.mediator.DownCause.TheVariants as cause
-use Rattle.fx_engine.specs.declared.services.ServiceError.{ServiceError}
-use Rattle.fx_engine.specs.declared.services.ServiceError.TheVariants as error
+use Rattle.fx_services.specs.ServicesAsked.{ServiceAsked}
+use Rattle.fx_services.specs.declared.noted.Down.{Down}
+use Rattle.fx_services.specs.declared.noted.DownCause.{DownCause}
+use Rattle.fx_services.specs.declared.noted.DownCause.TheVariants as cause
+use Rattle.fx_services.specs.declared.services.ServiceError.{ServiceError}
+use Rattle.fx_services.specs.declared.services.ServiceError.TheVariants as error
 
 -- why an occurrence is down that has no rows for a reason; want of memory is none
 abbrev pub cause_of : ServiceError → Option DownCause

@@ -4,7 +4,7 @@ ghost use Rattle.fx_algebra.specs.Printed as printed;
 ghost use Rattle.fx_algebra.specs.Scopes as scopes;
 ghost use Rattle.fx_algebra.specs.declared.queries.Form.TheVariants as form;
 ghost use Rattle.fx_traffic.specs.Traffic as traffic;
-ghost use Rattle.fx_engine.specs.ServicesAsked as spec;
+ghost use Rattle.fx_services.specs.ServicesAsked as spec;
 
 use fx_algebra::{Group, Solution, scope};
 use fx_pool::{BadReply, Job, JobReply, RequestText, Work, run_jobs};
@@ -19,7 +19,7 @@ use std::thread::Threads;
 
 /// Why an occurrence of SERVICE has no rows. An endpoint stands under its number in the registry.
 #[derive(Drop)]
-pub(crate) enum ServiceError {
+pub enum ServiceError {
     /// No endpoint of the registry has its IRI as its address.
     Unknown,
     /// The exchange failed, and was counted as a fault at the address.
@@ -36,7 +36,7 @@ pub(crate) enum ServiceError {
 ///
 /// The text of its group, a SELECT with the group's scope as its columns, is sent once to the endpoint of the registry whose address is the IRI, character
 /// by character. It is sent nowhere else, and nothing is sent where the registry has no such endpoint or the text is longer than 67,108,864 bytes.
-pub(crate) fn ask_service<R: Threads + Wait + Sync, W: Wire + Send>(
+pub fn ask_service<R: Threads + Wait + Sync, W: Wire + Send>(
     rt: &R,
     alloc: Global,
     iri: &Iri,

@@ -28,13 +28,11 @@ use Rattle.fx_pool.specs.declared.jobs.JobReply.TheVariants as reply
 use Rattle.fx_pool.specs.declared.jobs.Work.{Work}
 use Rattle.fx_pool.proofs.AskJobLemmas.{one_at_most}
 use Rattle.fx_pool.proofs.MoveLemmas.{only_itself}
-use Rattle.fx_engine.specs.ServicesAsked.{AreRowsOf, AreRowsOver, AskedAt, HasFailed, IsBadService, HasServiceCause, IsForService, IsOneForService, IsRowsOf, IsServable, IsToldBy, ServiceAsked, job_of, service_text}
-use Rattle.fx_engine.specs.declared.services.ServiceError.{ServiceError}
-use Rattle.fx_engine.specs.declared.services.ServiceError.TheVariants as error
-use Rattle.fx_engine.proofs.AskedLemmas.{went_nowhere}
-use Rattle.fx_engine.proofs.ChoiceLemmas.{found_here}
-use Rattle.fx_engine.proofs.ProbeLemmas.{long_or_short}
-use Rattle.fx_engine.proofs.ServiceRowLemmas.{honest_faultless, honest_table, long_service}
+use Rattle.fx_services.specs.ServicesAsked.{AreRowsOf, AreRowsOver, AskedAt, HasFailed, IsBadService, HasServiceCause, IsForService, IsOneForService, IsRowsOf, IsServable, IsToldBy, ServiceAsked, job_of, service_text}
+use Rattle.fx_services.specs.declared.services.ServiceError.{ServiceError}
+use Rattle.fx_services.specs.declared.services.ServiceError.TheVariants as error
+use Rattle.fx_services.proofs.ServiceRowLemmas.{honest_faultless, honest_table, long_service}
+use Rattle.fx_services.proofs.WentLemmas.{found_here, long_or_short, went_nowhere}
 
 -- ---- the job
 

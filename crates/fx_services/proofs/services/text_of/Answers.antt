@@ -5,7 +5,7 @@ use Rattle.fx_algebra.specs.Scopes.{scope}
 use Rattle.fx_algebra.specs.declared.queries.Form.TheVariants.{Select}
 use Rattle.fx_algebra.specs.declared.queries.Group.{Group}
 use Rattle.fx_traffic.specs.Traffic.{service_query}
-use Rattle.fx_engine.proofs.services.text_of.Goals as goal
+use Rattle.fx_services.proofs.services.text_of.Goals as goal
 
 words_are : (g : Group) → query_words (service_query g) ≡ form_words (Select false (scope g)) ++ group_words g
 unfolding query_words order_words

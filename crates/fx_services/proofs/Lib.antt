@@ -1,0 +1,6 @@
+pub mod FreeLemmas
+pub mod WithinLemmas
+pub mod WentLemmas
+pub mod ServiceRowLemmas
+pub mod ServiceLemmas
+pub mod NotedLemmas

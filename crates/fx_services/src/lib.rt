@@ -1,0 +1,16 @@
+//! Occurrences of SERVICE, plain and silent: what is asked for, over which wires, and what comes of it.
+#![tactic(auto)]
+
+pub mod noted;
+pub mod services;
+
+use fx_terms::shareable;
+pub use noted::{Down, DownCause, rows_or_down};
+pub use services::ServiceError;
+
+/// Every type of this crate may be shared between threads and sent to them.
+pub fn all_shareable() {
+    shareable::<Down>();
+    shareable::<DownCause>();
+    shareable::<ServiceError>();
+}
