@@ -1,6 +1,6 @@
 //! What the calls of each table give.
 
-use crate::{commands, devices, runs, served};
+use crate::{counting, devices, runs, served};
 use fx_bound_cases::batches;
 use fx_mediator_cases::{engine, mediations};
 use fx_plan_cases::{plans, registries, sources};
@@ -26,7 +26,7 @@ pub fn answer<R: Threads + Wait + Sync>(
         "jobs" => jobs::answer(rt, alloc, call, inputs),
         "engine" => engine::answer(rt, alloc, call, inputs),
         "mediations" => mediations::answer(rt, alloc, call, inputs),
-        "commands" => commands::answer(rt, alloc, call, inputs),
+        "commands" => counting::answer(rt, alloc, call, inputs),
         "served" => served::answer(rt, alloc, call, inputs),
         "devices" => devices::answer(rt, alloc, call, inputs),
         "runs" | "hostile" | "drawn" => runs::answer(rt, alloc, call, inputs),

@@ -1,22 +1,35 @@
-//! The call `count_rows` of `fx_commands`, over graphs in memory.
+//! The calls of command lines: `count_rows` of `fx_commands`, over graphs in memory, and those of `fx_command_cases`.
 //!
 //! A graph is a field `address=triples`. The exchanges that are to fail are named by their numbers on the wire.
 ghost use Rattle.std.specs.Prelude.{◌<◌, ◌≤◌, length};
 
-use crate::runs::{graphs, sink_of};
+use fx_command_cases::commands;
+use fx_command_cases::streams::sink_of;
+use fx_command_cases::wires::wire;
 use fx_commands::count_rows;
 use fx_commands::refusals::write_fed_error;
 use fx_engine::FedError;
-use fx_member::{FaultWire, GraphWire};
-use fx_notation::fields::numbers;
 use fx_wire::Wire;
 use std::alloc::Global;
 use std::str::from_utf8;
 use std::sync::Wait;
 use std::thread::Threads;
 
-/// How many rows there are over one wire, or the line of the refusal.
-pub fn counted<R: Threads + Wait + Sync>(
+/// What a call gives.
+pub fn answer<R: Threads + Wait + Sync>(
+    rt: &R,
+    alloc: Global,
+    call: &str,
+    inputs: &[&str],
+) -> Option<String> {
+    match (call, inputs) {
+        ("count_rows", [failing, fields @ ..]) => counted(rt, alloc, failing, fields),
+        _ => commands::answer(alloc, call, inputs),
+    }
+}
+
+// How many rows there are over one wire, or the line of the refusal.
+fn counted<R: Threads + Wait + Sync>(
     rt: &R,
     alloc: Global,
     failing: &str,
@@ -24,12 +37,6 @@ pub fn counted<R: Threads + Wait + Sync>(
 ) -> Option<String> {
     let mut wires = [wire(alloc, failing, fields)?];
     count(rt, alloc, &mut wires)
-}
-
-fn wire(alloc: Global, failing: &str, fields: &[&str]) -> Option<FaultWire> {
-    let wire = GraphWire::new(alloc, graphs(alloc, fields)?).ok()?;
-    let fails = numbers(alloc, failing)?;
-    FaultWire::new(alloc, wire, fails, Vec::new(alloc)).ok()
 }
 
 fn count<R: Threads + Wait + Sync, W: Wire + Send>(

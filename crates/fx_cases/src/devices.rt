@@ -4,9 +4,10 @@
 ghost use Rattle.std.specs.Prelude.{◌<◌, length};
 
 use crate::runs;
-use crate::runs::{STEP, graphs, over_wires};
-use crate::watched::WatchedWire;
-use fx_member::{FaultWire, GraphWire};
+use crate::runs::{STEP, over_wires};
+use fx_command_cases::ends::{end_text, failed_at};
+use fx_command_cases::watched::WatchedWire;
+use fx_command_cases::wires::watched_wires;
 use fx_notation::fields;
 use std::alloc::Global;
 use std::sync::Wait;
@@ -113,50 +114,4 @@ fn end_over<R: Threads + Wait + Sync>(
     let given = over_wires(rt, alloc, words, "", STEP, fields, wires)?;
     let failed = failed_at(alloc, wires)?;
     end_text(alloc, given.as_str(), whole, failed.as_str())
-}
-
-// `whole` where all is given and no exchange failed; the name of an endpoint where one exchange failed, which was with it, and the run says this and nothing
-// else; else what is given, and where exchanges failed.
-fn end_text(alloc: Global, given: &str, whole: &str, failed: &str) -> Option<String> {
-    if failed.is_empty() && given == whole {
-        return String::from_str(alloc, "whole").ok();
-    }
-    let named = format!(in alloc; "status 5 | err member {failed} failed\n").ok()?;
-    if !failed.is_empty() && given == named.as_str() {
-        String::from_str(alloc, failed).ok()
-    } else {
-        format!(in alloc; "gives {given}, where failed: {failed}").ok()
-    }
-}
-
-// The names of the endpoints of all exchanges that failed, with blanks between.
-fn failed_at(alloc: Global, wires: &[WatchedWire]) -> Option<String> {
-    let mut text = String::new(alloc);
-    for wire in wires {
-        for name in wire.failed() {
-            fields::add_behind(&mut text, " ", name.as_str())?;
-        }
-    }
-    Some(text)
-}
-
-// So many wires, one at least, of which the first fails at its exchange of this number; at none where it is 0.
-fn watched_wires(
-    alloc: Global,
-    count: u64,
-    number: u64,
-    fields: &[&str],
-) -> Option<Vec<WatchedWire>> {
-    let mut wires = vec![in alloc; watched_wire(alloc, number, fields)?].ok()?;
-    for _ in 1..count {
-        wires.push(watched_wire(alloc, 0, fields)?).ok()?;
-    }
-    Some(wires)
-}
-
-fn watched_wire(alloc: Global, number: u64, fields: &[&str]) -> Option<WatchedWire> {
-    let fails = vec![in alloc; number].ok()?;
-    let graphs = GraphWire::new(alloc, graphs(alloc, fields)?).ok()?;
-    let wire = FaultWire::new(alloc, graphs, fails, Vec::new(alloc)).ok()?;
-    Some(WatchedWire::new(alloc, wire))
 }

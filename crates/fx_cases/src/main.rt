@@ -5,13 +5,11 @@
 #![tactic(auto)]
 
 mod cases;
-mod commands;
 mod counting;
 mod devices;
 mod runs;
 mod served;
 mod tables;
-mod watched;
 
 use std::process::ExitCode;
 use std::{fs, io};

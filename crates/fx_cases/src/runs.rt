@@ -1,28 +1,23 @@
 //! Calls of `fx_program::run` over files, streams and wires in memory.
 //!
-//! Words have a blank between, and an empty one is written `''`. A file is a field `name=content`; a field whose name begins with
-//! `http://` is a reply of the member with this address, or, over graphs, its graph. Calls that are to fail have a blank between: each
-//! is `out`, `err`, a file's name or a member's address, a `=`, and the number of the write, the reading or the exchange. Where the log of
-//! the wire is told, it has the port and the text of each exchange that was answered.
+//! Words, files, streams and wires are as `fx_command_cases` makes them of fields. Where the log of the wire is told, it has the port and
+//! the text of each exchange that was answered.
 ghost use Rattle.std.specs.Prelude.{◌<◌, length};
 
-use fx_local::Status;
-use fx_member::{FaultWire, GraphWire};
-use fx_notation::{escapes, fields};
-use fx_ntriples::read_graph;
+use fx_command_cases::commands::words_of;
+use fx_command_cases::doors::closed_door;
+use fx_command_cases::ends::{cut_short, ran_text};
+use fx_command_cases::files::{contents, files_of, long_contents, with_blanks};
+use fx_command_cases::streams::sink_of;
+use fx_command_cases::wires::{fault_wire, graphs, push_log, replies};
+use fx_member::GraphWire;
 use fx_outside::{MemoryDoor, MemoryFiles, MemorySink};
 use fx_program::run;
-use fx_terms::{Graph, Iri};
-use fx_wire::script_wires::Answered;
+use fx_terms::Iri;
 use fx_wire::{ScriptWire, Wire};
 use std::alloc::Global;
-use std::fmt::Write;
-use std::str::from_utf8;
 use std::sync::Wait;
 use std::thread::Threads;
-
-// How many bytes a stream takes.
-const ROOM: u64 = 65536;
 
 /// How many bytes one write of a stream takes, where no other number is given.
 pub const STEP: u64 = 4096;
@@ -135,12 +130,6 @@ fn over_graphs<R: Threads + Wait + Sync>(
     over_wires(rt, alloc, words, failing, step, fields, &mut wires)
 }
 
-fn fault_wire(alloc: Global, failing: &str, fields: &[&str]) -> Option<FaultWire> {
-    let fails_at = exchanges(alloc, failing)?;
-    let graphs = GraphWire::new(alloc, graphs(alloc, fields)?).ok()?;
-    FaultWire::new(alloc, graphs, Vec::new(alloc), fails_at).ok()
-}
-
 // The same over so many wires, each over all members.
 fn over_graphs_by_wires<R: Threads + Wait + Sync>(
     rt: &R,
@@ -182,17 +171,6 @@ fn over_replies_with_log<R: Threads + Wait + Sync>(
     let mut text = over_wires(rt, alloc, words, "", STEP, fields, &mut wires)?;
     push_log(&mut text, wires[0].log())?;
     Some(text)
-}
-
-// The port and the text of each exchange.
-fn push_log(text: &mut String, log: &[Answered]) -> Option<()> {
-    text.push_str(" | log").ok()?;
-    for exchange in log {
-        let port = exchange.at.port();
-        let body = fields::body(exchange.request.as_slice())?;
-        write!(text, " {port} {body};").ok()?;
-    }
-    Some(())
 }
 
 /// What a run gives over files and wires, with writes to the streams of so many bytes.
@@ -260,45 +238,6 @@ fn by_replies<R: Threads + Wait + Sync>(
     ran(rt, alloc, words, failing, step, files, &mut wires)
 }
 
-fn long_contents(alloc: Global, count: &str, fields: &[&str]) -> Option<Vec<(String, Vec<u8>)>> {
-    let mut contents = Vec::new(alloc);
-    for field in fields {
-        let (name, content) = field.split_once('=')?;
-        if !is_address(name) {
-            let content = lengthened(alloc, content, count)?;
-            contents
-                .push((String::from_str(alloc, name).ok()?, content))
-                .ok()?;
-        }
-    }
-    Some(contents)
-}
-
-fn lengthened(alloc: Global, content: &str, count: &str) -> Option<Vec<u8>> {
-    let Some((front, back)) = content.split_once("{long}") else {
-        return escapes::bytes(alloc, content);
-    };
-    let mut bytes = escapes::bytes(alloc, front)?;
-    let mut letters = vec![in alloc; b'a'; count.parse::<usize>().ok()?].ok()?;
-    let mut rest = escapes::bytes(alloc, back)?;
-    bytes.append(&mut letters).ok()?;
-    bytes.append(&mut rest).ok()?;
-    Some(bytes)
-}
-
-fn with_blanks(
-    alloc: Global,
-    name: &str,
-    count: &str,
-    fields: &[&str],
-) -> Option<Vec<(String, Vec<u8>)>> {
-    let mut contents = contents(alloc, fields)?;
-    let name = String::from_str(alloc, name).ok()?;
-    let blanks = vec![in alloc; b' '; count.parse::<usize>().ok()?].ok()?;
-    contents.push((name, blanks)).ok()?;
-    Some(contents)
-}
-
 // What a run gives, where each run of which one write fails, up to so many, has a fault and a front of its document; else what the
 // first one of another kind gives.
 fn with_each_write_failing<R: Threads + Wait + Sync>(
@@ -350,16 +289,6 @@ fn with_write_failing<R: Threads + Wait + Sync>(
 ) -> Option<String> {
     let failing = format!(in alloc; "out={number}").ok()?;
     over_replies(rt, alloc, words, failing.as_str(), step, fields)
-}
-
-// What a run gives whose document ends behind so many bytes.
-fn cut_short(alloc: Global, whole: &str, written: u64) -> Option<String> {
-    let document = whole.strip_prefix("status 0 | out ")?;
-    if written >= document.len() as u64 {
-        return String::from_str(alloc, whole).ok();
-    }
-    let front = document.get(..written as usize)?;
-    ran_text(alloc, &Status::WriteFault, front.as_bytes(), b"")
 }
 
 // Runs words, with writes to the streams of so many bytes, and with nobody at the door.
@@ -425,143 +354,4 @@ fn ran_into<R: Threads + Wait + Sync, W: Wire + Send>(
 {
     let status = run(rt, alloc, words, files, wires, door, out, err);
     ran_text(alloc, &status, out.bytes(), err.bytes())
-}
-
-// The exit status of a run, and what stands on the streams where anything does.
-fn ran_text(alloc: Global, status: &Status, out: &[u8], err: &[u8]) -> Option<String> {
-    let code = status.code();
-    let mut text = format!(in alloc; "status {code}").ok()?;
-    push_stream(&mut text, " | out ", out)?;
-    push_stream(&mut text, " | err ", err)?;
-    Some(text)
-}
-
-fn push_stream(text: &mut String, name: &str, bytes: &[u8]) -> Option<()> {
-    if !bytes.is_empty() {
-        text.push_str(name).ok()?;
-        text.push_str(from_utf8(bytes).ok()?).ok()?;
-    }
-    Some(())
-}
-
-/// A stream in memory, by the calls that are to fail and its name among them.
-pub fn sink_of(alloc: Global, failing: &str, name: &str, step: u64) -> Option<MemorySink> {
-    if step == 0 {
-        return None;
-    }
-    MemorySink::new(alloc, ROOM, step, numbers_of(alloc, failing, name)?).ok()
-}
-
-// A door at which nobody comes in.
-fn closed_door(alloc: Global) -> Option<MemoryDoor> {
-    MemoryDoor::new(
-        alloc,
-        Vec::new(alloc),
-        0,
-        1,
-        Vec::new(alloc),
-        Vec::new(alloc),
-        Vec::new(alloc),
-    )
-    .ok()
-}
-
-/// The words of a field.
-pub fn words_of(alloc: Global, field: &str) -> Option<Vec<String>> {
-    let mut words = Vec::new(alloc);
-    for word in field.split_whitespace() {
-        let word = if word == "''" { "" } else { word };
-        words.push(String::from_str(alloc, word).ok()?).ok()?;
-    }
-    Some(words)
-}
-
-/// Files in memory, by their contents and the calls that are to fail.
-pub fn files_of(
-    alloc: Global,
-    failing: &str,
-    contents: Vec<(String, Vec<u8>)>,
-) -> Option<MemoryFiles> {
-    let mut fails = Vec::new(alloc);
-    for call in failing.split_whitespace() {
-        let (name, number) = call.split_once('=')?;
-        let name = String::from_str(alloc, name).ok()?;
-        fails.push((name, number.parse::<u64>().ok()?)).ok()?;
-    }
-    MemoryFiles::new(alloc, contents, fails).ok()
-}
-
-/// The names and contents of files.
-pub fn contents(alloc: Global, fields: &[&str]) -> Option<Vec<(String, Vec<u8>)>> {
-    let mut contents = Vec::new(alloc);
-    for field in fields {
-        let (name, content) = field.split_once('=')?;
-        if !is_address(name) {
-            let name = String::from_str(alloc, name).ok()?;
-            contents.push((name, escapes::bytes(alloc, content)?)).ok()?;
-        }
-    }
-    Some(contents)
-}
-
-// The replies of fields, where `{long}` stands once at most in each, for so many letters.
-fn replies(alloc: Global, fields: &[&str], count: &str) -> Option<Vec<(Iri, Vec<u8>)>> {
-    let mut replies = Vec::new(alloc);
-    for field in fields {
-        let (name, content) = field.split_once('=')?;
-        if is_address(name) {
-            let address = Iri::read(alloc, name).ok()?;
-            replies
-                .push((address, lengthened(alloc, content, count)?))
-                .ok()?;
-        }
-    }
-    Some(replies)
-}
-
-/// The graphs of fields, each at the address that is the field's name.
-pub fn graphs(alloc: Global, fields: &[&str]) -> Option<Vec<(Iri, Graph)>> {
-    let mut graphs = Vec::new(alloc);
-    for field in fields {
-        let (name, content) = field.split_once('=')?;
-        if is_address(name) {
-            let address = Iri::read(alloc, name).ok()?;
-            graphs.push((address, graph(alloc, content)?)).ok()?;
-        }
-    }
-    Some(graphs)
-}
-
-fn graph(alloc: Global, content: &str) -> Option<Graph> {
-    let bytes = escapes::bytes(alloc, content)?;
-    read_graph(alloc, bytes.as_slice()).ok()
-}
-
-// The exchanges that are to fail, by address and number.
-fn exchanges(alloc: Global, failing: &str) -> Option<Vec<(Iri, u64)>> {
-    let mut exchanges = Vec::new(alloc);
-    for call in failing.split_whitespace() {
-        let (name, number) = call.split_once('=')?;
-        if is_address(name) {
-            let address = Iri::read(alloc, name).ok()?;
-            exchanges.push((address, number.parse::<u64>().ok()?)).ok()?;
-        }
-    }
-    Some(exchanges)
-}
-
-fn is_address(name: &str) -> bool {
-    name.starts_with("http://")
-}
-
-/// The numbers of the calls of this name that are to fail.
-pub fn numbers_of(alloc: Global, failing: &str, name: &str) -> Option<Vec<u64>> {
-    let mut numbers = Vec::new(alloc);
-    for call in failing.split_whitespace() {
-        let (of, number) = call.split_once('=')?;
-        if of == name {
-            numbers.push(number.parse::<u64>().ok()?).ok()?;
-        }
-    }
-    Some(numbers)
 }

@@ -1,10 +1,12 @@
 //! Calls of `fx_program::run` that serve a graph at a door in memory.
 //!
-//! Calls that are to fail have a blank between: `call=3` is the third call of the door, `read.1=2` the second read of the first
-//! connection, `write.1=2` such a write, and `err=1` a write to standard error.
+//! Calls that are to fail are those of the door, and of `err`.
 
-use crate::runs::{contents, files_of, numbers_of, ran_at, words_of};
-use fx_notation::escapes;
+use crate::runs::ran_at;
+use fx_command_cases::commands::words_of;
+use fx_command_cases::doors::door_of;
+use fx_command_cases::ends::both_texts;
+use fx_command_cases::files::{contents, files_of};
 use fx_outside::MemoryDoor;
 use fx_wire::ScriptWire;
 use std::alloc::Global;
@@ -43,14 +45,6 @@ fn served<R: Threads + Wait + Sync>(
     }
     let cut = served_by(rt, alloc, words, file, failing, inputs, 1)?;
     both_texts(alloc, whole, cut.as_str())
-}
-
-fn both_texts(alloc: Global, whole: String, cut: &str) -> Option<String> {
-    if cut == whole.as_str() {
-        Some(whole)
-    } else {
-        format!(in alloc; "{whole} and byte by byte {cut}").ok()
-    }
 }
 
 fn served_by<R: Threads + Wait + Sync>(
@@ -96,42 +90,4 @@ fn ran_by<R: Threads + Wait + Sync>(
     ran_at(
         rt, alloc, words, failing, 4096, &mut files, &mut wires, door,
     )
-}
-
-fn door_of(alloc: Global, failing: &str, inputs: &[&str], step: u64) -> Option<MemoryDoor> {
-    if step == 0 {
-        return None;
-    }
-    MemoryDoor::new(
-        alloc,
-        bytes_of(alloc, inputs)?,
-        4096,
-        step,
-        numbers_of(alloc, failing, "call")?,
-        pairs_of(alloc, failing, "read.")?,
-        pairs_of(alloc, failing, "write.")?,
-    )
-    .ok()
-}
-
-fn bytes_of(alloc: Global, inputs: &[&str]) -> Option<Vec<Vec<u8>>> {
-    let mut all = Vec::new(alloc);
-    for input in inputs {
-        all.push(escapes::bytes(alloc, input)?).ok()?;
-    }
-    Some(all)
-}
-
-// The connections and the numbers of their calls that are to fail.
-fn pairs_of(alloc: Global, failing: &str, kind: &str) -> Option<Vec<(u64, u64)>> {
-    let mut pairs = Vec::new(alloc);
-    for call in failing.split_whitespace() {
-        if let Some(rest) = call.strip_prefix(kind) {
-            let (connection, number) = rest.split_once('=')?;
-            pairs
-                .push((connection.parse::<u64>().ok()?, number.parse::<u64>().ok()?))
-                .ok()?;
-        }
-    }
-    Some(pairs)
 }

@@ -1,24 +1,17 @@
-//! The calls of `fx_words` and `fx_commands` that read command lines, count rows and write lines.
+//! The words of a command line, and the calls of `fx_words` and `fx_local` that read them and write lines.
+//!
+//! Words have a blank between, and an empty one is written `''`.
 
-use crate::counting::counted;
-use crate::runs::{sink_of, words_of};
+use crate::streams::sink_of;
 use fx_local::reports::write_no_memory;
 use fx_words::{Command, CommandError, read_command};
 use std::alloc::Global;
 use std::str::from_utf8;
-use std::sync::Wait;
-use std::thread::Threads;
 
 /// What a call gives.
-pub fn answer<R: Threads + Wait + Sync>(
-    rt: &R,
-    alloc: Global,
-    call: &str,
-    inputs: &[&str],
-) -> Option<String> {
+pub fn answer(alloc: Global, call: &str, inputs: &[&str]) -> Option<String> {
     match (call, inputs) {
         ("read_command", [words]) => command(alloc, words),
-        ("count_rows", [failing, fields @ ..]) => counted(rt, alloc, failing, fields),
         ("write_no_memory", []) => no_memory(alloc),
         _ => None,
     }
@@ -62,4 +55,14 @@ fn no_memory(alloc: Global) -> Option<String> {
     let mut err = sink_of(alloc, "", "err", 4096)?;
     write_no_memory(&mut err);
     String::from_str(alloc, from_utf8(err.bytes()).ok()?).ok()
+}
+
+/// The words of a field.
+pub fn words_of(alloc: Global, field: &str) -> Option<Vec<String>> {
+    let mut words = Vec::new(alloc);
+    for word in field.split_whitespace() {
+        let word = if word == "''" { "" } else { word };
+        words.push(String::from_str(alloc, word).ok()?).ok()?;
+    }
+    Some(words)
 }
