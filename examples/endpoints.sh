@@ -1,0 +1,42 @@
+#!/bin/sh
+# Asks two endpoints made with rdflib, where that is installed, in place of the two members of registry.txt, and compares each answer with what
+# the members give. Ends with 1 where one differs.
+set -u
+here=$(cd "$(dirname "$0")" && pwd)
+fedx=$here/../fedx
+failed=0
+
+python3 -c "import rdflib" 2>/dev/null || { echo "rdflib as an endpoint: not here"; exit 0; }
+
+room=$(mktemp -d)
+lab='' library=''
+trap 'kill $lab $library 2>/dev/null; rm -r "$room"' EXIT
+
+for query in across guests plan salts service; do
+    "$here/members.sh" -- "$fedx" query "$here/registry.txt" "$here/$query.rq" >"$room/$query" 2>&1
+done
+
+python3 "$here/rdflib_endpoint.py" "$here/lab.nt" 8001 &
+lab=$!
+python3 "$here/rdflib_endpoint.py" "$here/library.nt" 8002 &
+library=$!
+
+# An endpoint that isn't ready yet refuses connections.
+tries=0
+until "$fedx" query "$here/registry.txt" "$here/across.rq" >/dev/null 2>&1; do
+    tries=$((tries + 1))
+    [ $tries -lt 100 ] || { echo "endpoints.sh: no endpoints at 127.0.0.1:8001 and 127.0.0.1:8002" >&2; exit 1; }
+    sleep 0.1
+done
+kill -0 $lab && kill -0 $library || { echo "endpoints.sh: the ports 8001 and 8002 aren't free" >&2; exit 1; }
+
+for query in across guests plan salts service; do
+    if "$fedx" query "$here/registry.txt" "$here/$query.rq" 2>&1 | cmp -s - "$room/$query"; then
+        echo "rdflib as an endpoint, $query.rq: as members answer"
+    else
+        echo "rdflib as an endpoint, $query.rq: not as members answer"
+        failed=1
+    fi
+done
+
+exit $failed
