@@ -1,5 +1,5 @@
 //! The scope of a group.
-ghost use Rattle.std.specs.Prelude.{◌≡◌, ◌++◌, fold, map, IfOk, OnOk};
+ghost use Rattle.std.specs.Prelude.{◌≡◌, ◌++◌, map, IfOk, OnOk};
 ghost use Rattle.fx_algebra.specs.Scopes as spec;
 
 use crate::queries::{Element, Group};

@@ -1,6 +1,5 @@
 //! Solutions.
 ghost use Rattle.std.specs.Prelude.{◌≡◌, ◌≤◌, length, filter, [], IfOk, OnOk, None, IsTrue, true};
-ghost use Rattle.std.specs.List.{list_all};
 ghost use Rattle.std.specs.Option.{option_copied};
 ghost use Rattle.fx_algebra.specs.Scopes.{is_among as is_among_names};
 ghost use Rattle.fx_algebra.specs.Sequences.{projected};

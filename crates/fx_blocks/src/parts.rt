@@ -1,5 +1,4 @@
 //! Blocks of VALUES where they stand in a group or behind a query.
-ghost use Rattle.std.specs.Prelude.{◌≡◌};
 ghost use Rattle.fx_grammar.specs.Rule as rule;
 ghost use Rattle.fx_grammar.specs.Grammar as grammar;
 ghost use Rattle.fx_readers.specs.Gives.{Gives};

@@ -1,6 +1,6 @@
 //! The calls of `fx_bound`. A run is its triple patterns and filters as they stand in a group; rows, and answers that are tables, stand
 //! as behind VALUES. The rows come under the numbers 10, 11 and so on.
-ghost use Rattle.std.specs.Prelude.{◌≡◌, ◌<◌, ◌≤◌, All, Contains, IfSome, length};
+ghost use Rattle.std.specs.Prelude.{◌<◌, All, Contains, IfSome};
 ghost use Rattle.fx_spelling.specs.Units.{IsFit};
 ghost use Rattle.fx_bound.specs.Answers.{numbers};
 

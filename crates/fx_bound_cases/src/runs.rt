@@ -1,5 +1,5 @@
 //! Units as they come of queries: those of a group that holds triple patterns and filters alone.
-ghost use Rattle.std.specs.Prelude.{◌≡◌, ◌<◌, ◌++◌, All, IfSome, List, ℕ, OnSome, length, map};
+ghost use Rattle.std.specs.Prelude.{◌≡◌, ◌<◌, ◌++◌, All, IfSome, List, ℕ, OnSome, map};
 ghost use Rattle.std.specs.List.{flat_map, list_all};
 ghost use Rattle.fx_algebra.specs.Groups.{keeps_run};
 ghost use Rattle.fx_grammar.specs.Accepted.{Accepted};

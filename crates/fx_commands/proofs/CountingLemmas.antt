@@ -29,7 +29,7 @@ use Rattle.fx_algebra.specs.declared.queries.Element.TheVariants as element
 use Rattle.fx_algebra.specs.declared.queries.Form.TheVariants as form
 use Rattle.fx_algebra.specs.declared.queries.Group.{Group, fold-roll-Group, roll-Group}
 use Rattle.fx_algebra.proofs.CutLemmas.{part_of}
-use Rattle.fx_grammar.specs.Accepted.{Accepted}
+use Rattle.fx_grammar.specs.Accepted.{Accepted, IsSpellable}
 use Rattle.fx_spelling.specs.Printable.{AreFine, Held, IsPrintable, brackets, held, held_element, hold_element, hold_group}
 use Rattle.fx_spelling.proofs.Queries.{printed_is_accepted}
 use Rattle.fx_spelling.proofs.Saying.{fine_both}
@@ -37,7 +37,7 @@ use Rattle.fx_spelling.proofs.Terms.{fine_triple}
 use Rattle.fx_sources.specs.Probes.{Entry}
 use Rattle.fx_traffic.specs.Gains.{TellAll}
 use Rattle.fx_engine.specs.Calls.{AreFirst, Call, Occurrence, down_in, occurrence_in, occurrences}
-use Rattle.fx_engine.specs.Mediation.{Federated, IsSpellable, Serve}
+use Rattle.fx_engine.specs.Mediation.{Federated, Serve}
 use Rattle.fx_services.specs.Noted.{places}
 use Rattle.fx_engine.specs.Unknown.{first_unknown, unknown_of}
 use Rattle.fx_services.specs.declared.noted.Down.{Down}

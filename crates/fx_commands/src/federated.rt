@@ -1,6 +1,6 @@
 //! The command `query`.
 ghost use Rattle.std.specs.Prelude.{◌≡◌, ◌<◌, ◌≤◌, ◌++◌, IfOk, IsTrue, List, OnOk, ℕ, length, map};
-ghost use Rattle.fx_engine.specs.Mediation.{IsSpellable};
+ghost use Rattle.fx_grammar.specs.Accepted.{IsSpellable};
 ghost use Rattle.fx_results.specs.Documents.{document};
 ghost use Rattle.fx_traffic.specs.Gains.{AreAfter};
 ghost use Rattle.fx_commands.specs.Asking.{wires_seen};

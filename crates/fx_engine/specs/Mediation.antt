@@ -12,7 +12,6 @@ use Rattle.fx_algebra.specs.Units.{sources}
 use Rattle.fx_algebra.specs.declared.queries.Query.{Query}
 use Rattle.fx_algebra.specs.declared.units.Row.{Row}
 use Rattle.fx_algebra.specs.declared.units.Unit as unit
-use Rattle.fx_grammar.specs.Accepted.{Accepted}
 use Rattle.fx_plan.specs.Explained.{HasMembers}
 use Rattle.fx_plan.specs.declared.parts.Part.{Part}
 use Rattle.fx_flows.specs.Flows.{IsBadBatch, IsBatchRead, IsLongBatch}
@@ -41,10 +40,6 @@ use Rattle.fx_services.specs.declared.noted.DownCause.TheVariants as cause
 use Rattle.fx_engine.specs.declared.mediator.FedError.{FedError}
 use Rattle.fx_engine.specs.declared.mediator.FedError.TheVariants as fed
 use Rattle.fx_engine.specs.declared.mediator.Outcome.{Outcome}
-
--- some text is accepted as the query
-abbrev pub IsSpellable : Query → Type 0
-IsSpellable q = (text : List ℕ) × Accepted text q
 
 -- ---- causes
 

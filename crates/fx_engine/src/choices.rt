@@ -1,9 +1,9 @@
 //! The parts of a query by what its endpoints answer to ASKs.
-ghost use Rattle.std.specs.Prelude.{◌≡◌, ◌<◌, ◌≤◌, IfOk, length, map};
+ghost use Rattle.std.specs.Prelude.{◌<◌, ◌≤◌, IfOk, length, map};
 ghost use Rattle.fx_sources.specs.Probes.{missing as missing_probes};
 ghost use Rattle.fx_engine.specs.Asks.{AskedAll};
 ghost use Rattle.fx_engine.specs.Choices.{IsChoice, answers_in};
-ghost use Rattle.fx_engine.specs.Mediation.{IsSpellable};
+ghost use Rattle.fx_grammar.specs.Accepted.{IsSpellable};
 
 use crate::asks::ask_all;
 use crate::planning::parts_by;

@@ -1,5 +1,5 @@
 //! The occurrences of SERVICE of a query, each invoked once (SPARQL 1.1 Federated Query, section 2).
-ghost use Rattle.std.specs.Prelude.{◌≡◌, ◌<◌, ◌≤◌, length, map};
+ghost use Rattle.std.specs.Prelude.{◌<◌, ◌≤◌, length, map};
 ghost use Rattle.std.specs.List.{flat_map};
 ghost use Rattle.fx_engine.specs.Invocations as spec;
 ghost use Rattle.fx_services.specs.ServicesAsked.{IsServable};

@@ -1,7 +1,8 @@
 //! The mediator over several wires: the answer of a query over the union of the graphs of a registry's endpoints, and its plan.
-ghost use Rattle.std.specs.Prelude.{◌≡◌, ◌<◌, ◌≤◌, [], None, length, map, string_bytes, IfOk};
+ghost use Rattle.std.specs.Prelude.{◌≡◌, ◌<◌, ◌≤◌, None, length, map, string_bytes, IfOk};
 ghost use Rattle.fx_engine.specs.Unknown.{unknown_of};
-ghost use Rattle.fx_engine.specs.Mediation.{Federated, HasName, IsNamed, IsPlaced, IsSpellable, Planned, parts_in};
+ghost use Rattle.fx_grammar.specs.Accepted.{IsSpellable};
+ghost use Rattle.fx_engine.specs.Mediation.{Federated, HasName, IsNamed, IsPlaced, Planned, parts_in};
 
 use crate::choices::{Choice, choose_parts};
 use crate::outcomes::outcome_by_plan;

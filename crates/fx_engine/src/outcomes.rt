@@ -7,7 +7,7 @@ ghost use Rattle.fx_engine.specs.Asked.{Asked};
 ghost use Rattle.fx_engine.specs.Calls.{occurrences};
 ghost use Rattle.fx_engine.specs.GroupsAsked.{CanBeAsked};
 ghost use Rattle.fx_engine.specs.Invocations.{AreInvoked, IsStopped};
-ghost use Rattle.fx_engine.specs.Mediation.{IsSpellable};
+ghost use Rattle.fx_grammar.specs.Accepted.{IsSpellable};
 ghost use Rattle.fx_engine.specs.Outcomes as spec;
 ghost use Rattle.fx_engine.specs.Tasks.{tasks_with};
 ghost use Rattle.fx_engine.specs.Unknown.{unknown_of};

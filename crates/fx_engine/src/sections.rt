@@ -2,7 +2,7 @@
 ghost use Rattle.std.specs.Prelude.{◌≡◌, ◌++◌, [], IfOk, OnOk, map};
 ghost use Rattle.std.specs.List.{flat_map};
 ghost use Rattle.fx_algebra.specs.BasicGraphPatterns.{variables};
-ghost use Rattle.fx_algebra.specs.Scopes.{once as once_each, part_names, pattern_names};
+ghost use Rattle.fx_algebra.specs.Scopes.{part_names, pattern_names};
 ghost use Rattle.fx_algebra.specs.Groups.{keeps_run as keeps};
 ghost use Rattle.fx_engine.specs.SectionSteps as spec;
 ghost use Rattle.fx_engine.specs.Sections.{sections as sections_of};

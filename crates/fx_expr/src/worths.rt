@@ -1,5 +1,5 @@
 //! What literals are worth.
-ghost use Rattle.std.specs.Prelude.{◌≡◌, ◌||◌, bytes_eq, codes, option_map};
+ghost use Rattle.std.specs.Prelude.{◌≡◌, ◌||◌, bytes_eq, codes};
 ghost use Rattle.fx_terms.specs.Datatypes.{lang_string, xsd_boolean, xsd_string};
 ghost use Rattle.fx_algebra.specs.Worths as spec;
 

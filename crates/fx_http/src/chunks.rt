@@ -1,5 +1,5 @@
 //! Chunked bodies.
-ghost use Rattle.std.specs.Prelude.{◌≡◌, ◌↔◌, ℕ, ◌+◌, ◌∷◌, ◌++◌, List, length, drop, take, IfSome, IfNone, IfOk, IsTrue, ◌≤◌, ◌<◌};
+ghost use Rattle.std.specs.Prelude.{◌≡◌, ◌↔◌, ℕ, ◌+◌, ◌∷◌, ◌++◌, List, length, IfSome, IfNone, IfOk, IsTrue, ◌≤◌, ◌<◌};
 ghost use Rattle.httparse.specs.Grammar.{ReadsChunkLine, ChunkLine, chunk_size, HasNoChunkLine};
 ghost use Rattle.fx_http.specs.Chunks.{Joins, IsTrailer};
 

@@ -1,11 +1,11 @@
 //! Reading from sources.
-ghost use Rattle.std.specs.Prelude.{◌≡◌, ◌≢◌, ◌<◌, ◌≤◌, ◌++◌, ◌⊎◌, [], length, drop, take, IsTrue, IsErr, IfOk, IfErr, OnErr, option_to_list};
+ghost use Rattle.std.specs.Prelude.{◌≡◌, ◌≢◌, ◌<◌, ◌≤◌, ◌++◌, ◌⊎◌, [], drop, take, IsTrue, IsErr, IfOk, IfErr, OnErr, option_to_list};
 ghost use Rattle.fx_outside.specs.Faults.{HasRisen};
 ghost use Rattle.fx_http.specs.Answers.{IsRestWithin};
 
 use crate::read_requests::RequestError;
 use fx_outside::{ReadFailed, Source};
-use std::alloc::{AllocError, Global};
+use std::alloc::Global;
 
 const PIECE: usize = 4096;
 

@@ -1,7 +1,7 @@
 //! Replies of endpoints.
-ghost use Rattle.std.specs.Prelude.{codes, ◌≡◌, ◌≤◌, ◌<◌, ℕ, List, All, Result as Answer, length, drop, take, map, IfSome, IfNone, IfOk, true};
+ghost use Rattle.std.specs.Prelude.{codes, ◌≡◌, ◌<◌, ℕ, List, All, Result as Answer, length, map, IfSome, IfNone, true};
 ghost use Rattle.std.specs.List.{list_all};
-ghost use Rattle.httparse.specs.Grammar.{ResponseHead, ReadsResponse, status_code};
+ghost use Rattle.httparse.specs.Grammar.{ResponseHead, ReadsResponse};
 ghost use Rattle.httparse.specs.Spans.{IsHeaderWithin, header_bytes};
 ghost use Rattle.fx_http.specs.Answers.{Gives, IsOrMemory};
 ghost use Rattle.fx_http.specs.Fields as field;

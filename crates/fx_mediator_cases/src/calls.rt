@@ -1,6 +1,6 @@
 //! The calls of `fx_engine` at a query over members that are named A, B and so on, A at port 8001, B at port 8002. What comes of them is a text.
 ghost use Rattle.std.specs.Prelude.{◌<◌, ◌≤◌, IfSome, length};
-ghost use Rattle.fx_engine.specs.Mediation.{IsSpellable};
+ghost use Rattle.fx_grammar.specs.Accepted.{IsSpellable};
 
 use fx_algebra::Query;
 use fx_engine::{

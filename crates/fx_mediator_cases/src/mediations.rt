@@ -1,7 +1,7 @@
 //! The calls of `fx_engine` over a list of wires. A case has the members' graphs: that of A at port 8001, of B at port 8002, and so on, behind one
 //! wire that answers by the algebra of SPARQL over each.
 ghost use Rattle.std.specs.Prelude.{◌≡◌, ◌<◌, ◌≤◌, IfSome, length};
-ghost use Rattle.fx_engine.specs.Mediation.{IsSpellable};
+ghost use Rattle.fx_grammar.specs.Accepted.{IsSpellable};
 
 use crate::calls;
 use crate::calls::{address, name_of, parsed, port_of, registry_of};

@@ -1,5 +1,5 @@
 //! A line: nothing, or a triple.
-ghost use Rattle.std.specs.Prelude.{◌≡◌, IfOk, ◌+◌, ◌<◌, ◌≤◌, Some, length, take, drop, true, false};
+ghost use Rattle.std.specs.Prelude.{◌≡◌, IfOk, ◌+◌, ◌<◌, ◌≤◌, Some, length, drop, true, false};
 ghost use Rattle.std.specs.Str.{IsCharBoundary, IsUtf8};
 ghost use Rattle.fx_ntriples.specs.Reading as spec;
 ghost use Rattle.fx_ntriples.specs.Answers.{Reads};

@@ -1,5 +1,5 @@
 //! Documents are read.
-ghost use Rattle.std.specs.Prelude.{◌≡◌, ℕ, Err, ◌≤◌, ◌+◌, ◌∷◌, length, take, drop, List, IfOk, MatchResult, Some, None, if◌then◌else◌, IfErr};
+ghost use Rattle.std.specs.Prelude.{◌≡◌, ℕ, Err, ◌≤◌, ◌+◌, length, drop, List, IfOk, MatchResult, Some};
 ghost use Rattle.std.specs.List.{slice_split, position_or_len};
 ghost use Rattle.std.specs.Str.{IsUtf8};
 ghost use Rattle.fx_terms.specs.Utf8.{StopsUtf8};

@@ -1,5 +1,5 @@
 //! The files of the system.
-ghost use Rattle.std.specs.Prelude.{◌≤◌, ◌+◌, ◌≡◌, List, ℕ, IfOk, IsErrOf, length, vec_len};
+ghost use Rattle.std.specs.Prelude.{◌≤◌, ◌+◌, ◌≡◌, List, ℕ, IfOk, IsErrOf, vec_len};
 ghost use Rattle.fx_outside.specs.Faults.{HaveStayed, IsOneMoreAt};
 ghost use Rattle.fx_outside.specs.SystemStorage.{faults_of_folder};
 

@@ -1,5 +1,5 @@
 //! What the calls ask of the endpoints, jobs and units that they are given.
-ghost use Rattle.std.specs.Prelude.{◌≡◌, ◌<◌, All, IsTrue, length, true};
+ghost use Rattle.std.specs.Prelude.{◌≡◌, ◌<◌, All, IsTrue, true};
 ghost use Rattle.fx_outside.specs.Endpoints.{is_sendable};
 
 use fx_algebra::Unit;

@@ -1,5 +1,5 @@
 //! The rows behind the one unit of a run, asked for at port 8001 alone, over a wire that answers by a graph.
-ghost use Rattle.std.specs.Prelude.{◌<◌, ◌≤◌, All, length};
+ghost use Rattle.std.specs.Prelude.{◌<◌, All, length};
 ghost use Rattle.fx_spelling.specs.Units.{IsFit};
 
 use crate::checks::{are_sendable, have_members};

@@ -1,5 +1,5 @@
 //! Expressions are printed.
-ghost use Rattle.std.specs.Prelude.{◌≡◌, ◌++◌, ◌∷◌, [], ℕ, List, OnOk, map, codes, string_bytes};
+ghost use Rattle.std.specs.Prelude.{◌≡◌, ◌++◌, ◌∷◌, OnOk, map, string_bytes};
 ghost use Rattle.fx_algebra.specs.Printed as spec;
 
 use crate::words::{push_fixed, push_term, push_variable};

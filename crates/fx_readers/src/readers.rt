@@ -1,5 +1,5 @@
 //! What stands at the front of the tokens that are left.
-ghost use Rattle.std.specs.Prelude.{◌≡◌, ◌++◌, IfOk, length, None, Some, option_map, string_bytes, true, false, Ok};
+ghost use Rattle.std.specs.Prelude.{◌≡◌, ◌++◌, IfOk, length, None, Some, string_bytes, true, false, Ok};
 ghost use Rattle.std.specs.Str.{bytes_eq};
 ghost use Rattle.fx_terms.specs.Iris.{read_iri};
 ghost use Rattle.fx_terms.specs.Datatypes.{lang_string};

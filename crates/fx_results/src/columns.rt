@@ -3,7 +3,7 @@ ghost use Rattle.std.specs.Prelude.{◌≡◌, ◌++◌, ◌∷◌, [], not, IfO
 ghost use Rattle.std.specs.Option.{option_copied, ok_or};
 ghost use Rattle.serde_json.specs.View.{view, items_view};
 ghost use Rattle.fx_algebra.specs.Scopes.{is_among};
-ghost use Rattle.fx_results.specs.Answers.{AnswersResults, AnswersAs};
+ghost use Rattle.fx_results.specs.Answers.{AnswersResults};
 ghost use Rattle.fx_results.specs.Columns.{IsIndex};
 ghost use Rattle.fx_results.specs.Reading as spec;
 ghost use Rattle.fx_results.specs.declared.faults.ResultsError.TheVariants as error;

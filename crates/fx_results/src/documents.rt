@@ -1,5 +1,5 @@
 //! The document of an answer.
-ghost use Rattle.std.specs.Prelude.{◌≡◌, ◌++◌, All, IfOk, IsTrue, IsUtf8, Ok, OnOk, map, true};
+ghost use Rattle.std.specs.Prelude.{◌≡◌, ◌++◌, All, IfOk, IsUtf8, Ok, OnOk, map, true};
 ghost use Rattle.serde_json.specs.Data.{string};
 ghost use Rattle.fx_terms.specs.Names.{IsName};
 ghost use Rattle.fx_results.specs.Documents as spec;

@@ -1,7 +1,6 @@
 //! DISTINCT.
 ghost use Rattle.std.specs.Prelude.{◌≡◌, fold, IfOk, []};
 ghost use Rattle.std.specs.Cmp.Lexicographic.{slice_cmp};
-ghost use Rattle.std.specs.Option.{option_copied};
 ghost use Rattle.fx_algebra.specs.Sequences.{cells, cell_cmp, with_row};
 ghost use Rattle.fx_algebra.specs.Solutions.{term_of};
 ghost use Rattle.fx_solutions.specs.Ranks.{whole_rows};

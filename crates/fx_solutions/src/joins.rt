@@ -1,11 +1,10 @@
 //! Joins.
-ghost use Rattle.std.specs.Prelude.{◌≡◌, ◌++◌, ◌&&◌, true, filter, is_some, IfOk, IsPermutation, OnOk};
+ghost use Rattle.std.specs.Prelude.{◌≡◌, ◌++◌, ◌&&◌, true, filter, IfOk, IsPermutation, OnOk};
 ghost use Rattle.std.specs.List.{list_all};
 ghost use Rattle.std.specs.List.Sorted.{IsSortedBy};
 ghost use Rattle.std.specs.Ordering.{is_eq, is_le, is_lt};
 ghost use Rattle.fx_algebra.specs.Operators.{join as join_of, merges};
 ghost use Rattle.fx_algebra.specs.Sequences.{row_cmp};
-ghost use Rattle.fx_algebra.specs.Solutions.{term_of};
 ghost use Rattle.fx_solutions.specs.Joins as spec;
 
 use crate::known_rows::known_to_rise;

@@ -1,7 +1,6 @@
 //! Operators that look at one row at a time.
-ghost use Rattle.std.specs.Prelude.{◌≡◌, fold, IfOk, map};
+ghost use Rattle.std.specs.Prelude.{◌≡◌, IfOk};
 ghost use Rattle.std.specs.Option.{option_copied};
-ghost use Rattle.std.specs.List.{zip};
 ghost use Rattle.fx_algebra.specs.Solutions.{with_new as with_new_pair};
 ghost use Rattle.fx_algebra.specs.Operators as spec;
 

@@ -1,7 +1,7 @@
 //! Why a text is no registry.
 
 use fx_terms::Memory;
-use std::alloc::{AllocError, AllocFailed};
+use std::alloc::AllocFailed;
 
 /// Why a text is no registry: the first line that is refused, counted from 1, and the first of these rules that it breaks.
 #[derive(Clone, Copy, Debug, PartialEq, Eq)]

@@ -1,5 +1,5 @@
 //! Queries, and the texts that are queries.
-ghost use Rattle.std.specs.Prelude.{◌≡◌, []};
+ghost use Rattle.std.specs.Prelude.{[]};
 ghost use Rattle.fx_grammar.specs.Rule as rule;
 ghost use Rattle.fx_grammar.specs.Grammar as grammar;
 ghost use Rattle.fx_readers.specs.Gives.{Gives};

@@ -12,7 +12,7 @@ pub mod laws;
 mod parts;
 mod reading;
 
-ghost use Rattle.std.specs.Prelude.{◌≡◌, ◌-◌, ◌≤◌, All, List, Result as Answer, Ok, Err, IfOk, IfErr, MatchResult};
+ghost use Rattle.std.specs.Prelude.{◌≡◌, ◌-◌, All, List, Result as Answer, Ok, Err, IfOk, IfErr, MatchResult};
 ghost use Rattle.std.specs.Str.{chars};
 ghost use Rattle.fx_tokens.specs.Answers.{UnlessMemory, width};
 ghost use Rattle.fx_tokens.specs.Reads.{Reads, IsSlice, RiseFrom};

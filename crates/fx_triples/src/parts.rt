@@ -1,5 +1,4 @@
 //! Triples where they stand in a group.
-ghost use Rattle.std.specs.Prelude.{◌≡◌};
 ghost use Rattle.fx_grammar.specs.Rule as rule;
 ghost use Rattle.fx_grammar.specs.Grammar as grammar;
 ghost use Rattle.fx_readers.specs.Gives.{Gives};

@@ -1,5 +1,5 @@
 //! A wire in memory that answers by a script.
-ghost use Rattle.std.specs.Prelude.{◌≡◌, ◌≢◌, ◌+◌, ◌∷◌, ◌<◌, ◌≤◌, ◌++◌, [], ℕ, List, IfOk, IfSome, IsErrOf, IsOkAnd, IsTrue, MatchResult, OnOk, length, option_copied, position, take, vec_len};
+ghost use Rattle.std.specs.Prelude.{◌≡◌, ◌≢◌, ◌+◌, ◌∷◌, ◌<◌, ◌≤◌, ◌++◌, [], ℕ, List, IfOk, IfSome, IsErrOf, IsOkAnd, MatchResult, OnOk, length, position, vec_len};
 ghost use Rattle.fx_wire.specs.Scripts as spec;
 ghost use Rattle.fx_wire.specs.Exchanges.{exchanged};
 

@@ -1,5 +1,5 @@
 //! What a wire promises.
-ghost use Rattle.std.specs.Prelude.{◌≡◌, ◌≢◌, ◌+◌, ◌≤◌, ◌++◌, [], ◌∷◌, Bool, List, ℕ, IsTrue, IsErrOf, IfOk, IfSome, OnOk, MatchResult, length, vec_len};
+ghost use Rattle.std.specs.Prelude.{◌≡◌, ◌≢◌, ◌+◌, ◌≤◌, ◌++◌, [], ◌∷◌, Bool, List, ℕ, IsTrue, IsErrOf, IfOk, IfSome, MatchResult, length, vec_len};
 ghost use Rattle.fx_terms.specs.Graphs.{IsGraph};
 ghost use Rattle.fx_wire.specs.declared.wires.WireError.TheVariants.{Memory};
 ghost use Rattle.fx_wire.specs.Exchanges.{Seen, exchanged};

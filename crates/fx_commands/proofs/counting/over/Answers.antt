@@ -1,6 +1,6 @@
 use Rattle.std.proofs.Common.{◌∙◌, map, subst, sym}
 use Rattle.fx_algebra.specs.declared.queries.Query.{Query}
-use Rattle.fx_engine.specs.Mediation.{IsSpellable}
+use Rattle.fx_grammar.specs.Accepted.{IsSpellable}
 use Rattle.fx_pool.proofs.WireLemmas.{after_itself}
 use Rattle.fx_commands.specs.Asking.{wires_seen}
 use Rattle.fx_commands.specs.MemberSteps.{IsAnswered}
