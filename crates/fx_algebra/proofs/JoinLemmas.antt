@@ -151,7 +151,7 @@ or_some (Some u) p t e = e
 pub merge_extends_left : (a b : Bindings) → Extends a (merge a b)
 merge_extends_left a b = record { has = λ n t e. find-merge a b n ∙ or_some (term_of a n) (term_of b n) t e }
 
-or_other : (o p : Option Term) (t : Term) → ((u : Term) → o ≡ Some u → u ≡ t) → p ≡ Some t → option_or o p ≡ Some t
+pub or_other : (o p : Option Term) (t : Term) → ((u : Term) → o ≡ Some u → u ≡ t) → p ≡ Some t → option_or o p ≡ Some t
 or_other None p t f e = e
 or_other (Some u) p t f e = ap Some (f u refl)
 
@@ -168,7 +168,7 @@ all_kept : (s r : Bindings) (cs : List (PatternTerm × Term)) → Extends s r �
 all_kept s r [] x h = tt
 all_kept s r (c ∷ cs) x h = (value_kept s r c.0 c.1 x h.0, all_kept s r cs x h.1)
 
-some_or : (o p : Option Term) → is_some (option_or o p) ≡ (is_some o || is_some p)
+pub some_or : (o p : Option Term) → is_some (option_or o p) ≡ (is_some o || is_some p)
 some_or None p = refl
 some_or (Some t) p = refl
 
@@ -262,7 +262,7 @@ join_first graph ps = join_run graph ps ([] ∷ []) (tt, tt) ∙ rows_from-bgp g
 
 -- ---- the join of the same rows
 
-join_weight : (h : Bindings → ℕ) (left right : List Bindings) → sum_by h (join left right) ≡ sum_by (λ a. sum_by (λ b. cond (agree a b) (h (merge a b)) 0) right) left
+pub join_weight : (h : Bindings → ℕ) (left right : List Bindings) → sum_by h (join left right) ≡ sum_by (λ a. sum_by (λ b. cond (agree a b) (h (merge a b)) 0) right) left
 join_weight h left right =
     sum_by-flat_map h (merges right) left
     ∙ sum_by_same (λ a. sum_by h (merges right a)) (λ a. sum_by (λ b. cond (agree a b) (h (merge a b)) 0) right) left

@@ -12,3 +12,5 @@ pub mod PlainLemmas
 pub mod CutLemmas
 pub mod OperatorLemmas
 pub mod MoveLemmas
+pub mod RunLemmas
+pub mod JoinOrderLemmas

@@ -9,6 +9,7 @@ pub mod Keys
 pub mod Measures
 pub mod Occurrences
 pub mod Operators
+pub mod Orders
 pub mod OrderedRows
 pub mod Printed
 pub mod Scopes

@@ -1,6 +1,7 @@
 //! Laws of the definitions, each the contract of a function that does nothing.
 ghost use Rattle.fx_algebra.specs.BasicGraphPatterns.{BgpLaw};
 ghost use Rattle.fx_algebra.specs.Cuts.{CutHasTheNames, MeaningHasTheTree, SeedsForEachStation, StationsAreFixed};
+ghost use Rattle.fx_algebra.specs.Orders.{JoinsInAnyOrder, RunsInAnyOrder};
 ghost use Rattle.fx_algebra.specs.Sequences.{OneSequence};
 
 /// The solutions of a basic graph pattern (SPARQL 1.1 section 18.3.1). Over a graph whose triples rise, each stands once, and
@@ -24,4 +25,16 @@ pub fn one_cut()
     ensures seeds { SeedsForEachStation }
     ensures tree { MeaningHasTheTree }
     ensures names { CutHasTheNames }
+{}
+
+/// A run of triple patterns, from any rows (SPARQL 1.1 section 18.3). Over a graph whose triples rise, the same patterns give the same
+/// rows, in whichever order they are taken.
+pub fn one_run()
+    ensures { RunsInAnyOrder }
+{}
+
+/// Joins (SPARQL 1.1 section 18.5). Rows that are joined with one list and then with another are the same as those joined with the second
+/// first.
+pub fn one_join()
+    ensures { JoinsInAnyOrder }
 {}

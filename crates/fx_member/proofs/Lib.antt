@@ -1,5 +1,7 @@
 pub mod GroupLemmas
 pub mod OptionalLemmas
+pub mod RunLemmas
+pub mod WalkLemmas
 pub mod CountLemmas
 pub mod PlaceLemmas
 pub mod FormLemmas

@@ -23,11 +23,11 @@ use Rattle.fx_member.proofs.GroupLemmas.{AllRise, IsSoFar, after_filter, after_o
 
 -- ---- one pattern more
 
-rows_from_more : (graph : List Triple) (rows : List Bindings) (ps : List Pattern) (p : Pattern) → rows_from graph rows (ps ++ p ∷ []) ≡ extended graph p (rows_from graph rows ps)
+pub rows_from_more : (graph : List Triple) (rows : List Bindings) (ps : List Pattern) (p : Pattern) → rows_from graph rows (ps ++ p ∷ []) ≡ extended graph p (rows_from graph rows ps)
 rows_from_more graph rows [] p = refl
 rows_from_more graph rows (q ∷ ps) p = rows_from_more graph (extended graph q rows) ps p
 
-rising_rows_from : (graph : List Triple) (ps : List Pattern) (rows : List Bindings) → AllRise rows → AllRise (rows_from graph rows ps)
+pub rising_rows_from : (graph : List Triple) (ps : List Pattern) (rows : List Bindings) → AllRise rows → AllRise (rows_from graph rows ps)
 rising_rows_from graph [] rows up = up
 rising_rows_from graph (p ∷ ps) rows up = rising_rows_from graph ps (extended graph p rows) (rising_extended graph p rows up)
 

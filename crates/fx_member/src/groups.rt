@@ -1,10 +1,12 @@
 //! The rows of groups (SPARQL 1.1 sections 18.2.2 and 18.6).
-ghost use Rattle.std.specs.Prelude.{IfOk, OnOk};
+ghost use Rattle.std.specs.Prelude.{IfOk, IsPermutation, OnOk};
+ghost use Rattle.fx_algebra.specs.Operators.{inline_rows as inline_rows_of, join};
 ghost use Rattle.fx_algebra.specs.declared.queries.Element.TheVariants as element;
 ghost use Rattle.fx_member.specs.GroupRows as spec;
 
 use crate::optionals::{run_under, with_matches};
-use fx_algebra::{Element, Expr, Group, Solution};
+use crate::runs::{in_order, with_run};
+use fx_algebra::{Element, Expr, Group, Inline, Solution};
 use fx_solutions::known_rows::known_to_rise;
 use fx_solutions::{extend, filter, inline_rows, join_with, left_join_with, minus_with};
 use fx_store::Store;
@@ -34,10 +36,39 @@ fn unfiltered(alloc: Global, store: &Store, group: &Group) -> Result<Vec<Solutio
 {
     let mut rows = Vec::new(alloc);
     rows.push(Solution::empty(alloc))?;
+    let mut run = Vec::new(alloc);
     for element in group.elements.as_slice() {
         known_to_rise(rows.as_slice());
-        rows = after_element(alloc, store, element, rows)?;
+        match element {
+            Element::Triple(pattern) => run.push(pattern.copy()?)?,
+            Element::Filter(_) => {}
+            Element::Values(inline) => rows = with_values(alloc, inline, rows)?,
+            Element::Union(groups) => {
+                let found = alternatives(alloc, store, groups.as_slice())?;
+                rows = join_with(alloc, rows.as_slice(), found)?;
+            }
+            _ => {
+                let found = with_run(alloc, store, run, rows)?;
+                known_to_rise(found.as_slice());
+                rows = after_element(alloc, store, element, found)?;
+                run = Vec::new(alloc);
+            }
+        }
     }
+    let found = with_run(alloc, store, run, rows)?;
+    Ok(found)
+}
+
+// Rows joined with a table of VALUES.
+fn with_values(
+    alloc: Global,
+    inline: &Inline,
+    before: Vec<Solution>,
+) -> Result<Vec<Solution>, Memory>
+    ensures { IfOk result (λ rows. IsPermutation (join before.items (inline_rows_of inline.now)) rows.items) }
+{
+    let found = inline_rows(alloc, inline)?;
+    let rows = join_with(alloc, before.as_slice(), found)?;
     Ok(rows)
 }
 
@@ -98,13 +129,9 @@ fn after_optional(
     let filters = filters_of(alloc, group)?;
     if let Some(patterns) = run_under(alloc, store, group, before.len())? {
         known_to_rise(before.as_slice());
-        let rows = with_matches(
-            alloc,
-            store,
-            before,
-            patterns.as_slice(),
-            filters.as_slice(),
-        )?;
+        store.known();
+        let ordered = in_order(alloc, store, patterns, before.as_slice())?;
+        let rows = with_matches(alloc, store, before, ordered.as_slice(), filters.as_slice())?;
         return Ok(rows);
     }
     let found = unfiltered(alloc, store, group)?;

@@ -7,6 +7,7 @@ pub mod graph_wires;
 pub mod groups;
 mod optionals;
 mod places;
+mod runs;
 pub mod serving;
 
 pub use answering::{MemberError, answer};

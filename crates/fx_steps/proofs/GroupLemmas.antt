@@ -27,6 +27,7 @@ use Rattle.fx_algebra.proofs.CutLemmas.{part_of}
 use Rattle.fx_algebra.proofs.ForcedLemmas.{Extends}
 use Rattle.fx_algebra.proofs.JoinLemmas.{merge_extends_left, merge_extends_right}
 use Rattle.fx_algebra.proofs.MemberLemmas.{among_cases, among_from_flat_map, among_from_map}
+use Rattle.fx_algebra.proofs.RunLemmas.{among_flat}
 use Rattle.fx_plan.specs.Laws.{IsOwn}
 use Rattle.fx_plan.specs.Plans.{plan}
 use Rattle.fx_plan.proofs.LawLemmas.{filters_are_own, filters_of_run}
@@ -34,7 +35,7 @@ use Rattle.fx_steps.specs.Groups.{IsPushed, PlanComesOut}
 use Rattle.fx_steps.specs.Steps.{unit_filters, unit_patterns}
 use Rattle.fx_steps.proofs.FilterLemmas.{Binds}
 use Rattle.fx_steps.proofs.PlanLemmas.{plan_is_of_the_run, swap_fronts, same_as}
-use Rattle.fx_steps.proofs.StepLemmas.{among_flat, in_filter, plan_is_the_join, some_term}
+use Rattle.fx_steps.proofs.StepLemmas.{in_filter, plan_is_the_join, some_term}
 
 -- ---- two lists of rows in front of each other
 

@@ -19,6 +19,7 @@ use Rattle.fx_algebra.specs.declared.units.Row.{Row}
 use Rattle.fx_algebra.specs.declared.units.Unit as unit
 use Rattle.fx_algebra.proofs.JoinLemmas.{same_join, same_rows_from}
 use Rattle.fx_algebra.proofs.OperatorLemmas.{filtered_moves, join_one}
+use Rattle.fx_algebra.proofs.RunLemmas.{bgp_moves}
 use Rattle.fx_algebra.proofs.WeightLemmas.{sum_by-filter, sum_by-map, weights_from}
 use Rattle.fx_plan.specs.Plans.{plan}
 use Rattle.fx_plan.proofs.LawLemmas.{filters_are_own, filters_of_run}
@@ -26,7 +27,7 @@ use Rattle.fx_steps.specs.Optionals.{OptionalIsTheLeftJoin, OptionalLaws, Option
 use Rattle.fx_steps.specs.Steps.{HasItsVariables, numbered, solutions_of, stepped, unit_filters, unit_patterns}
 use Rattle.fx_steps.proofs.GroupLemmas.{and_true, left_join_splits, one_holds}
 use Rattle.fx_steps.proofs.PlanLemmas.{plan_is_of_the_run, same_as}
-use Rattle.fx_steps.proofs.StepLemmas.{bgp_moves, filtered_both, steps_join}
+use Rattle.fx_steps.proofs.StepLemmas.{filtered_both, steps_join}
 
 -- ---- a left join row by row
 

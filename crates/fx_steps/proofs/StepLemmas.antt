@@ -1,35 +1,29 @@
 -- The rows behind the units of a run are those of its join.
-use Rattle.std.proofs.Common.{◌≡◌, ◌∙◌, ap, sym, subst, refl, inl, inr, ℕ, suc, Bool, true, false, ◌&&◌, ◌||◌, T, cond, List, [], ◌∷◌, ◌++◌, map, filter, Option, Some, None, is_some, IsTrue, IsPermutation, Contains}
-use Rattle.std.specs.List.{AllByRecursion, flat_map, list_any}
-use Rattle.std.specs.List.Sorted.{IsStrictlySortedBy}
-use Rattle.std.specs.Ordering.{is_eq}
+use Rattle.std.proofs.Common.{◌≡◌, ◌∙◌, ap, sym, subst, refl, inl, inr, ℕ, suc, Bool, true, false, ◌&&◌, T, cond, List, [], ◌∷◌, ◌++◌, map, filter, Option, Some, None, is_some, IsTrue, IsPermutation}
+use Rattle.std.specs.List.{AllByRecursion}
 use Rattle.std.proofs.lemmas.List.{map-append}
 use Rattle.std.proofs.lemmas.List.Elements.{filter-append, recursion_from_All}
-use Rattle.std.proofs.lemmas.List.Folds.{list_all-append, list_any-append}
-use Rattle.std.proofs.lemmas.List.Sorted.{All-permutation, IsPermutation-refl, IsPermutation-sym, IsPermutation-trans, list_any-IsPermutation}
-use Rattle.fx_terms.specs.Graphs.{set_of}
-use Rattle.fx_terms.specs.Texts.{text_cmp}
-use Rattle.fx_terms.specs.Triples.{triple_cmp, triples_total}
+use Rattle.std.proofs.lemmas.List.Folds.{list_all-append}
+use Rattle.std.proofs.lemmas.List.Sorted.{IsPermutation-refl}
 use Rattle.fx_terms.specs.declared.patterns.Pattern.{Pattern}
 use Rattle.fx_terms.specs.declared.terms.Term.{Term}
 use Rattle.fx_terms.specs.declared.triples.Triple.{Triple}
-use Rattle.fx_terms.proofs.SetLemmas.{Among, among_from, contains_from}
-use Rattle.fx_algebra.specs.BasicGraphPatterns.{bgp, IsSolutionOf, TurnsInto}
+use Rattle.fx_terms.proofs.SetLemmas.{Among, contains_from}
+use Rattle.fx_algebra.specs.BasicGraphPatterns.{bgp}
 use Rattle.fx_algebra.specs.Conditions.{holds, is_so}
 use Rattle.fx_algebra.specs.Evaluation.{extended, rows_from}
 use Rattle.fx_algebra.specs.Operators.{filtered, join, merges}
-use Rattle.fx_algebra.specs.Scopes.{is_among, pattern_names}
-use Rattle.fx_algebra.specs.Solutions.{Bindings, agree, merge, rises, solution_cmp, solutions_total, term_of}
+use Rattle.fx_algebra.specs.Solutions.{Bindings, agree, merge, rises, term_of}
 use Rattle.fx_algebra.specs.Units.{is_covered, row_of, row_step, step}
 use Rattle.fx_algebra.specs.declared.expressions.Expr.{Expr}
 use Rattle.fx_algebra.specs.declared.units.Row.{Row}
 use Rattle.fx_algebra.specs.declared.units.Unit as unit
-use Rattle.fx_algebra.proofs.BgpLemmas.{once_rows, row_from, solution_of}
-use Rattle.fx_algebra.proofs.JoinLemmas.{exact_solutions, join_run, merge_extends_right, same_join}
-use Rattle.fx_algebra.proofs.MemberLemmas.{among_from_flat_map, among_from_map, once_rising}
+use Rattle.fx_algebra.proofs.BgpLemmas.{solution_of}
+use Rattle.fx_algebra.proofs.JoinLemmas.{join_run, merge_extends_right, same_join}
+use Rattle.fx_algebra.proofs.MemberLemmas.{among_from_flat_map, among_from_map}
 use Rattle.fx_algebra.proofs.OperatorLemmas.{filtered_by_none, filtered_moves}
 use Rattle.fx_algebra.proofs.PairLemmas.{rises_merge}
-use Rattle.fx_algebra.proofs.UnionLemmas.{once_is_set}
+use Rattle.fx_algebra.proofs.RunLemmas.{bgp_moves}
 use Rattle.fx_plan.specs.Plans.{plan}
 use Rattle.fx_plan.proofs.LawLemmas.{filters_are_own}
 use Rattle.fx_steps.specs.Steps.{HasItsVariables, PlanIsTheJoin, StepsAreTheJoin, numbered, solutions_of, stepped, unit_filters, unit_patterns}
@@ -192,37 +186,6 @@ steps_join graph (u ∷ us) rows up own =
     ∙ ap (filtered (unit_filters us)) (sym (filtered_join u.patterns u.filters (recursion_from_All (λ e. is_covered u.patterns e ≡ true) u.filters own.0) behind mine (all_bind graph u.patterns mine joined)))
     ∙ filtered_both u.filters (unit_filters us) (join mine behind)
     ∙ ap (filtered (u.filters ++ unit_filters us)) (join_both graph u.patterns (unit_patterns us) before up)
-
--- ---- the same patterns in another order
-
-pub among_flat : {X : Type 0} (f : X → List (List ℕ)) (name : List ℕ) (xs : List X) → is_among (flat_map f xs) name ≡ list_any (λ x. is_among (f x) name) xs
-among_flat f name [] = refl
-among_flat f name (x ∷ xs) = list_any-append (λ n. is_eq (text_cmp n name)) (f x) (flat_map f xs) ∙ ap (λ (b : Bool). is_among (f x) name || b) (among_flat f name xs)
-
-solution_moves : (graph : List Triple) (ps qs : List Pattern) → IsPermutation ps qs → (s : Bindings) → IsSolutionOf graph ps s → IsSolutionOf graph qs s
-solution_moves graph ps qs moved s h = record {
-  rises = h.rises;
-  binds = λ name.
-      h.binds name
-      ∙ among_flat pattern_names name ps
-      ∙ list_any-IsPermutation (λ p. is_among (pattern_names p) name) ps qs moved
-      ∙ sym (among_flat pattern_names name qs);
-  turns = All-permutation (λ p. (t : Triple) × Contains graph t × TurnsInto s p t) ps qs moved h.turns;
-}
-
-row_moves : (graph : List Triple) (ps qs : List Pattern) → IsPermutation ps qs → (s : Bindings) → Among s (bgp graph ps) → Among s (bgp graph qs)
-row_moves graph ps qs moved s m =
-    among_from (bgp graph qs) s (row_from graph qs s (solution_moves graph ps qs moved s (solution_of graph ps s (contains_from (bgp graph ps) s m))))
-
-pub bgp_moves : (graph : List Triple) (ps qs : List Pattern) → IsStrictlySortedBy triple_cmp graph → IsPermutation ps qs → IsPermutation (bgp graph ps) (bgp graph qs)
-bgp_moves graph ps qs sorted moved =
-    let once = once_rising triple_cmp triples_total graph sorted in
-    let back = IsPermutation-sym ps qs moved in
-    let set = set_of solution_cmp (bgp graph qs) in
-    IsPermutation-trans (bgp graph ps) set (bgp graph qs)
-    (once_is_set solution_cmp solutions_total exact_solutions (bgp graph ps) (bgp graph qs) (once_rows graph ps once) (row_moves graph ps qs moved) (row_moves graph qs ps back))
-    (IsPermutation-sym (bgp graph qs) set
-    (once_is_set solution_cmp solutions_total exact_solutions (bgp graph qs) (bgp graph qs) (once_rows graph qs once) (λ s m. m) (λ s m. m)))
 
 -- ---- the laws
 
