@@ -43,3 +43,4 @@ pub mod ChoiceLemmas
 pub mod BatchCauseLemmas
 pub mod MediationLemmas
 pub mod FederationLemmas
+mod GatherLemmas

@@ -17,3 +17,4 @@ pub mod SectionSteps
 pub mod Sections
 pub mod Tasks
 pub mod Unknown
+pub mod Gathered

@@ -5,6 +5,7 @@ mod answers;
 mod asks;
 mod choices;
 mod fault_texts;
+mod gathering;
 mod groups;
 mod invocations;
 pub mod laws;

@@ -59,13 +59,13 @@ numbered_length n (s ∷ solutions) = ap suc (numbered_length (suc n) solutions)
 
 -- ---- what wires tell
 
-told_front : (s u : List Seen) (es : List EndpointParts) (graphs : List (List Triple)) → TellAll (s ++ u) es graphs → TellAll s es graphs
+pub told_front : (s u : List Seen) (es : List EndpointParts) (graphs : List (List Triple)) → TellAll (s ++ u) es graphs → TellAll s es graphs
 told_front s u [] [] h = tt
 told_front s u [] (g ∷ graphs) h = absurd h
 told_front s u (e ∷ es) [] h = absurd h
 told_front s u (e ∷ es) (g ∷ graphs) h = (front_all (λ (w : Seen). w.graph e.iri ≡ Some g) s u h.0, told_front s u es graphs h.1)
 
-told_back : (s u : List Seen) (es : List EndpointParts) (graphs : List (List Triple)) → TellAll (s ++ u) es graphs → TellAll u es graphs
+pub told_back : (s u : List Seen) (es : List EndpointParts) (graphs : List (List Triple)) → TellAll (s ++ u) es graphs → TellAll u es graphs
 told_back s u [] [] h = tt
 told_back s u [] (g ∷ graphs) h = absurd h
 told_back s u (e ∷ es) [] h = absurd h
@@ -107,16 +107,16 @@ module _ (s t u v : List Seen) (es : List EndpointParts) (us : List unit.Unit) (
     cause = wider k.endpoint (record { unit = k.unit; rows = k.batch }) why k.cause;
   }
 
-  has_wider : (why : FlowError) → HasFlowCause s t es us block wanted xs why → HasFlowCause u v es us block all ys why
+  pub has_wider : (why : FlowError) → HasFlowCause s t es us block wanted xs why → HasFlowCause u v es us block all ys why
   has_wider (flow.Member at) k = wider_cause (flow.Member at) k
   has_wider (flow.BadReply at bad) k = wider_cause (flow.BadReply at bad) k
   has_wider (flow.RequestTooLong at size) k = wider_cause (flow.RequestTooLong at size) k
   has_wider flow.Memory k = tt
 
-in_front : {X : Type 0} (xs ys : List X) (x : X) → Contains xs x → Contains (xs ++ ys) x
+pub in_front : {X : Type 0} (xs ys : List X) (x : X) → Contains xs x → Contains (xs ++ ys) x
 in_front xs ys x h = contains_from (xs ++ ys) x (among_left x xs ys (among_from xs x h))
 
-behind : {X : Type 0} (xs ys : List X) (x : X) → Contains ys x → Contains (xs ++ ys) x
+pub behind : {X : Type 0} (xs ys : List X) (x : X) → Contains ys x → Contains (xs ++ ys) x
 behind xs ys x h = contains_from (xs ++ ys) x (among_right x xs ys (among_from ys x h))
 
 pub its_among : (l : List unit.Unit) (n : ℕ) (u : unit.Unit) → slice_get l n ≡ Some u → Among u l

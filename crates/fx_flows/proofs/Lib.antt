@@ -10,3 +10,8 @@ pub mod CutLemmas
 pub mod PutLemmas
 pub mod FollowLemmas
 pub mod FlowLemmas
+pub mod TurnLemmas
+pub mod TeamLemmas
+pub mod TeamStepLemmas
+pub mod RowsLemmas
+pub mod TeamTurnLemmas

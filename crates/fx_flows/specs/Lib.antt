@@ -5,3 +5,5 @@ pub mod Lines
 pub mod Cuts
 pub mod RunFlows
 pub mod Followed
+pub mod RunLaws
+pub mod Teams

@@ -129,8 +129,8 @@ pub(crate) fn flow_out<R: Threads + Wait + Sync, W: Wire + Send, U: Step + Sync>
     }
 }
 
-// The rows of both halves, or why there are none: the fault of the first before that of the second.
-fn both(
+/// The rows of both halves, or why there are none: the fault of the first before that of the second.
+pub(crate) fn both(
     ours: Result<Vec<Row>, FlowError>,
     theirs: Result<Vec<Row>, FlowError>,
 ) -> Result<Vec<Row>, FlowError>

@@ -1,5 +1,5 @@
 //! The units of a run, asked for in batches.
-ghost use Rattle.std.specs.Prelude.{◌≡◌, ◌↔◌, ◌<◌, ◌≤◌, All, Contains, IfErr, IfOk, IsPermutation, IsTrue, List, None, [], true, length, map};
+ghost use Rattle.std.specs.Prelude.{◌≡◌, ◌↔◌, ◌<◌, ◌≤◌, ◌∷◌, All, Contains, IfErr, IfOk, IfSome, IsPermutation, IsTrue, List, MatchOption, None, [], true, length, map};
 ghost use Rattle.crossbeam_queue.specs.SegTies.{IsSegPassOf};
 ghost use Rattle.fx_terms.specs.declared.triples.Triple.{Triple as TripleParts};
 ghost use Rattle.fx_algebra.specs.Graphs.{union};
@@ -22,6 +22,7 @@ use crate::gates::Gate;
 use crate::lines::{Line, Ticket, lined, waiting};
 use crate::parcels::RunShape;
 use crate::steps::Step;
+use crate::teams::ask_rounds;
 use fx_algebra::{Row, Solution, Unit};
 use fx_bound::{Batch, Found, batch_text, unite};
 use fx_outside::Endpoint;
@@ -75,16 +76,88 @@ pub fn run_flow<R: Threads + Wait + Sync, W: Wire + Send>(
     requires within { All (λ u. All (λ at. at < length endpoints.now) u.members) units.now }
     ensures { RunFlowed W.tells_log W.counts_alone (map W.seen wires.old) (map W.seen wires.new) endpoints.now units.now block (numbered 0 rows.now) (rows_in result) }
 {
-    let shape = RunShape {
-        units: units.len() as u64,
-        block: block as u64,
-    };
-    let Ok(first) = first_batches(alloc, rows, shape) else {
+    let Ok(first) = number(alloc, rows) else {
         return Err(FlowError::Memory);
     };
-    if is_none(first.as_slice()) {
-        return Ok(Vec::new(alloc));
+    run_rows(rt, alloc, endpoints, units, first, block as u64, wires)
+}
+
+// The rows behind units which these rows enter: unit by unit while there are fewer batches than wires, and then those that are left at once.
+fn run_rows<R: Threads + Wait + Sync, W: Wire + Send>(
+    rt: &R,
+    alloc: Global,
+    endpoints: &[Endpoint],
+    units: &[Unit],
+    rows: Vec<Row>,
+    block: u64,
+    wires: &mut [W],
+) -> Result<Vec<Row>, FlowError>
+    requires wired { (0 < length wires.old) × (length wires.old ≤ 16) }
+    requires sendable { All (λ e. is_sendable e ≡ true) endpoints.now }
+    requires fit { All IsFit units.now }
+    requires block { (0 < block) × (block ≤ 64) }
+    requires within { All (λ u. All (λ at. at < length endpoints.now) u.members) units.now }
+    ensures { RunFlowed W.tells_log W.counts_alone (map W.seen wires.old) (map W.seen wires.new) endpoints.now units.now block rows.items (rows_in result) }
+{
+    let mut left = units;
+    let mut entering = rows;
+    while let Some((unit, others)) = first_of(left, endpoints) {
+        let Ok(batches) = cut(alloc, entering, block) else {
+            return Err(FlowError::Memory);
+        };
+        if is_none(batches.as_slice()) {
+            return Ok(Vec::new(alloc));
+        }
+        if batches.len() >= wires.len() {
+            return piped(rt, alloc, endpoints, left, batches, block, wires);
+        }
+        match ask_rounds(rt, &alloc, endpoints, unit, batches.as_slice(), wires) {
+            Err(error) => return Err(error),
+            Ok(next) => entering = next,
+        }
+        left = others;
     }
+    Ok(entering)
+}
+
+// The first of the units, and the others.
+fn first_of<'a>(units: &'a [Unit], _endpoints: &[Endpoint]) -> Option<(&'a Unit, &'a [Unit])>
+    requires fit { All IsFit units.now }
+    requires within { All (λ u. All (λ at. at < length _endpoints.now) u.members) units.now }
+    ensures whole { MatchOption result (units.now ≡ []) (λ p. units.now ≡ p.0.now ∷ p.1.now) }
+    ensures fit { IfSome result (λ p. IsFit p.0.now × All IsFit p.1.now) }
+    ensures within { IfSome result (λ p. All (λ at. at < length _endpoints.now) p.0.now.members × All (λ u. All (λ at. at < length _endpoints.now) u.members) p.1.now) }
+{
+    match units.split_first() {
+        None => None,
+        Some((unit, others)) => Some((unit, others)),
+    }
+}
+
+// The rows behind units which these batches enter, by workers that share one queue.
+fn piped<R: Threads + Wait + Sync, W: Wire + Send>(
+    rt: &R,
+    alloc: Global,
+    endpoints: &[Endpoint],
+    units: &[Unit],
+    first: Vec<Items<Row>>,
+    block: u64,
+    wires: &mut [W],
+) -> Result<Vec<Row>, FlowError>
+    requires wired { (0 < length wires.old) × (length wires.old ≤ 16) }
+    requires sendable { All (λ e. is_sendable e ≡ true) endpoints.now }
+    requires some { 0 < length units.now }
+    requires fit { All IsFit units.now }
+    requires block { (0 < block) × (block ≤ 64) }
+    requires within { All (λ u. All (λ at. at < length endpoints.now) u.members) units.now }
+    requires first { (0 < length first.items) × All (IsSized block) first.items }
+    ensures { (rows : List RowParts) → AreCut rows block first.items
+        → RunFlowed W.tells_log W.counts_alone (map W.seen wires.old) (map W.seen wires.new) endpoints.now units.now block rows (rows_in result) }
+{
+    let shape = RunShape {
+        units: units.len() as u64,
+        block,
+    };
     let Ok((line, mut me)) = lined(alloc) else {
         return Err(FlowError::Memory);
     };
@@ -93,19 +166,6 @@ pub fn run_flow<R: Threads + Wait + Sync, W: Wire + Send>(
     );
     line.destroy();
     found
-}
-
-// The batches that enter the first unit.
-fn first_batches(
-    alloc: Global,
-    rows: &[Solution],
-    shape: RunShape,
-) -> Result<Vec<Items<Row>>, Memory>
-    requires { 0 < shape.block }
-    ensures { IfOk result (λ batches. AreCut (numbered 0 rows.now) shape.block batches.items) }
-{
-    let first = number(alloc, rows)?;
-    cut(alloc, first, shape.block)
 }
 
 // Puts the first batches, and follows them over all wires.
@@ -171,7 +231,7 @@ fn number(alloc: Global, solutions: &[Solution]) -> Result<Vec<Row>, Memory>
     Ok(rows)
 }
 
-fn is_none(batches: &[Items<Row>]) -> bool
+pub(crate) fn is_none(batches: &[Items<Row>]) -> bool
     ensures { IsTrue result ↔ (batches.now ≡ []) }
 {
     batches.is_empty()
@@ -200,7 +260,11 @@ pub(crate) fn ask_batch<W: Wire>(
     }
 }
 
-fn united(alloc: Global, batch: &Batch, lists: &[Items<Found>]) -> Result<Vec<Row>, FlowError>
+pub(crate) fn united(
+    alloc: Global,
+    batch: &Batch,
+    lists: &[Items<Found>],
+) -> Result<Vec<Row>, FlowError>
     requires { All (λ list. All (λ f. Contains (numbers batch.now) f.branch) list) lists.now }
     ensures step { (graphs : List (List TripleParts)) → IsSound graphs batch.now.unit → AreReadOf graphs batch.now batch.now.unit.members lists.now
         → IfOk result (λ rows. IsPermutation rows.items (step (union graphs) batch.now.unit batch.now.rows)) }
@@ -212,8 +276,8 @@ fn united(alloc: Global, batch: &Batch, lists: &[Items<Found>]) -> Result<Vec<Ro
     }
 }
 
-// What members have for a batch, one after another.
-fn ask_members<W: Wire>(
+/// What members have for a batch, one after another.
+pub(crate) fn ask_members<W: Wire>(
     alloc: Global,
     wire: &mut W,
     endpoints: &[Endpoint],

@@ -10,6 +10,7 @@ pub mod laws;
 pub mod lines;
 pub mod parcels;
 pub mod steps;
+mod teams;
 
 pub use flows::{FlowError, run_flow};
 use fx_terms::shareable;

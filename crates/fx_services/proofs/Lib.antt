@@ -4,3 +4,5 @@ pub mod WentLemmas
 pub mod ServiceRowLemmas
 pub mod ServiceLemmas
 pub mod NotedLemmas
+pub mod SideLemmas
+pub mod ToldLemmas

@@ -91,7 +91,7 @@ module _ (es : List EndpointParts) (at : ℕ) (g : Group) (own : List Exchange) 
   none_found : (founds : List Found) → Came (reply.Found founds) → ⊥
   none_found founds d = grind (arith, d.told)
 
-  for_service : (r : JobReply) → Came r → IsForService r
+  pub for_service : (r : JobReply) → Came r → IsForService r
   for_service (reply.Truth truth) d = no_truth truth d
   for_service (reply.Found founds) d = none_found founds d
   for_service (reply.Table rows) d = tt
@@ -135,7 +135,7 @@ module _ (tells alone : Bool) (wires : List Seen) (es : List EndpointParts) (iri
 
 module _ (tells alone : Bool) (before after : List Seen) (es : List EndpointParts) (at : ℕ) (g : Group) where
   -- what was wanted is the one text
-  the_text : (e : EndpointParts) → slice_get es at ≡ Some e → (wanted : List Sent) → AreWanted es (job_of at g ∷ []) wanted → IsServiceSent es e.iri g wanted
+  pub the_text : (e : EndpointParts) → slice_get es at ≡ Some e → (wanted : List Sent) → AreWanted es (job_of at g ∷ []) wanted → IsServiceSent es e.iri g wanted
   the_text e found [] h = absurd h
   the_text e found (s ∷ t ∷ rest) h = absurd (cc)
   the_text e found (s ∷ []) h =
@@ -207,7 +207,7 @@ module _ (tells alone : Bool) (before after : List Seen) (es : List EndpointPart
     abbrev IsTold : List ℕ → Result (List Bindings) ServiceError → Type 0
     IsTold iri result = IfOk result (λ rows. (e : EndpointParts) × Contains es e × (e.iri ≡ iri) × IsToldBy e g xs rows)
 
-    told_by : (r : JobReply) (d : Came_of r) (result : Result (List Bindings) ServiceError) → IsRowsOf at r result → IsTold d.endpoint.iri result
+    pub told_by : (r : JobReply) (d : Came_of r) (result : Result (List Bindings) ServiceError) → IsRowsOf at r result → IsTold d.endpoint.iri result
     told_by (reply.Table rows) d result h =
         let k = table_replied es at g xs rows d in
         subst (IsTold d.endpoint.iri) (sym h) (d.endpoint, found_here es at d.endpoint d.found, refl, record { request = k.request; bytes = k.bytes; posts = k.posts.exact; short = k.posts.short; alone = k.exchanged_so; told = k.told })
@@ -221,7 +221,7 @@ module _ (tells alone : Bool) (before after : List Seen) (es : List EndpointPart
     HasRows iri result = IfOk result (λ rows. (graph : List Triple) → Tell before iri graph → AreRowsOver graph g rows)
 
     module _ (ok : IsServable g) where
-      rows_by : (r : JobReply) (d : Came_of r) (result : Result (List Bindings) ServiceError) → IsRowsOf at r result → HasRows d.endpoint.iri result
+      pub rows_by : (r : JobReply) (d : Came_of r) (result : Result (List Bindings) ServiceError) → IsRowsOf at r result → HasRows d.endpoint.iri result
       rows_by (reply.Table rows) d result h =
           let k = table_replied es at g xs rows d in
           subst (HasRows d.endpoint.iri) (sym h)
@@ -256,7 +256,7 @@ module _ (tells alone : Bool) (before after : List Seen) (es : List EndpointPart
       abbrev Caused : List ℕ → Result (List Bindings) ServiceError → Type 0
       Caused iri result = IfErr result (HasServiceCause before after es iri g xs)
 
-      cause_by : (r : JobReply) (d : Came_of r) → (r ≡ reply.Failed → faults_at before d.endpoint.iri < faults_at after d.endpoint.iri) → (result : Result (List Bindings) ServiceError) → IsRowsOf at r result → Caused d.endpoint.iri result
+      pub cause_by : (r : JobReply) (d : Came_of r) → (r ≡ reply.Failed → faults_at before d.endpoint.iri < faults_at after d.endpoint.iri) → (result : Result (List Bindings) ServiceError) → IsRowsOf at r result → Caused d.endpoint.iri result
       cause_by (reply.Table rows) d rose result h = subst (Caused d.endpoint.iri) (sym h) tt
       cause_by reply.Failed d rose result h = subst (Caused d.endpoint.iri) (sym h) (let k = failed_so es at g xs d in (d.endpoint, d.found, refl, (k.0, k.1, rose refl)))
       cause_by (reply.Bad bad) d rose result h = subst (Caused d.endpoint.iri) (sym h) (d.endpoint, d.found, refl, bad_by bad d)

@@ -1,6 +1,7 @@
 //! Occurrences of SERVICE, plain and silent: what is asked for, over which wires, and what comes of it.
 #![tactic(auto)]
 
+pub mod beside;
 pub mod noted;
 pub mod services;
 

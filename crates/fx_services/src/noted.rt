@@ -56,7 +56,7 @@ pub fn rows_or_down<R: Threads + Wait + Sync, W: Wire + Send>(
         Ok(rows) => Ok(rows),
         Err(error) => {
             if silent {
-                noted(alloc, number, iri, error, down)
+                note_down(alloc, number, iri, error, down)
             } else {
                 Err(error)
             }
@@ -64,8 +64,8 @@ pub fn rows_or_down<R: Threads + Wait + Sync, W: Wire + Send>(
     }
 }
 
-// The one empty solution of a silent occurrence that has no rows for this reason. It is noted behind what was down.
-fn noted(
+/// The one empty solution of a silent occurrence that has no rows for this reason. It is noted behind what was down.
+pub(crate) fn note_down(
     alloc: Global,
     number: u64,
     iri: &Iri,

@@ -89,7 +89,8 @@ fn jobs_of(alloc: Global, at: u32, group: &Group) -> Result<Vec<Job>, Memory>
     Ok(jobs)
 }
 
-fn job_of(alloc: Global, at: u32, group: &Group) -> Result<Job, Memory>
+/// The job that asks the endpoint of this number for a group.
+pub(crate) fn job_of(alloc: Global, at: u32, group: &Group) -> Result<Job, Memory>
     ensures { IfOk result (λ job. job ≡ spec.job_of at group.now) }
 {
     let columns = scope(alloc, group)?;
@@ -145,7 +146,8 @@ fn rows_of(at: u32, replies: Vec<JobReply>) -> Result<Items<Solution>, ServiceEr
     }
 }
 
-fn rows_in(at: u32, reply: JobReply) -> Result<Items<Solution>, ServiceError>
+/// The rows that a reply tells, or why there are none.
+pub(crate) fn rows_in(at: u32, reply: JobReply) -> Result<Items<Solution>, ServiceError>
     requires { spec.IsForService reply }
     ensures { spec.IsRowsOf at reply result }
 {
