@@ -23,7 +23,7 @@ const FOUR_ROWS: &str =
     "HTTP/1.1 200 OK\r\nContent-Type: application/sparql-results+json\r\n\r\n{\"head\":{\"vars\":[\"v1_0\"]},\"results\":{\"bindings\":[{\"v1_0\":{\"type\":\"uri\",\"value\":\"http://e/a\"}},{\"v1_0\":{\"type\":\"uri\",\"value\":\"http://e/b\"}},{\"v1_0\":{\"type\":\"uri\",\"value\":\"http://e/c\"}},{\"v1_0\":{\"type\":\"uri\",\"value\":\"http://e/d\"}}]}}";
 
 const REGISTRY: &str =
-    "Amsterdam http://127.0.0.1:8001/sparql\nBerlin http://127.0.0.1:8002/sparql\n";
+    "Amsterdam http://127.0.0.1:8001/sparql\nBerlin http://127.0.0.1:8002/sparql\nCairo http://127.0.0.1:8003/sparql\nDelhi http://127.0.0.1:8004/sparql\n";
 
 // Four rows, each of which is a batch of its own.
 const ONE_UNIT: &str =
@@ -33,9 +33,12 @@ const ONE_UNIT: &str =
 const TWO_UNITS: &str =
     "SELECT * WHERE { VALUES ?x { <http://e/s> } ?x <http://e/q> ?y . ?y <http://e/p> ?z }";
 
-// A wire whose exchange of the batch with one row ends only when those of the three others have ended, and fails where it never sees that. All others are
-// answered at once: an ASK by whether the endpoint is the one that has the pattern, Amsterdam for `q` and Berlin for `p`; a batch for `q` with four rows, and one for
-// `p` with none.
+// One row, which is one batch for four endpoints.
+const FOUR_MEMBERS: &str = "SELECT * WHERE { VALUES ?x { <http://e/a> } ?x <http://e/r> ?y }";
+
+// A wire whose exchange of the batch with one row, or with one endpoint, ends only when those of the three others have ended, and fails where it never sees that. All others are
+// answered at once: an ASK by whether the endpoint has the pattern, Amsterdam for `q`, Berlin for `p` and each for `r`; a batch for `q` with four rows, and one for
+// `p` or `r` with none.
 #[derive(Drop)]
 struct RunWire<'a> {
     ended: &'a AtomicU64,
@@ -88,9 +91,11 @@ fn text_for(request: &[u8], slow: &str, ended: &AtomicU64) -> Option<&'static st
     Some(NO_ROWS)
 }
 
-// Whether an ASK goes to the endpoint that has its pattern.
+// Whether an ASK goes to an endpoint that has its pattern.
 fn is_source(request: &[u8]) -> bool {
-    if has(request, "<http://e/q>") {
+    if has(request, "<http://e/r>") {
+        true
+    } else if has(request, "<http://e/q>") {
         has(request, "127.0.0.1:8001")
     } else {
         has(request, "127.0.0.1:8002")
@@ -108,7 +113,7 @@ fn two_wires_at_once_in_a_run(rt: HostRuntime) {
     assert_eq!(rt; first_slow_amiss(&rt, rt.alloc(), ONE_UNIT), None);
 }
 
-// So it is of the batches that come of the first unit's one batch: a worker that found nothing to do before them has waited, and a worker keeps one of them alone.
+// So it is of the batches that come of the first unit's one batch.
 #[test]
 fn two_wires_at_once_behind_the_first_unit(rt: HostRuntime) {
     assert_eq!(rt; first_slow_amiss(&rt, rt.alloc(), TWO_UNITS), None);
@@ -126,6 +131,37 @@ fn first_slow_amiss<R: Threads + Wait + Sync>(
         }
     }
     None
+}
+
+// Whichever of the four endpoints of one batch waits for the three others, four wires ask them all. A run that asks the endpoints of a batch one after another fails
+// where any but the last waits.
+#[test]
+fn four_members_at_once(rt: HostRuntime) {
+    assert_eq!(rt; first_slow_member_amiss(&rt, rt.alloc()), None);
+}
+
+// The first of the four endpoints whose reply can't wait for the others without a failure.
+fn first_slow_member_amiss<R: Threads + Wait + Sync>(rt: &R, alloc: Global) -> Option<&'static str> {
+    for slow in ["127.0.0.1:8001", "127.0.0.1:8002", "127.0.0.1:8003", "127.0.0.1:8004"] {
+        if code_of_members(rt, alloc, slow) != Some(0) {
+            return Some(slow);
+        }
+    }
+    None
+}
+
+// How `query` ends over four wires, where the endpoint at this address waits for the others.
+fn code_of_members<R: Threads + Wait + Sync>(rt: &R, alloc: Global, slow: &str) -> Option<u8> {
+    let ended = AtomicU64::new(0);
+    let mut files = files(alloc, REGISTRY, FOUR_MEMBERS)?;
+    let mut wires = [
+        wire(&ended, slow),
+        wire(&ended, slow),
+        wire(&ended, slow),
+        wire(&ended, slow),
+    ];
+    let ended = run_words(rt, alloc, &["--workers", "4"], &mut files, &mut wires)?;
+    Some(ended.code)
 }
 
 // How `query` ends over two wires in batches of one row, where the batch with this row waits for the others.

@@ -11,7 +11,7 @@ use Rattle.fx_traffic.specs.Gains.{faults_at}
 use Rattle.fx_wire.specs.Exchanges.{Seen}
 use Rattle.fx_engine.specs.declared.mediator.FedError.{FedError}
 use Rattle.fx_engine.specs.declared.mediator.FedError.TheVariants as fed
-use Rattle.fx_local.specs.declared.limits.TheConstants.{QUERY_LIMIT, REGISTRY_LIMIT}
+use Rattle.fx_local.specs.Limits.{query_limit, registry_limit}
 use Rattle.fx_local.specs.declared.statuses.Status.{Status}
 use Rattle.fx_commands.specs.Asking.{WiresSeen}
 use Rattle.fx_commands.specs.Explain.{IsExplainReported, IsExplanation, IsExplanationOf, IsPlanText}
@@ -54,10 +54,10 @@ plan_explained w r q es asked s text g h (inr (result, (entries, planned), end))
 pub an_explanation : (wires : List Seen) (r q : FileRead) (es : List EndpointParts) (asked : Query) (text : List ℕ) → GivesRegistry r (Ok es) → GivesQuery q (Ok asked) → IsPlanText wires es asked text → IsExplanation wires r q text
 an_explanation wires r q es asked text g h k = pick r.content g
   where
-    both : (all : List ℕ) → read_registry all ≡ Ok es → (o : Option (List ℕ)) → IfSome o (λ query. (length query ≤ QUERY_LIMIT) × Accepted query asked) → IfSome o (λ query. IsExplanationOf wires all query text)
+    both : (all : List ℕ) → read_registry all ≡ Ok es → (o : Option (List ℕ)) → IfSome o (λ query. (length query ≤ query_limit) × Accepted query asked) → IfSome o (λ query. IsExplanationOf wires all query text)
     both all e None h = tt
     both all e (Some query) h = record { endpoints = es; registered = e; asked = asked; accepted = h.1; text_is = k }
 
-    pick : (o : Option (List ℕ)) → IfSome o (λ all. (length all ≤ REGISTRY_LIMIT) × (read_registry all ≡ Ok es)) → IfSome o (λ all. IfSome q.content (λ query. IsExplanationOf wires all query text))
+    pick : (o : Option (List ℕ)) → IfSome o (λ all. (length all ≤ registry_limit) × (read_registry all ≡ Ok es)) → IfSome o (λ all. IfSome q.content (λ query. IsExplanationOf wires all query text))
     pick None g = tt
     pick (Some all) g = both all g.1 q.content h

@@ -16,7 +16,7 @@ use Rattle.fx_engine.specs.Mediation.{AreKnown}
 use Rattle.fx_engine.specs.declared.mediator.FedError.{FedError}
 use Rattle.fx_engine.specs.declared.mediator.FedError.TheVariants as fed
 use Rattle.fx_engine.specs.declared.mediator.Outcome.{Outcome}
-use Rattle.fx_local.specs.declared.limits.TheConstants.{QUERY_LIMIT, REGISTRY_LIMIT}
+use Rattle.fx_local.specs.Limits.{query_limit, registry_limit}
 use Rattle.fx_local.specs.declared.refusals.QueryRefusal.{QueryRefusal}
 use Rattle.fx_local.specs.declared.refusals.QueryRefusal.TheVariants as query
 use Rattle.fx_local.specs.declared.refusals.RegistryRefusal.{RegistryRefusal}
@@ -50,7 +50,7 @@ registry_refused_before r q registry.Memory h = refl
 pub a_registry : (r : FileRead) (es : List EndpointParts) → GivesRegistry r (Ok es) → IsRegistryFile r
 a_registry r es h = pick r.content h
   where
-    pick : (o : Option (List ℕ)) → IfSome o (λ all. (length all ≤ REGISTRY_LIMIT) × (read_registry all ≡ Ok es)) → IfSome o (λ all. (length all ≤ REGISTRY_LIMIT) × ((es : List EndpointParts) × (read_registry all ≡ Ok es)))
+    pick : (o : Option (List ℕ)) → IfSome o (λ all. (length all ≤ registry_limit) × (read_registry all ≡ Ok es)) → IfSome o (λ all. (length all ≤ registry_limit) × ((es : List EndpointParts) × (read_registry all ≡ Ok es)))
     pick None h = tt
     pick (Some all) h = (h.0, (es, h.1))
 
@@ -209,11 +209,11 @@ query_done w r q es asked block out err g h (outcome, (entries, federated), wrot
 pub a_union : (wires : List Seen) (r q : FileRead) (es : List EndpointParts) (asked : Query) (text : List ℕ) → GivesRegistry r (Ok es) → GivesQuery q (Ok asked) → IsUnionDocument wires es asked text → IsUnionAnswer wires r q text
 a_union wires r q es asked text g h k = pick r.content g
   where
-    both : (all : List ℕ) → read_registry all ≡ Ok es → (o : Option (List ℕ)) → IfSome o (λ query. (length query ≤ QUERY_LIMIT) × Accepted query asked) → IfSome o (λ query. IsUnionAnswerOf wires all query text)
+    both : (all : List ℕ) → read_registry all ≡ Ok es → (o : Option (List ℕ)) → IfSome o (λ query. (length query ≤ query_limit) × Accepted query asked) → IfSome o (λ query. IsUnionAnswerOf wires all query text)
     both all e None h = tt
     both all e (Some query) h = record { endpoints = es; registered = e; asked = asked; accepted = h.1; document_is = k }
 
-    pick : (o : Option (List ℕ)) → IfSome o (λ all. (length all ≤ REGISTRY_LIMIT) × (read_registry all ≡ Ok es)) → IfSome o (λ all. IfSome q.content (λ query. IsUnionAnswerOf wires all query text))
+    pick : (o : Option (List ℕ)) → IfSome o (λ all. (length all ≤ registry_limit) × (read_registry all ≡ Ok es)) → IfSome o (λ all. IfSome q.content (λ query. IsUnionAnswerOf wires all query text))
     pick None g = tt
     pick (Some all) g = both all g.1 q.content h
 

@@ -3,7 +3,7 @@ use Rattle.std.specs.Prelude.{◌≡◌, ◌⊎◌, ℕ, Bool, List, map}
 use Rattle.fx_grammar.specs.declared.refusals.SyntaxKind.{SyntaxKind}
 use Rattle.fx_sources.specs.declared.errors.RegistryError.{RegistryError}
 use Rattle.fx_wire.specs.Exchanges.{Seen}
-use Rattle.fx_local.specs.declared.limits.TheConstants.{QUERY_LIMIT, REGISTRY_LIMIT}
+use Rattle.fx_local.specs.Limits.{query_limit, registry_limit}
 use Rattle.fx_local.specs.declared.statuses.Status.{Status}
 use Rattle.fx_local.specs.declared.statuses.Status.TheVariants as status
 use Rattle.fx_local.specs.Files.{FileRead, HasFailed, IsTooLong, IsNoQuery, IsRegistryFile, IsNoRegistry}
@@ -29,6 +29,6 @@ abbrev pub IsRefusedBefore : FileRead → FileRead → Status → List ℕ → T
 IsRefusedBefore r q status.RegistryRefused text = (e : RegistryError) × IsNoRegistry r e × (text ≡ registry_refused e)
 IsRefusedBefore r q status.QueryRefused text = IsRegistryFile r × ((kind : SyntaxKind) × (at : ℕ) × IsNoQuery q kind at × (text ≡ query_refused kind at))
 IsRefusedBefore r q status.ReadFault text = (HasFailed r × (text ≡ cannot_read r.name)) ⊎ (IsRegistryFile r × HasFailed q × (text ≡ cannot_read q.name))
-IsRefusedBefore r q status.FileTooLong text = (IsTooLong REGISTRY_LIMIT r × (text ≡ registry_too_long r.name)) ⊎ (IsRegistryFile r × IsTooLong QUERY_LIMIT q × (text ≡ query_too_long q.name))
+IsRefusedBefore r q status.FileTooLong text = (IsTooLong registry_limit r × (text ≡ registry_too_long r.name)) ⊎ (IsRegistryFile r × IsTooLong query_limit q × (text ≡ query_too_long q.name))
 IsRefusedBefore r q status.NoMemory text = text ≡ no_memory
 IsRefusedBefore r q s text = ⊥

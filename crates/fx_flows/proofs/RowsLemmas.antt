@@ -21,22 +21,20 @@ of_first P xs x rest is h = let k = recursion_from_All P (x ∷ rest) (subst (Al
 pub sized_enough : (block : ℕ) (batches : List (List Row)) → block ≤ 64 → All (IsSized block) batches → All (λ (rows : List Row). length rows ≤ 64) batches
 sized_enough block batches le h = All-weaker (IsSized block) (λ (rows : List Row). length rows ≤ 64) (λ rows sized. let low : length rows ≤ block = sized.1 in omega (arith, low, le)) batches h
 
-module _ (tells alone : Bool) (es : List EndpointParts) (u : unit.Unit) (all others : List unit.Unit) (is : all ≡ u ∷ others) (block : ℕ) (some : 0 < block) (rows : List Row) (batches : List (List Row)) (cut : AreCut rows block batches) where
+module _ (tells alone : Bool) (es : List EndpointParts) (u : unit.Unit) (all others : List unit.Unit) (is : all ≡ u ∷ others) (block : ℕ) (rows : List Row) where
   -- the first unit has rows, and so it goes on
   pub onwards : {W : Type 0} (see : W → Seen) (s t : List W) (after : List Seen) (next : List Row) (r : Result (List Row) FlowError) → ((w : W) → (see w).tells_log ≡ tells)
-      → StepAsked tells alone (map see s) (map see t) es u batches (Ok next) → RunFlowed tells alone (map see t) after es others block next r → RunFlowed tells alone (map see s) after es all block rows r
+      → RunFlowed tells alone (map see s) (map see t) es (u ∷ []) block rows (Ok next) → RunFlowed tells alone (map see t) after es others block next r → RunFlowed tells alone (map see s) after es all block rows r
   onwards {W} see s t after next r told h k =
       subst (λ (us : List unit.Unit). RunFlowed tells alone (map see s) after es us block rows r) (sym is)
-      (run_in_turn tells alone (map see s) (map see t) after es (u ∷ []) others block rows next r (they_tell s) (they_tell t) (step_flowed tells alone (map see s) (map see t) es u block rows batches (Ok next) some cut h) k)
+      (run_in_turn tells alone (map see s) (map see t) after es (u ∷ []) others block rows next r (they_tell s) (they_tell t) h k)
     where
       they_tell : (wires : List W) → AllTell tells (map see wires)
       they_tell wires = All-from_recursion (λ (w : Seen). w.tells_log ≡ tells) (map see wires) (all_tell see tells told wires)
 
   -- it has none
-  pub stopped_there : (s t : List Seen) (why : FlowError) → StepAsked tells alone s t es u batches (Err why) → RunFlowed tells alone s t es all block rows (Err why)
-  stopped_there s t why h =
-      subst (λ (us : List unit.Unit). RunFlowed tells alone s t es us block rows (Err why)) (sym is)
-      (run_refused tells alone s t es (u ∷ []) others block rows why (step_flowed tells alone s t es u block rows batches (Err why) some cut h))
+  pub stopped_there : (s t : List Seen) (why : FlowError) → RunFlowed tells alone s t es (u ∷ []) block rows (Err why) → RunFlowed tells alone s t es all block rows (Err why)
+  stopped_there s t why h = subst (λ (us : List unit.Unit). RunFlowed tells alone s t es us block rows (Err why)) (sym is) (run_refused tells alone s t es (u ∷ []) others block rows why h)
 
 -- no row enters
 pub nothing_enters : (tells alone : Bool) (wires : List Seen) (es : List EndpointParts) (us : List unit.Unit) (block : ℕ) (rows : List Row) (batches : List (List Row)) → AreCut rows block batches → batches ≡ [] → RunFlowed tells alone wires wires es us block rows (Ok [])

@@ -22,7 +22,7 @@ use crate::gates::Gate;
 use crate::lines::{Line, Ticket, lined, waiting};
 use crate::parcels::RunShape;
 use crate::steps::Step;
-use crate::teams::ask_rounds;
+use crate::teams::{ask_rounds, waits_less_in_rounds};
 use fx_algebra::{Row, Solution, Unit};
 use fx_bound::{Batch, Found, batch_text, unite};
 use fx_outside::Endpoint;
@@ -33,6 +33,7 @@ use fx_pool::{BadReply, JobKind};
 use fx_terms::{Items, Memory};
 use fx_wire::Wire;
 use std::alloc::Global;
+use std::slice::from_ref;
 use std::sync::Wait;
 use std::thread::Threads;
 
@@ -49,16 +50,16 @@ pub enum FlowError {
     Memory,
 }
 
-/// The rows behind the units of a run that begins with these solutions, numbered from 0, asked for over wires in batches of `block` rows at
-/// most, by a worker for each wire. A worker that is free follows the next batch that waits: it asks the members of its unit for it, cuts the rows
-/// that these have into batches for the next unit, keeps one of them in hand and leaves the others to whoever is free. So no unit waits for another.
+/// The rows behind the units of a run that begins with these solutions, numbered from 0, asked for over wires unit by unit, in batches of `block` rows at most.
+/// None of the requests of a step, which are its batches for each member of its unit, waits for another that it doesn't need: where they are no more than the wires, all
+/// are under way at once. Then all its rows are cut into the batches of the next unit.
 ///
 /// Where the wires tell the graphs of all endpoints, and each unit is sound over these, the rows are those of the steps over their union, in
 /// some order: each merges a solution under its number with what the units' patterns have there. Where wires tell their logs, they gained texts
 /// of batches of the units; where they tell the graphs too, of batches of the rows that enter each unit, and no batch is sent to a member twice.
 /// What ends a run early is one of these: `Member`, an exchange with the endpoint failed, which its wire counted as a fault at its address;
 /// `BadReply`, with the first fault of what was replied; `RequestTooLong`, a text has more than 67,108,864 bytes, and wasn't sent; `Memory`.
-/// Where several workers met one, the first of them in the order of the wires is answered.
+/// Where several wires met one, the first of them in their order is answered.
 pub fn run_flow<R: Threads + Wait + Sync, W: Wire + Send>(
     rt: &R,
     alloc: Global,
@@ -82,7 +83,7 @@ pub fn run_flow<R: Threads + Wait + Sync, W: Wire + Send>(
     run_rows(rt, alloc, endpoints, units, first, block as u64, wires)
 }
 
-// The rows behind units which these rows enter: unit by unit while there are fewer batches than wires, and then those that are left at once.
+// The rows behind units which these rows enter, unit by unit: the rows of a step are cut together, and each step is asked for in the way that waits least.
 fn run_rows<R: Threads + Wait + Sync, W: Wire + Send>(
     rt: &R,
     alloc: Global,
@@ -108,16 +109,38 @@ fn run_rows<R: Threads + Wait + Sync, W: Wire + Send>(
         if is_none(batches.as_slice()) {
             return Ok(Vec::new(alloc));
         }
-        if batches.len() >= wires.len() {
-            return piped(rt, alloc, endpoints, left, batches, block, wires);
-        }
-        match ask_rounds(rt, &alloc, endpoints, unit, batches.as_slice(), wires) {
+        match ask_unit(rt, alloc, endpoints, unit, batches, block, wires) {
             Err(error) => return Err(error),
             Ok(next) => entering = next,
         }
         left = others;
     }
     Ok(entering)
+}
+
+// The rows behind one unit, whose batches these are: in rounds of teams where these wait less, and else by workers that share one queue.
+fn ask_unit<R: Threads + Wait + Sync, W: Wire + Send>(
+    rt: &R,
+    alloc: Global,
+    endpoints: &[Endpoint],
+    unit: &Unit,
+    batches: Vec<Items<Row>>,
+    block: u64,
+    wires: &mut [W],
+) -> Result<Vec<Row>, FlowError>
+    requires wired { (0 < length wires.old) × (length wires.old ≤ 16) }
+    requires sendable { All (λ e. is_sendable e ≡ true) endpoints.now }
+    requires fit { IsFit unit.now }
+    requires block { (0 < block) × (block ≤ 64) }
+    requires within { All (λ at. at < length endpoints.now) unit.now.members }
+    requires first { (0 < length batches.items) × All (IsSized block) batches.items }
+    ensures { (rows : List RowParts) → AreCut rows block batches.items
+        → RunFlowed W.tells_log W.counts_alone (map W.seen wires.old) (map W.seen wires.new) endpoints.now (unit.now ∷ []) block rows (rows_in result) }
+{
+    if waits_less_in_rounds(batches.len(), unit.members.len(), wires.len()) {
+        return ask_rounds(rt, &alloc, endpoints, unit, batches.as_slice(), wires);
+    }
+    piped(rt, alloc, endpoints, from_ref(unit), batches, block, wires)
 }
 
 // The first of the units, and the others.

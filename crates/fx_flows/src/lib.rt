@@ -1,4 +1,4 @@
-//! The rows of a run's units, asked for in batches by workers that share the parcels of the run.
+//! The rows of a run's units, asked for in batches, unit by unit: in rounds of teams of wires, or by workers that share the batches.
 #![tactic(auto)]
 
 mod cutting;

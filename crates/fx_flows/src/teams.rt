@@ -53,6 +53,17 @@ pub(crate) fn ask_rounds<R: Threads + Wait + Sync, W: Wire + Send>(
     Ok(made)
 }
 
+/// Whether a step waits less in rounds of teams than by workers with one wire each, who ask the members of a batch in turn: by more than an eighth, since the
+/// next round begins only when all of one have ended.
+pub(crate) fn waits_less_in_rounds(batches: usize, members: usize, wires: usize) -> bool
+    requires { 0 < wires }
+{
+    let teams = teams_for(batches, members, wires);
+    let by_rounds = waits_of(batches, members, wires, teams);
+    let by_workers = waits_of(batches, members, wires, wires);
+    by_rounds.saturating_mul(8) < by_workers.saturating_mul(7)
+}
+
 // How many teams of wires wait least for so many batches, each for so many members: the fewest of those that wait equally long.
 fn teams_for(batches: usize, members: usize, wires: usize) -> usize
     requires { 0 < wires }
@@ -61,13 +72,20 @@ fn teams_for(batches: usize, members: usize, wires: usize) -> usize
     let mut best = 1;
     let mut least = usize::MAX;
     for teams in 1..wires.saturating_add(1) {
-        let waits = parts_of(batches, teams).saturating_mul(parts_of(members, wires / teams));
+        let waits = waits_of(batches, members, wires, teams);
         if waits < least {
             least = waits;
             best = teams;
         }
     }
     best
+}
+
+// How many requests follow one another where so many teams share the wires: a round for so many batches, and in it a request for each wire of a team.
+fn waits_of(batches: usize, members: usize, wires: usize, teams: usize) -> usize
+    requires { 0 < teams }
+{
+    parts_of(batches, teams).saturating_mul(parts_of(members, wires / teams))
 }
 
 // In how many parts of a size something is cut.

@@ -7,7 +7,7 @@ use Rattle.fx_algebra.specs.declared.queries.Query.{Query}
 use Rattle.fx_grammar.specs.Accepted.{Accepted}
 use Rattle.fx_ntriples.specs.Forms.{IsDocument}
 use Rattle.fx_local.specs.declared.documents.Report.{Report}
-use Rattle.fx_local.specs.declared.limits.TheConstants.{GRAPH_LIMIT, QUERY_LIMIT}
+use Rattle.fx_local.specs.Limits.{graph_limit, query_limit}
 use Rattle.fx_local.specs.declared.refusals.Refusal.{Refusal}
 use Rattle.fx_local.specs.declared.refusals.Refusal.TheVariants as refusal
 use Rattle.fx_local.specs.Files.{FileRead, file_read}
@@ -19,19 +19,19 @@ same_file : (before mid after : FilesSeen) (name : List ℕ) → mid.content nam
 same_file before mid after name content faults = cc
 
 module _ (store : List Triple) where
-  is_graph : (o : Option (List ℕ)) → IfSome o (λ all. (length all ≤ GRAPH_LIMIT) × IsDocument all store) → IfSome o (λ all. (length all ≤ GRAPH_LIMIT) × ((graph : List Triple) × IsDocument all graph))
+  is_graph : (o : Option (List ℕ)) → IfSome o (λ all. (length all ≤ graph_limit) × IsDocument all store) → IfSome o (λ all. (length all ≤ graph_limit) × ((graph : List Triple) × IsDocument all graph))
   is_graph None h = tt
   is_graph (Some all) h = (h.0, (store, h.1))
 
-  has_lines : (report : Report) (o : Option (List ℕ)) → IfSome o (λ all. (length all ≤ QUERY_LIMIT) × ((q : Query) × Accepted all q × GivesReport store q (Ok report))) → IfSome o (λ all. (length all ≤ QUERY_LIMIT) × ((q : Query) × Accepted all q × HasLines report.lines.items q))
+  has_lines : (report : Report) (o : Option (List ℕ)) → IfSome o (λ all. (length all ≤ query_limit) × ((q : Query) × Accepted all q × GivesReport store q (Ok report))) → IfSome o (λ all. (length all ≤ query_limit) × ((q : Query) × Accepted all q × HasLines report.lines.items q))
   has_lines report None h = tt
   has_lines report (Some all) (fits, (asked, accepted, given)) = (fits, (asked, accepted, given.0))
 
-  of_query : (report : Report) (file : List ℕ) → IsDocument file store → (o : Option (List ℕ)) → IfSome o (λ all. (length all ≤ QUERY_LIMIT) × ((q : Query) × Accepted all q × GivesReport store q (Ok report))) → IfSome o (λ query. IsAnswerOf file query report.document.items)
+  of_query : (report : Report) (file : List ℕ) → IsDocument file store → (o : Option (List ℕ)) → IfSome o (λ all. (length all ≤ query_limit) × ((q : Query) × Accepted all q × GivesReport store q (Ok report))) → IfSome o (λ query. IsAnswerOf file query report.document.items)
   of_query report file read None h = tt
   of_query report file read (Some all) (fits, (asked, accepted, (lines, document_is))) = record { graph = store; read = read; asked = asked; accepted = accepted; silent = lines.0; document_is = document_is }
 
-  is_answer : (report : Report) (go qo : Option (List ℕ)) → IfSome go (λ all. (length all ≤ GRAPH_LIMIT) × IsDocument all store) → IfSome qo (λ all. (length all ≤ QUERY_LIMIT) × ((q : Query) × Accepted all q × GivesReport store q (Ok report)))
+  is_answer : (report : Report) (go qo : Option (List ℕ)) → IfSome go (λ all. (length all ≤ graph_limit) × IsDocument all store) → IfSome qo (λ all. (length all ≤ query_limit) × ((q : Query) × Accepted all q × GivesReport store q (Ok report)))
       → IfSome go (λ graph. IfSome qo (λ query. IsAnswerOf graph query report.document.items))
   is_answer report None qo h k = tt
   is_answer report (Some file) qo h k = of_query report file h.1 qo k

@@ -12,7 +12,7 @@ use Rattle.fx_ntriples.specs.Reading.{read_document}
 use Rattle.fx_ntriples.specs.declared.faults.NtError.{NtError}
 use Rattle.fx_sources.specs.Registries.{read_registry}
 use Rattle.fx_sources.specs.declared.errors.RegistryError.{RegistryError}
-use Rattle.fx_local.specs.declared.limits.TheConstants.{GRAPH_LIMIT, QUERY_LIMIT, REGISTRY_LIMIT}
+use Rattle.fx_local.specs.Limits.{graph_limit, query_limit, registry_limit}
 
 -- ---- a file that is read
 
@@ -40,36 +40,36 @@ IsTooLong limit f = IfSome f.content (λ all. limit < length all)
 
 -- where the content is told, it is an N-Triples document within its limit
 abbrev pub IsGraph : FileRead → Type 0
-IsGraph f = IfSome f.content (λ all. (length all ≤ GRAPH_LIMIT) × ((graph : List Triple) × IsDocument all graph))
+IsGraph f = IfSome f.content (λ all. (length all ≤ graph_limit) × ((graph : List Triple) × IsDocument all graph))
 
 -- where the content is told, it is within its limit and refused as a document
 abbrev pub IsNoGraph : FileRead → NtError → Type 0
-IsNoGraph f e = IfSome f.content (λ all. (length all ≤ GRAPH_LIMIT) × (read_document all ≡ Err e))
+IsNoGraph f e = IfSome f.content (λ all. (length all ≤ graph_limit) × (read_document all ≡ Err e))
 
 -- where the content is told, it is within its limit, and refused as a query for this reason at this place
 abbrev pub IsNoQuery : FileRead → SyntaxKind → ℕ → Type 0
-IsNoQuery f kind place = IfSome f.content (λ all. (length all ≤ QUERY_LIMIT) × IsRefused all kind place)
+IsNoQuery f kind place = IfSome f.content (λ all. (length all ≤ query_limit) × IsRefused all kind place)
 
 -- where the content is told, it is a query within its limit that is so
 abbrev pub IsQueryThat : FileRead → (Query → Type 0) → Type 0
-IsQueryThat f P = IfSome f.content (λ all. (length all ≤ QUERY_LIMIT) × ((q : Query) × Accepted all q × P q))
+IsQueryThat f P = IfSome f.content (λ all. (length all ≤ query_limit) × ((q : Query) × Accepted all q × P q))
 
 -- where the content is told, it is a registry within its limit
 abbrev pub IsRegistryFile : FileRead → Type 0
-IsRegistryFile f = IfSome f.content (λ all. (length all ≤ REGISTRY_LIMIT) × ((es : List EndpointParts) × (read_registry all ≡ Ok es)))
+IsRegistryFile f = IfSome f.content (λ all. (length all ≤ registry_limit) × ((es : List EndpointParts) × (read_registry all ≡ Ok es)))
 
 -- where the content is told, it is within its limit and refused as a registry
 abbrev pub IsNoRegistry : FileRead → RegistryError → Type 0
-IsNoRegistry f e = IfSome f.content (λ all. (length all ≤ REGISTRY_LIMIT) × (read_registry all ≡ Err e))
+IsNoRegistry f e = IfSome f.content (λ all. (length all ≤ registry_limit) × (read_registry all ≡ Err e))
 
 -- where the content is told, it is within its limit, and these are the registry's endpoints
 abbrev pub IsRegistryOf : FileRead → List EndpointParts → Type 0
-IsRegistryOf f es = IfSome f.content (λ all. (length all ≤ REGISTRY_LIMIT) × (read_registry all ≡ Ok es))
+IsRegistryOf f es = IfSome f.content (λ all. (length all ≤ registry_limit) × (read_registry all ≡ Ok es))
 
 -- where the content is told, it is within its limit and accepted as this query
 abbrev pub IsQueryOf : FileRead → Query → Type 0
-IsQueryOf f q = IfSome f.content (λ all. (length all ≤ QUERY_LIMIT) × Accepted all q)
+IsQueryOf f q = IfSome f.content (λ all. (length all ≤ query_limit) × Accepted all q)
 
 -- where the content is told, it is within its limit, and the registry has this endpoint
 abbrev pub IsMember : FileRead → EndpointParts → Type 0
-IsMember f e = IfSome f.content (λ all. (length all ≤ REGISTRY_LIMIT) × ((es : List EndpointParts) × (at : ℕ) × (read_registry all ≡ Ok es) × (slice_get es at ≡ Some e)))
+IsMember f e = IfSome f.content (λ all. (length all ≤ registry_limit) × ((es : List EndpointParts) × (at : ℕ) × (read_registry all ≡ Ok es) × (slice_get es at ≡ Some e)))

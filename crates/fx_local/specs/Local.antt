@@ -9,7 +9,7 @@ use Rattle.fx_grammar.specs.declared.refusals.SyntaxKind.{SyntaxKind}
 use Rattle.fx_ntriples.specs.Forms.{IsDocument}
 use Rattle.fx_ntriples.specs.declared.faults.NtError.{NtError}
 use Rattle.fx_results.specs.Documents.{document}
-use Rattle.fx_local.specs.declared.limits.TheConstants.{GRAPH_LIMIT, QUERY_LIMIT}
+use Rattle.fx_local.specs.Limits.{graph_limit, query_limit}
 use Rattle.fx_local.specs.declared.statuses.Status.{Status}
 use Rattle.fx_local.specs.declared.statuses.Status.TheVariants as status
 use Rattle.fx_local.specs.Files.{FileRead, HasFailed, IsTooLong, IsGraph, IsNoGraph, IsNoQuery, IsQueryThat}
@@ -59,7 +59,7 @@ IsReported g q status.GraphRefused text = (e : NtError) × IsNoGraph g e × (tex
 IsReported g q status.QueryRefused text = IsGraph g × ((kind : SyntaxKind) × (at : ℕ) × IsNoQuery q kind at × (text ≡ query_refused kind at))
 IsReported g q status.UnknownService text = IsGraph g × ((iri : List ℕ) × IsQueryThat q (HasPlain iri) × (text ≡ unknown_service iri))
 IsReported g q status.ReadFault text = (HasFailed g × (text ≡ cannot_read g.name)) ⊎ (IsGraph g × HasFailed q × (text ≡ cannot_read q.name))
-IsReported g q status.FileTooLong text = (IsTooLong GRAPH_LIMIT g × (text ≡ graph_too_long g.name)) ⊎ (IsGraph g × IsTooLong QUERY_LIMIT q × (text ≡ query_too_long q.name))
+IsReported g q status.FileTooLong text = (IsTooLong graph_limit g × (text ≡ graph_too_long g.name)) ⊎ (IsGraph g × IsTooLong query_limit q × (text ≡ query_too_long q.name))
 
 -- what each status leaves on standard output: the document, a front of it where a write failed, and else nothing new
 abbrev pub IsWritten : FileRead → FileRead → Status → List ℕ → List ℕ → Type 0

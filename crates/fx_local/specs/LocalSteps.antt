@@ -9,7 +9,7 @@ use Rattle.fx_algebra.specs.Occurrences.{services}
 use Rattle.fx_outside.specs.Streams.{AppendsFront}
 use Rattle.fx_results.specs.Documents.{document}
 use Rattle.fx_grammar.specs.Accepted.{Accepted}
-use Rattle.fx_local.specs.declared.limits.TheConstants.{GRAPH_LIMIT, QUERY_LIMIT}
+use Rattle.fx_local.specs.Limits.{graph_limit, query_limit}
 use Rattle.fx_ntriples.specs.Forms.{IsDocument}
 use Rattle.fx_ntriples.specs.declared.faults.NtError.TheVariants as error
 use Rattle.fx_local.specs.declared.refusals.GraphRefusal.{GraphRefusal}
@@ -37,18 +37,18 @@ GivesFile f limit (Err file.Memory) = Unit {0}
 
 -- the graph of a file, or why there is none
 abbrev pub GivesGraph : FileRead → Result (List Triple) GraphRefusal → Type 0
-GivesGraph f (Ok graph) = IfSome f.content (λ all. (length all ≤ GRAPH_LIMIT) × IsDocument all graph)
+GivesGraph f (Ok graph) = IfSome f.content (λ all. (length all ≤ graph_limit) × IsDocument all graph)
 GivesGraph f (Err graph.Fault) = HasFailed f
-GivesGraph f (Err graph.TooLong) = IsTooLong GRAPH_LIMIT f
+GivesGraph f (Err graph.TooLong) = IsTooLong graph_limit f
 GivesGraph f (Err (graph.Refused error.Memory)) = Unit {0}
 GivesGraph f (Err (graph.Refused e)) = IsNoGraph f e
 GivesGraph f (Err graph.Memory) = Unit {0}
 
 -- the query of a file, or why there is none
 abbrev pub GivesQuery : FileRead → Result Query QueryRefusal → Type 0
-GivesQuery f (Ok query) = IfSome f.content (λ all. (length all ≤ QUERY_LIMIT) × Accepted all query)
+GivesQuery f (Ok query) = IfSome f.content (λ all. (length all ≤ query_limit) × Accepted all query)
 GivesQuery f (Err query.Fault) = HasFailed f
-GivesQuery f (Err query.TooLong) = IsTooLong QUERY_LIMIT f
+GivesQuery f (Err query.TooLong) = IsTooLong query_limit f
 GivesQuery f (Err (query.Refused kind place)) = IsNoQuery f kind place
 GivesQuery f (Err query.Memory) = Unit {0}
 

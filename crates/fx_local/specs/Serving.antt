@@ -11,7 +11,7 @@ use Rattle.fx_member.specs.Served.{IsServed}
 use Rattle.fx_local.specs.Files.{FileRead, HasFailed, IsTooLong, IsNoGraph}
 use Rattle.fx_local.specs.Lines.{Gains, cannot_read, graph_refused, graph_too_long, no_memory, cannot_serve}
 use Rattle.fx_local.specs.Sinks.{SinkWritten}
-use Rattle.fx_local.specs.declared.limits.TheConstants.{GRAPH_LIMIT}
+use Rattle.fx_local.specs.Limits.{graph_limit}
 use Rattle.fx_local.specs.declared.serving.Ending.{Ending}
 use Rattle.fx_local.specs.declared.serving.Ending.TheVariants.{Replied, ReadFault, WriteFault}
 use Rattle.fx_local.specs.declared.statuses.Status.{Status}
@@ -25,12 +25,13 @@ pub record Visit : Type 0 where
   pub output : Output
   pub ending : Ending
 
--- what was written is the whole reply that the graph's member gives to the input; a front of it only where a write failed, and
--- nothing only where a read failed
+-- what was written is the whole reply that the graph's member gives to the input, and nothing failed; a front of it only where a write failed, and no read did;
+-- and nothing only where a read failed, and no write did
 abbrev pub IsEnded : List Triple → List ℕ → Output → Ending → Type 0
-IsEnded graph input output (Replied code) = IsServed graph input code output.held
-IsEnded graph input output ReadFault = (output.held ≡ []) × (0 < output.read_faults)
-IsEnded graph input output WriteFault = ((code : ℕ) × (reply : List ℕ) × IsServed graph input code reply × AppendsFront [] output.held reply) × (0 < output.write_faults)
+IsEnded graph input output (Replied code) = IsServed graph input code output.held × (output.read_faults ≡ 0) × (output.write_faults ≡ 0)
+IsEnded graph input output ReadFault = (output.held ≡ []) × (0 < output.read_faults) × (output.write_faults ≡ 0)
+IsEnded graph input output WriteFault =
+    ((code : ℕ) × (reply : List ℕ) × IsServed graph input code reply × AppendsFront [] output.held reply) × (0 < output.write_faults) × (output.read_faults ≡ 0)
 
 abbrev pub IsVisit : List Triple → Visit → Type 0
 IsVisit graph v = IsEnded graph v.input v.output v.ending
@@ -67,7 +68,7 @@ ending_lines number (ending ∷ endings) = ending_line number ending ++ ending_l
 
 -- the graph of a file: where the content is told it is an N-Triples document of it within its limit
 abbrev pub IsGraphOf : FileRead → List Triple → Type 0
-IsGraphOf g graph = IfSome g.content (λ all. (length all ≤ GRAPH_LIMIT) × IsDocument all graph)
+IsGraphOf g graph = IfSome g.content (λ all. (length all ≤ graph_limit) × IsDocument all graph)
 
 -- the door is open at the address
 abbrev pub IsOpen : DoorSeen → List ℕ → Type 0
@@ -125,7 +126,7 @@ IsServingReported before after address count graph s lines last = ⊥
 abbrev pub IsMemberReported : FileRead → DoorSeen → DoorSeen → List ℕ → ℕ → Status → List ℕ → List ℕ → Type 0
 IsMemberReported g before after address count status.GraphRefused lines last = (e : NtError) × IsNoGraph g e × (lines ≡ []) × (last ≡ graph_refused e) × (after ≡ before)
 IsMemberReported g before after address count status.ReadFault lines last = HasFailed g × (lines ≡ []) × (last ≡ cannot_read g.name) × (after ≡ before)
-IsMemberReported g before after address count status.FileTooLong lines last = IsTooLong GRAPH_LIMIT g × (lines ≡ []) × (last ≡ graph_too_long g.name) × (after ≡ before)
+IsMemberReported g before after address count status.FileTooLong lines last = IsTooLong graph_limit g × (lines ≡ []) × (last ≡ graph_too_long g.name) × (after ≡ before)
 IsMemberReported g before after address count status.NoMemory lines last = ((lines ≡ []) × (last ≡ no_memory) × (after ≡ before)) ⊎ ((graph : List Triple) × IsGraphOf g graph × IsServingReported before after address count graph status.NoMemory lines last)
 IsMemberReported g before after address count s lines last = (graph : List Triple) × IsGraphOf g graph × IsServingReported before after address count graph s lines last
 

@@ -136,6 +136,7 @@ fn serve_conn<L: Source + Sink>(
 ) -> Result<Ending, DoorError>
     ensures ended { IsTrue L.tells_left → IsTrue L.tells_held → L.held conn.old ≡ [] → L.read_faults conn.old ≡ 0 → L.write_faults conn.old ≡ 0 → IfOk result (IsEnded store.now (L.left conn.old) (output_of (L.held conn.new) (L.read_faults conn.new) (L.write_faults conn.new))) }
     ensures memory { IfErr result (λ e. e ≡ DoorError.Memory) }
+    ensures nothing { IsTrue L.tells_held → IfErr result (λ _. L.held conn.new ≡ L.held conn.old) }
 {
     match serve_one(alloc, store, conn) {
         Ok(served) => Ok(Ending::Replied(served.status)),

@@ -45,7 +45,7 @@ use Rattle.fx_engine.specs.Asks.{IsLongAsk}
 use Rattle.fx_pool.specs.declared.jobs.BadReply.{BadReply}
 use Rattle.fx_engine.specs.Mediation.{Federated, HasBadAsk, HasBadBatch, HasLongAsk, HasLongBatch, HasPlain as HasPlainCall, Planned, Serve}
 use Rattle.fx_commands.specs.FedRefusals.{fed_status_of}
-use Rattle.fx_local.specs.declared.limits.TheConstants.{GRAPH_LIMIT, QUERY_LIMIT, REGISTRY_LIMIT}
+use Rattle.fx_local.specs.Limits.{graph_limit, query_limit, registry_limit}
 use Rattle.fx_local.specs.declared.statuses.Status.{Status}
 use Rattle.fx_local.specs.declared.statuses.Status.TheVariants as status
 use Rattle.fx_commands.specs.Asking.{IsRefusedBefore, WiresSeen}
@@ -70,44 +70,44 @@ use Rattle.fx_program.proofs.HeadlineLemmas.{of_told, query_told, registry_told}
 within_limit : (f : FileRead) (limit : ℕ) (P : List ℕ → Type 0) → Holds f limit P → IsTooLong limit f → ⊥
 within_limit f limit P h k = let long : limit < length h.0 = of_told (λ all. limit < length all) f.content h.0 h.1 k in let short : length h.0 ≤ limit = h.2 in omega (arith, long, short)
 
-a_registry_is : (r : FileRead) (es : List EndpointParts) (e : RegistryError) → Holds r REGISTRY_LIMIT (λ content. read_registry content ≡ Ok es) → IsNoRegistry r e → ⊥
+a_registry_is : (r : FileRead) (es : List EndpointParts) (e : RegistryError) → Holds r registry_limit (λ content. read_registry content ≡ Ok es) → IsNoRegistry r e → ⊥
 a_registry_is r es e h k =
-    let found = of_told (λ all. (length all ≤ REGISTRY_LIMIT) × (read_registry all ≡ Err e)) r.content h.0 h.1 k in
+    let found = of_told (λ all. (length all ≤ registry_limit) × (read_registry all ≡ Err e)) r.content h.0 h.1 k in
     clash (read_registry h.0) h.3 found.1
   where
     clash : (o : _) → o ≡ Ok es → o ≡ Err e → ⊥
     clash o a b = cc
 
-a_query_is : (q : FileRead) (asked : Query) (kind : SyntaxKind) (at : ℕ) → Holds q QUERY_LIMIT (λ content. Accepted content asked) → IsNoQuery q kind at → ⊥
-a_query_is q asked kind at h k = never_both_holds h.0 kind at asked (of_told (λ all. (length all ≤ QUERY_LIMIT) × IsRefused all kind at) q.content h.0 h.1 k).1 h.3
+a_query_is : (q : FileRead) (asked : Query) (kind : SyntaxKind) (at : ℕ) → Holds q query_limit (λ content. Accepted content asked) → IsNoQuery q kind at → ⊥
+a_query_is q asked kind at h k = never_both_holds h.0 kind at asked (of_told (λ all. (length all ≤ query_limit) × IsRefused all kind at) q.content h.0 h.1 k).1 h.3
 
-a_graph_is : (g : FileRead) (graph : List Triple) (e : NtError) → Holds g GRAPH_LIMIT (λ content. IsDocument content graph) → IsNoGraph g e → ⊥
+a_graph_is : (g : FileRead) (graph : List Triple) (e : NtError) → Holds g graph_limit (λ content. IsDocument content graph) → IsNoGraph g e → ⊥
 a_graph_is g graph e h k =
-    let found = of_told (λ all. (length all ≤ GRAPH_LIMIT) × (read_document all ≡ Err e)) g.content h.0 h.1 k in
+    let found = of_told (λ all. (length all ≤ graph_limit) × (read_document all ≡ Err e)) g.content h.0 h.1 k in
     let reads = document_reads h.0 graph h.3 in
     clash (read_document h.0) reads found.1
   where
     clash : (o : _) → o ≡ Ok graph → o ≡ Err e → ⊥
     clash o a b = cc
 
-the_query : (q : FileRead) (asked : Query) (P : Query → Type 0) → Holds q QUERY_LIMIT (λ content. Accepted content asked) → IsQueryThat q P → P asked
+the_query : (q : FileRead) (asked : Query) (P : Query → Type 0) → Holds q query_limit (λ content. Accepted content asked) → IsQueryThat q P → P asked
 the_query q asked P h k =
-    let found = of_told (λ all. (length all ≤ QUERY_LIMIT) × ((x : Query) × Accepted all x × P x)) q.content h.0 h.1 k in
+    let found = of_told (λ all. (length all ≤ query_limit) × ((x : Query) × Accepted all x × P x)) q.content h.0 h.1 k in
     subst P (one_query_holds h.0 found.1.0 asked found.1.1 h.3) found.1.2
 
 read_well : (f : FileRead) → IsReadWell f → f.before < f.after → ⊥
 read_well f h k = let same : f.after ≡ f.before = h in let more : f.before < f.after = k in omega (arith, same, more)
 
 -- what ends a run before anything is asked is want of memory
-before_asking : (r q : FileRead) (es : List EndpointParts) (asked : Query) (s : Status) (text : List ℕ) → Holds r REGISTRY_LIMIT (λ content. read_registry content ≡ Ok es) → Holds q QUERY_LIMIT (λ content. Accepted content asked) → IsReadWell r → IsReadWell q
+before_asking : (r q : FileRead) (es : List EndpointParts) (asked : Query) (s : Status) (text : List ℕ) → Holds r registry_limit (λ content. read_registry content ≡ Ok es) → Holds q query_limit (λ content. Accepted content asked) → IsReadWell r → IsReadWell q
     → IsRefusedBefore r q s text → IsDoneOrWant s
 before_asking r q es asked status.NoMemory text h k a b c = inr refl
 before_asking r q es asked status.RegistryRefused text h k a b c = absurd (a_registry_is r es c.0 h c.1)
 before_asking r q es asked status.QueryRefused text h k a b c = absurd (a_query_is q asked c.1.0 c.1.1 k c.1.2)
 before_asking r q es asked status.ReadFault text h k a b (inl c) = absurd (read_well r a c.0)
 before_asking r q es asked status.ReadFault text h k a b (inr c) = absurd (read_well q b c.1)
-before_asking r q es asked status.FileTooLong text h k a b (inl c) = absurd (within_limit r REGISTRY_LIMIT _ h c.0)
-before_asking r q es asked status.FileTooLong text h k a b (inr c) = absurd (within_limit q QUERY_LIMIT _ k c.1)
+before_asking r q es asked status.FileTooLong text h k a b (inl c) = absurd (within_limit r registry_limit _ h c.0)
+before_asking r q es asked status.FileTooLong text h k a b (inr c) = absurd (within_limit q query_limit _ k c.1)
 before_asking r q es asked status.Done text h k a b c = absurd c
 before_asking r q es asked status.Usage text h k a b c = absurd c
 before_asking r q es asked status.EndpointFault text h k a b c = absurd c
@@ -286,7 +286,7 @@ explain_completes w r q s text out (inr (Err e, made, end)) cut es asked graphs 
 -- ---- `local`
 
 pub local_completes : (g q : FileRead) (s : Status) (text : List ℕ) (out err : SinkWritten) (P : List ℕ → Type 0) → IsReported g q s text → (s ≡ status.WriteFault → IsCutShort P out err)
-    → (graph : List Triple) (asked : Query) → Holds g GRAPH_LIMIT (λ content. IsDocument content graph) → Holds q QUERY_LIMIT (λ content. Accepted content asked) → first_plain (services asked) ≡ None
+    → (graph : List Triple) (asked : Query) → Holds g graph_limit (λ content. IsDocument content graph) → Holds q query_limit (λ content. Accepted content asked) → first_plain (services asked) ≡ None
     → IsReadWell g → IsReadWell q → IsWrittenWell out → IsWrittenWell err → IsDoneOrWant s
 local_completes g q status.Done text out err P reported cut graph asked h k silent a b well lines = inl refl
 local_completes g q status.NoMemory text out err P reported cut graph asked h k silent a b well lines = inr refl
@@ -299,8 +299,8 @@ local_completes g q status.UnknownService text out err P reported cut graph aske
     clash iri h = cc
 local_completes g q status.ReadFault text out err P (inl c) cut graph asked h k silent a b well lines = absurd (read_well g a c.0)
 local_completes g q status.ReadFault text out err P (inr c) cut graph asked h k silent a b well lines = absurd (read_well q b c.1)
-local_completes g q status.FileTooLong text out err P (inl c) cut graph asked h k silent a b well lines = absurd (within_limit g GRAPH_LIMIT _ h c.0)
-local_completes g q status.FileTooLong text out err P (inr c) cut graph asked h k silent a b well lines = absurd (within_limit q QUERY_LIMIT _ k c.1)
+local_completes g q status.FileTooLong text out err P (inl c) cut graph asked h k silent a b well lines = absurd (within_limit g graph_limit _ h c.0)
+local_completes g q status.FileTooLong text out err P (inr c) cut graph asked h k silent a b well lines = absurd (within_limit q query_limit _ k c.1)
 local_completes g q status.Usage text out err P reported cut graph asked h k silent a b well lines = absurd reported
 local_completes g q status.RegistryRefused text out err P reported cut graph asked h k silent a b well lines = absurd reported
 local_completes g q status.EndpointFault text out err P reported cut graph asked h k silent a b well lines = absurd reported
@@ -311,13 +311,13 @@ local_completes g q status.DoorFault text out err P reported cut graph asked h k
 -- ---- `member`
 
 pub member_completes : (g : FileRead) (door later : DoorSeen) (address : List ℕ) (count : ℕ) (s : Status) (before text : List ℕ) (err : SinkWritten) → IsMemberReported g door later address count s before text → (s ≡ status.WriteFault → sink.HasFailed err)
-    → (graph : List Triple) → Holds g GRAPH_LIMIT (λ content. IsDocument content graph) → IsReadWell g → later.faults ≡ door.faults → IsWrittenWell err → IsDoneOrWant s
+    → (graph : List Triple) → Holds g graph_limit (λ content. IsDocument content graph) → IsReadWell g → later.faults ≡ door.faults → IsWrittenWell err → IsDoneOrWant s
 member_completes g door later address count status.Done before text err reported cut graph h a same lines = inl refl
 member_completes g door later address count status.NoMemory before text err reported cut graph h a same lines = inr refl
 member_completes g door later address count status.WriteFault before text err reported cut graph h a same lines = absurd (lines (cut refl))
 member_completes g door later address count status.GraphRefused before text err reported cut graph h a same lines = absurd (a_graph_is g graph reported.0 h reported.1)
 member_completes g door later address count status.ReadFault before text err reported cut graph h a same lines = absurd (read_well g a reported.0)
-member_completes g door later address count status.FileTooLong before text err reported cut graph h a same lines = absurd (within_limit g GRAPH_LIMIT _ h reported.0)
+member_completes g door later address count status.FileTooLong before text err reported cut graph h a same lines = absurd (within_limit g graph_limit _ h reported.0)
 member_completes g door later address count status.DoorFault before text err reported cut graph h a same lines = let rose : door.faults < later.faults = reported.2.0 in let stayed : later.faults ≡ door.faults = same in absurd (omega (arith, rose, stayed))
 member_completes g door later address count status.Usage before text err reported cut graph h a same lines = absurd reported.2
 member_completes g door later address count status.QueryRefused before text err reported cut graph h a same lines = absurd reported.2

@@ -30,7 +30,7 @@ use Rattle.fx_services.specs.declared.noted.Down.{Down}
 use Rattle.fx_services.specs.declared.noted.DownCause.{DownCause}
 use Rattle.fx_engine.specs.declared.mediator.FedError.TheVariants as fed
 use Rattle.fx_engine.specs.declared.mediator.Outcome.{Outcome}
-use Rattle.fx_local.specs.declared.limits.TheConstants.{GRAPH_LIMIT, QUERY_LIMIT, REGISTRY_LIMIT}
+use Rattle.fx_local.specs.Limits.{graph_limit, query_limit, registry_limit}
 use Rattle.fx_local.specs.declared.statuses.Status.{Status}
 use Rattle.fx_local.specs.declared.statuses.Status.TheVariants as status
 use Rattle.fx_commands.specs.Asking.{WiresSeen}
@@ -58,11 +58,11 @@ of_told P o content is h = subst (λ (v : Option (List ℕ)). IfSome v P) is h
 pub same_registry : (all : List ℕ) (es others : List EndpointParts) → read_registry all ≡ Ok es → read_registry all ≡ Ok others → others ≡ es
 same_registry all es others h k = cc
 
-pub registry_told : (r : FileRead) (es others : List EndpointParts) → Holds r REGISTRY_LIMIT (λ content. read_registry content ≡ Ok es) → IsRegistryOf r others → others ≡ es
-registry_told r es others h k = same_registry h.0 es others h.3 (of_told (λ all. (length all ≤ REGISTRY_LIMIT) × (read_registry all ≡ Ok others)) r.content h.0 h.1 k).1
+pub registry_told : (r : FileRead) (es others : List EndpointParts) → Holds r registry_limit (λ content. read_registry content ≡ Ok es) → IsRegistryOf r others → others ≡ es
+registry_told r es others h k = same_registry h.0 es others h.3 (of_told (λ all. (length all ≤ registry_limit) × (read_registry all ≡ Ok others)) r.content h.0 h.1 k).1
 
-pub query_told : (q : FileRead) (asked other : Query) → Holds q QUERY_LIMIT (λ content. Accepted content asked) → IsQueryOf q other → other ≡ asked
-query_told q asked other h k = one_query_holds h.0 other asked (of_told (λ all. (length all ≤ QUERY_LIMIT) × Accepted all other) q.content h.0 h.1 k).1 h.3
+pub query_told : (q : FileRead) (asked other : Query) → Holds q query_limit (λ content. Accepted content asked) → IsQueryOf q other → other ≡ asked
+query_told q asked other h k = one_query_holds h.0 other asked (of_told (λ all. (length all ≤ query_limit) × Accepted all other) q.content h.0 h.1 k).1 h.3
 
 nothing_more : (old new text : List ℕ) → AppendsFront old new text → text ≡ [] → new ≡ old ++ []
 nothing_more old new text front is = front.1 ∙ ap (λ (t : List ℕ). old ++ take front.0 t) is ∙ ap (λ (t : List ℕ). old ++ t) (take_all front.0 [] (omega arith))
@@ -86,7 +86,7 @@ of_query asked calls c first among =
 plain_at : (asked : Query) (calls : List Call) (why : DownCause) (iri address : List ℕ) → AreFirst calls (occurrences asked) → HasPlain calls why (λ i. i ≡ iri) → address ≡ iri → IsPlain asked address
 plain_at asked calls why iri address first h same = (h.0.of, of_query asked calls h.0 first h.1, h.2, h.4 ∙ sym same)
 
-query_failed : (w : WiresSeen) (r q : FileRead) (block : ℕ) (text : List ℕ) (es : List EndpointParts) (asked : Query) → Holds r REGISTRY_LIMIT (λ content. read_registry content ≡ Ok es) → Holds q QUERY_LIMIT (λ content. Accepted content asked)
+query_failed : (w : WiresSeen) (r q : FileRead) (block : ℕ) (text : List ℕ) (es : List EndpointParts) (asked : Query) → Holds r registry_limit (λ content. read_registry content ≡ Ok es) → Holds q query_limit (λ content. Accepted content asked)
     → IsQueryReported w r q block status.EndpointFault text → FailedAt w es (IsFailureLine asked) text
 query_failed w r q block text es asked h k (inl (none, before)) = absurd before
 query_failed w r q block text es asked h k (inr (Ok outcome, federated, end)) = absurd end
@@ -160,7 +160,7 @@ explain_done w r q text (inl (none, before)) = absurd before
 explain_done w r q text (inr (Ok parts, made, end)) = end
 explain_done w r q text (inr (Err e, made, end)) = absurd (fed_not_done e (sym end.0))
 
-explain_failed : (w : WiresSeen) (r q : FileRead) (text : List ℕ) (es : List EndpointParts) → Holds r REGISTRY_LIMIT (λ content. read_registry content ≡ Ok es) → IsExplainReported w r q status.EndpointFault text
+explain_failed : (w : WiresSeen) (r q : FileRead) (text : List ℕ) (es : List EndpointParts) → Holds r registry_limit (λ content. read_registry content ≡ Ok es) → IsExplainReported w r q status.EndpointFault text
     → FailedAt w es (λ e line. line ≡ member_failed e.name) text
 explain_failed w r q text es h (inl (none, before)) = absurd before
 explain_failed w r q text es h (inr (Ok parts, made, end)) = absurd end
@@ -214,7 +214,7 @@ explain_headline w r q s text out err reported gains wrote es asked graphs told 
 
 -- ---- `local`
 
-local_wrote : (g q : FileRead) (graph : List Triple) (asked : Query) (s : Status) (old new : List ℕ) → Holds g GRAPH_LIMIT (λ content. IsDocument content graph) → Holds q QUERY_LIMIT (λ content. Accepted content asked) → s ≡ status.Done → IsWritten g q s old new
+local_wrote : (g q : FileRead) (graph : List Triple) (asked : Query) (s : Status) (old new : List ℕ) → Holds g graph_limit (λ content. IsDocument content graph) → Holds q query_limit (λ content. Accepted content asked) → s ≡ status.Done → IsWritten g q s old new
     → new ≡ old ++ document (answer asked graph no_graphs (all_numbers (services asked)))
 local_wrote g q graph asked s old new h k done written =
     let wrote = subst (λ (v : Status). IsWritten g q v old new) done written in
@@ -231,13 +231,13 @@ local_wrote g q graph asked s old new h k done written =
     one_graph : (all : List ℕ) (graph other : List Triple) → IsDocument all graph → IsDocument all other → other ≡ graph
     one_graph all graph other a b = let here = document_reads all graph a in let there = document_reads all other b in cc
 
-local_lines : (q : FileRead) (asked : Query) (lines : List ℕ) → Holds q QUERY_LIMIT (λ content. Accepted content asked) → IsQueryThat q (HasLines lines) → lines ≡ silent_lines (services asked)
+local_lines : (q : FileRead) (asked : Query) (lines : List ℕ) → Holds q query_limit (λ content. Accepted content asked) → IsQueryThat q (HasLines lines) → lines ≡ silent_lines (services asked)
 local_lines q asked lines k h =
     let found = of_told _ q.content k.0 k.1 h in
     found.1.2.1 ∙ ap (λ (v : Query). silent_lines (services v)) (one_query_holds k.0 found.1.0 asked found.1.1 k.3)
 
 pub local_headline : (g q : FileRead) (s : Status) (out err : SinkWritten) → (IsTrue out.tells → IsWritten g q s out.old out.new) → (s ≡ status.Done → IsTrue err.tells → (lines : List ℕ) × IsQueryThat q (HasLines lines) × (err.new ≡ err.old ++ lines))
-    → (graph : List Triple) (asked : Query) → Holds g GRAPH_LIMIT (λ content. IsDocument content graph) → Holds q QUERY_LIMIT (λ content. Accepted content asked)
+    → (graph : List Triple) (asked : Query) → Holds g graph_limit (λ content. IsDocument content graph) → Holds q query_limit (λ content. Accepted content asked)
     → s ≡ status.Done → AreWritten (document (answer asked graph no_graphs (all_numbers (services asked)))) (silent_lines (services asked)) out err
 local_headline g q s out err written lines graph asked h k = λ done. (
   λ tells. local_wrote g q graph asked s out.old out.new h k done (written tells),

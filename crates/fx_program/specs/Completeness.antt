@@ -22,7 +22,7 @@ use Rattle.fx_wire.specs.Exchanges.{Exchange}
 use Rattle.fx_engine.specs.Calls.{occurrences}
 use Rattle.fx_engine.specs.Mediation.{Serve}
 use Rattle.fx_engine.specs.Unknown.{unknown_of}
-use Rattle.fx_local.specs.declared.limits.TheConstants.{GRAPH_LIMIT, QUERY_LIMIT}
+use Rattle.fx_local.specs.Limits.{graph_limit, query_limit}
 use Rattle.fx_local.specs.declared.statuses.Status.{Status}
 use Rattle.fx_local.specs.declared.statuses.Status.TheVariants as status
 use Rattle.fx_commands.specs.Asking.{WiresSeen}
@@ -80,11 +80,11 @@ Completes read w door later (Some (planned r q)) s out err =
     → AreRepliesShort w → AreAsksShort endpoints asked
     → IsDoneOrWant s
 Completes read w door later (Some (over_file g q)) s out err =
-    (graph : List Triple) (asked : Query) → Holds (read g) GRAPH_LIMIT (λ content. IsDocument content graph) → Holds (read q) QUERY_LIMIT (λ content. Accepted content asked) → first_plain (services asked) ≡ None
+    (graph : List Triple) (asked : Query) → Holds (read g) graph_limit (λ content. IsDocument content graph) → Holds (read q) query_limit (λ content. Accepted content asked) → first_plain (services asked) ≡ None
     → IsReadWell (read g) → IsReadWell (read q) → IsWrittenWell out → IsWrittenWell err
     → IsDoneOrWant s
 Completes read w door later (Some (served g address count)) s out err =
-    (graph : List Triple) → Holds (read g) GRAPH_LIMIT (λ content. IsDocument content graph)
+    (graph : List Triple) → Holds (read g) graph_limit (λ content. IsDocument content graph)
     → IsReadWell (read g) → later.faults ≡ door.faults → IsWrittenWell err
     → IsDoneOrWant s
 Completes read w door later (Some (generated size)) s out err = IsWrittenWell out → IsDoneOrWant s

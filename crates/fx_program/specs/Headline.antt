@@ -16,7 +16,7 @@ use Rattle.fx_traffic.specs.Gains.{TellAll, faults_at}
 use Rattle.fx_engine.specs.Mediation.{Serve}
 use Rattle.fx_engine.specs.Sections.{parts_with}
 use Rattle.fx_services.specs.declared.noted.Down.{Down}
-use Rattle.fx_local.specs.declared.limits.TheConstants.{GRAPH_LIMIT, QUERY_LIMIT, REGISTRY_LIMIT}
+use Rattle.fx_local.specs.Limits.{graph_limit, query_limit, registry_limit}
 use Rattle.fx_local.specs.declared.statuses.Status.{Status}
 use Rattle.fx_local.specs.declared.statuses.Status.TheVariants as status
 use Rattle.fx_commands.specs.Asking.{WiresSeen}
@@ -31,8 +31,8 @@ use Rattle.fx_local.specs.Sinks.{SinkWritten}
 
 -- the registry has these endpoints, the query is this, and each wire tells the graph of each endpoint
 pub record IsTold (w : WiresSeen) (r q : FileRead) (endpoints : List EndpointParts) (asked : Query) (graphs : List (List Triple)) : Type 0 where
-  pub registry : Holds r REGISTRY_LIMIT (λ content. read_registry content ≡ Ok endpoints)
-  pub query : Holds q QUERY_LIMIT (λ content. Accepted content asked)
+  pub registry : Holds r registry_limit (λ content. read_registry content ≡ Ok endpoints)
+  pub query : Holds q query_limit (λ content. Accepted content asked)
   pub graphs_are : TellAll w.before endpoints graphs
 
 -- standard output gained this and nothing else, and standard error these lines
@@ -56,7 +56,7 @@ Headline read w (Some (planned r q)) s out err =
     (endpoints : List EndpointParts) (asked : Query) (graphs : List (List Triple)) → IsTold w (read r) (read q) endpoints asked graphs
     → (s ≡ status.Done → AreWritten (explained (parts_with (sources graphs) asked) endpoints) [] out err) × NamesFailed w endpoints (λ e line. line ≡ member_failed e.name) s err
 Headline read w (Some (over_file g q)) s out err =
-    (graph : List Triple) (asked : Query) → Holds (read g) GRAPH_LIMIT (λ content. IsDocument content graph) → Holds (read q) QUERY_LIMIT (λ content. Accepted content asked)
+    (graph : List Triple) (asked : Query) → Holds (read g) graph_limit (λ content. IsDocument content graph) → Holds (read q) query_limit (λ content. Accepted content asked)
     → s ≡ status.Done → AreWritten (document (answer asked graph no_graphs (all_numbers (services asked)))) (silent_lines (services asked)) out err
 Headline read w (Some (generated size)) s out err = s ≡ status.Done → AreWritten (summary size) [] out err
 Headline read w asked s out err = Unit {0}

@@ -1,7 +1,6 @@
 use Rattle.std.proofs.Common.{◌≡◌, ◌∙◌, [], map, subst, sym, rules, List, Ok, Err}
 use Rattle.fx_algebra.specs.declared.units.Row.{Row}
 use Rattle.fx_flows.specs.RunFlows.{RunFlowed}
-use Rattle.fx_flows.specs.Teams.{StepAsked}
 use Rattle.fx_flows.specs.declared.flows.FlowError.TheVariants as flow
 use Rattle.fx_flows.proofs.FlowLemmas.{not_flowed}
 use Rattle.fx_flows.proofs.RowsLemmas.{none_left, nothing_enters, onwards, stopped_there}
@@ -19,39 +18,24 @@ returns-then-is_none g c =
     subst (λ (v : List Row). RunFlowed g.W.Wire.tells_log g.W.Wire.counts_alone (map g.W.Wire.seen c.args.wires.now) wires c.args.endpoints.now c.args.units.now c.args.block c.args.rows.items (Ok v)) (sym c.new.ensures.items)
     (c.loop-unit.invariant.so_far wires (Ok []) (nothing_enters g.W.Wire.tells_log g.W.Wire.counts_alone wires c.args.endpoints.now c.loop-unit.left.now c.args.block c.loop-unit.entering.items c.in-Ok.batches.items c.in-Ok.ensures none))
 
-pub returns-then-len-wires : goal.returns-then-len-wires
-returns-then-len-wires g c = c.loop-unit.invariant.so_far (map g.W.Wire.seen c.piped.new.wires) _ (c.piped.ensures c.loop-unit.entering.items c.in-Ok.ensures)
-
 pub returns-in-Err : goal.returns-in-Err
 returns-in-Err g c =
-    let tells = g.W.Wire.tells_log in
-    let alone = g.W.Wire.counts_alone in
     let s = map g.W.Wire.seen c.loop-unit.wires in
-    let t = map g.W.Wire.seen c.ask_rounds.new.wires in
-    let es = c.args.endpoints.now in
-    let u = c.in-Some.unit.now in
-    let asked = subst (λ (v : List (List Row)). StepAsked tells alone s t es u v (Err c.in-Err.error)) c.as_slice-in-Some.ensures.value c.in-Err.ensures in
+    let t = map g.W.Wire.seen c.ask_unit.new.wires in
     c.loop-unit.invariant.so_far t (Err c.in-Err.error)
-    (stopped_there tells alone es u c.loop-unit.left.now c.in-Some.others.now c.in-Some.ensures.whole c.args.block c.requires.block.0 c.loop-unit.entering.items c.in-Ok.batches.items c.in-Ok.ensures s t c.in-Err.error asked)
+    (stopped_there g.W.Wire.tells_log g.W.Wire.counts_alone c.args.endpoints.now c.in-Some.unit.now c.loop-unit.left.now c.in-Some.others.now c.in-Some.ensures.whole c.args.block c.loop-unit.entering.items s t c.in-Err.error
+    (c.in-Err.ensures c.loop-unit.entering.items c.in-Ok.ensures))
 
 pub loop-unit-preserved : goal.loop-unit-preserved
 loop-unit-preserved g c =
-    let tells = g.W.Wire.tells_log in
-    let alone = g.W.Wire.counts_alone in
-    let s = map g.W.Wire.seen c.loop-unit.wires in
-    let t = map g.W.Wire.seen c.ask_rounds.new.wires in
-    let es = c.args.endpoints.now in
-    let u = c.in-Some.unit.now in
-    let next = c.in-Ok-ask_rounds.next.items in
-    let asked = subst (λ (v : List (List Row)). StepAsked tells alone s t es u v (Ok next)) c.as_slice-in-Some.ensures.value c.in-Ok-ask_rounds.ensures in
     let laws = g.met.W.Wire g.world.𝓛 g.world.𝓜 g.world.𝓡 ((λ s x. x), (λ x. x), (λ x. x), λ x. x) in
     record {
       wired = search rules;
       fit = c.in-Some.ensures.fit.1;
       within = c.in-Some.ensures.within.1;
       so_far = λ after r k. c.loop-unit.invariant.so_far after r
-          (onwards tells alone es u c.loop-unit.left.now c.in-Some.others.now c.in-Some.ensures.whole c.args.block c.requires.block.0 c.loop-unit.entering.items c.in-Ok.batches.items c.in-Ok.ensures
-          g.W.Wire.seen c.loop-unit.wires c.ask_rounds.new.wires after next r laws.told asked k);
+          (onwards g.W.Wire.tells_log g.W.Wire.counts_alone c.args.endpoints.now c.in-Some.unit.now c.loop-unit.left.now c.in-Some.others.now c.in-Some.ensures.whole c.args.block c.loop-unit.entering.items
+          g.W.Wire.seen c.loop-unit.wires c.ask_unit.new.wires after c.in-Ok-ask_unit.next.items r laws.told (c.in-Ok-ask_unit.ensures c.loop-unit.entering.items c.in-Ok.ensures) k);
     }
 
 pub returns : goal.returns
