@@ -11,9 +11,9 @@ import subprocess
 import sys
 import time
 
-TOP = os.path.dirname(os.path.dirname(os.path.abspath(__file__)))
-PROGRAM = "fedx"
-OUT = f"{TOP}/crates/{PROGRAM}/out"
+import programs
+from sources import OUT, PROGRAM, TOP, add_files, crates, needed, root_of, states_of, sum_of_program
+
 LIBRARIES = f"{OUT}/libraries"
 # How long the last whole run took, in minutes.
 TOOK = f"{OUT}/took"
@@ -27,34 +27,12 @@ MINUTES = {
 }
 
 
-def crates():
-    """What each crate uses, by the lines of crates.txt: the libraries of this repository, and those of the toolchain."""
-    lines = {}
-    with open(f"{TOP}/crates.txt", encoding="utf-8") as text:
-        for line in text:
-            name, colon, uses = line.split("#")[0].partition(":")
-            if colon:
-                lines[name.split()[0]] = uses.split()
-    below = {name: [it for it in uses if it in lines] for name, uses in lines.items()}
-    return below, {name: ["std", *(it for it in uses if it not in lines)] for name, uses in lines.items()}
-
-
-def needed(below, name):
-    """The crate and all that it stands on."""
-    return {name}.union(*(needed(below, it) for it in below[name]))
-
-
 def way(below, name, seen):
     """The minutes from the begin of this crate's proof to the program."""
     if name not in seen:
         above = [way(below, it, seen) for it, under in below.items() if name in under]
         seen[name] = MINUTES.get(name, 1) + max(above, default=0)
     return seen[name]
-
-
-def root_of(name):
-    """The file with which the compiler begins to read a crate."""
-    return "src/main.rt" if os.path.isfile(f"{TOP}/crates/{name}/src/main.rt") else "src/lib.rt"
 
 
 class Workshop:
@@ -64,18 +42,16 @@ class Workshop:
     takes longer than most crates take themselves."""
 
     def __init__(self, below, of_kit, of_gate=False):
-        self.below, self.of_kit, self.of_gate, self.sums = below, of_kit, of_gate, {}
+        self.below, self.of_kit, self.of_gate, self.sums, self.states = below, of_kit, of_gate, {}, {}
         self.kit = os.path.dirname(os.path.dirname(os.path.realpath(shutil.which("rt"))))
         self.version = subprocess.run(["rt", "version"], stdout=subprocess.PIPE, check=True).stdout
 
     def sum(self, name):
         """A sum of all that the proof of a crate reads."""
         if name not in self.sums:
+            self.states[name] = states_of(name)
             total = hashlib.sha256(self.version + repr([self.of_kit[name], [self.sum(it) for it in self.below[name]]]).encode())
-            folders = [f"{TOP}/crates/{name}/{part}" for part in ("src", "specs", "proofs")]
-            for file in sorted(f"{at}/{it}" for folder in folders for at, _, files in os.walk(folder) for it in files):
-                with open(file, "rb") as text:
-                    total.update(repr([os.path.relpath(file, TOP), text.read()]).encode())
+            add_files(total, name)
             self.sums[name] = total.hexdigest()
         return self.sums[name]
 
@@ -121,8 +97,12 @@ class Proof:
             self.process = subprocess.Popen(words, cwd=f"{TOP}/crates/{name}", stdin=subprocess.DEVNULL, stdout=log, stderr=subprocess.STDOUT)
 
     def end(self):
-        """Links a program, and keeps the sum of a library. Returns whether the proof came to a good end."""
+        """Links a program, and keeps the sum of a library. Returns whether the proof came to a good end, over files that are as they were."""
         if self.process.returncode:
+            return False
+        if states_of(self.name) != self.shop.states[self.name]:
+            with open(self.log, "a", encoding="utf-8") as log:
+                log.write("a file of this crate was written to while it was proved\n")
             return False
         if self.is_program:
             return self.link()
@@ -131,28 +111,45 @@ class Proof:
         return True
 
     def link(self):
-        kit, program = self.shop.kit, f"{self.out}/{self.name}"
-        words = [f"{kit}/bin/rattle-link", "--target", "x86_64-unknown-linux-gnu", "--toolchain", f"{kit}/toolchain", "-o", program, f"{program}.o"]
+        """Makes the program under another name first, so that nobody finds half of it."""
+        program = f"{self.out}/{self.name}"
         with open(self.log, "ab") as log:
             how = {"stdin": subprocess.DEVNULL, "stdout": log, "stderr": subprocess.STDOUT, "check": False}
-            return subprocess.run([*words, f"{kit}/c/libos_c.a", f"{kit}/c/liblibc_c.a"], **how).returncode == 0
+            if subprocess.run(linking(self.shop.kit, f"{program}.o", f"{program}.part"), **how).returncode:
+                return False
+        programs.put(f"{program}.part", program)
+        return True
 
     def text(self):
         with open(self.log, encoding="utf-8", errors="replace") as log:
             return log.read()
 
 
+def linking(kit, made, program):
+    """The words that make a program of what the compiler made."""
+    words = [f"{kit}/bin/rattle-link", "--target", "x86_64-unknown-linux-gnu", "--toolchain", f"{kit}/toolchain", "-o", program, made]
+    return [*words, f"{kit}/c/libos_c.a", f"{kit}/c/liblibc_c.a"]
+
+
+def is_looked_at():
+    """Whether standard error is a terminal at which this run is in front, and not in the background."""
+    with contextlib.suppress(OSError):
+        return sys.stderr.isatty() and os.tcgetpgrp(2) == os.getpgrp()
+    return False
+
+
 class Progress:
     """One line that is written over where somebody looks on, and else a line a minute."""
 
     def __init__(self):
-        self.is_seen, self.last = sys.stderr.isatty(), time.monotonic()
+        self.last = time.monotonic()
 
     def say(self, text):
-        sys.stderr.write(f"\r\x1b[Kfedx: {text}\n" if self.is_seen else f"fedx: {text}\n")
+        sys.stderr.write(f"\r\x1b[Kfedx: {text}\n" if is_looked_at() else f"fedx: {text}\n")
+        sys.stderr.flush()
 
     def show(self, text):
-        if self.is_seen:
+        if is_looked_at():
             sys.stderr.write(f"\r\x1b[Kfedx: {text}")
         elif time.monotonic() - self.last >= 60:
             self.last = time.monotonic()
@@ -178,9 +175,7 @@ def begin(shop, order, done, running):
         running.append(Proof(shop, name))
 
 
-def fail(progress, proof, running):
-    for it in running:
-        it.process.terminate()
+def fail(progress, proof):
     progress.say(f"the proof of {proof.name} failed; {proof.log} ends with")
     sys.stderr.write("".join(f"  {line}\n" for line in proof.text().splitlines()[-20:]))
     return 1
@@ -199,48 +194,61 @@ def in_turn():
         yield
 
 
-def is_built(shop):
-    """Whether the program is there, and newer than all that it is made of."""
+def prove(shop, order, done, progress):
+    """Proves the crates that aren't done, and returns a status, as `build` does."""
+    begun, running = time.monotonic(), []
     try:
-        built = os.stat(f"{OUT}/{PROGRAM}").st_mtime
-    except OSError:
-        return False
-    folders = [f"{TOP}/crates/{name}/{part}" for name in shop.below for part in ("src", "specs", "proofs")]
-    files = [f"{at}/{name}" for folder in folders for at, _, names in os.walk(folder) for name in names]
-    return all(os.stat(it).st_mtime <= built for it in [*files, f"{TOP}/crates.txt"])
+        while len(done) < len(order):
+            begin(shop, order, done, running)
+            time.sleep(0.5)
+            for proof in [it for it in running if it.process.poll() is not None]:
+                running.remove(proof)
+                if not proof.end():
+                    return fail(progress, proof)
+                done.add(proof.name)
+            minutes = (time.monotonic() - begun) / 60
+            progress.show(", ".join([*(it.name for it in running), f"{len(done)} of {len(order)} crates", f"{minutes:.0f} minutes"]))
+    finally:
+        for it in running:
+            it.process.terminate()
+    return 0
 
 
 def build(names):
     below, of_kit = crates()
     below = {name: below[name] for name in set().union(*(needed(below, it) for it in names))}
-    shop = Workshop(below, of_kit)
-    if names == [PROGRAM] and is_built(shop):
-        return 0
+    if names == [PROGRAM] and programs.is_proved(sum_of_program()):
+        return tell_program(Progress(), "proved and built already")
+    if shutil.which("rt") is None:
+        sys.stderr.write("fedx: the command rt, which proves, isn't on the path\n")
+        return 127
+    shop, total = Workshop(below, of_kit), sum_of_program()
     if PROGRAM in names:
         with contextlib.suppress(FileNotFoundError):
-            os.remove(f"{OUT}/{PROGRAM}")
+            os.remove(programs.PROVED)
     ways = {}
     order = sorted(below, key=lambda name: -way(below, name, ways))
-    progress, begun, running = Progress(), time.monotonic(), []
+    progress, begun = Progress(), time.monotonic()
     progress.say(f"proving and building {' and '.join(names)}" + (f"; {took_last()}" if names == [PROGRAM] else ""))
     done = {name for name in order if shop.is_done(name)}
     # (a run that goes on from an earlier one says nothing of the time that the whole takes)
     is_whole = names == [PROGRAM] and not done
-    while len(done) < len(order):
-        begin(shop, order, done, running)
-        time.sleep(0.5)
-        for proof in [it for it in running if it.process.poll() is not None]:
-            running.remove(proof)
-            if not proof.end():
-                return fail(progress, proof, running)
-            done.add(proof.name)
-        minutes = (time.monotonic() - begun) / 60
-        progress.show(", ".join([*(it.name for it in running), f"{len(done)} of {len(order)} crates", f"{minutes:.0f} minutes"]))
+    if status := prove(shop, order, done, progress):
+        return status
     minutes = round((time.monotonic() - begun) / 60)
-    progress.say(f"proved and built in {minutes} minutes")
     if is_whole:
         with open(TOOK, "w", encoding="utf-8") as handle:
             handle.write(f"{minutes}\n")
+    if PROGRAM not in names:
+        progress.say(f"proved and built in {minutes} minutes")
+        return 0
+    programs.keep_proved(total)
+    return tell_program(progress, f"proved and built in {minutes} minutes")
+
+
+def tell_program(progress, text):
+    size = os.path.getsize(programs.PROVED) / 1e6
+    progress.say(f"{text}: {programs.PROVED}, one file of {size:.1f} MB that needs the C library alone")
     return 0
 
 
