@@ -67,7 +67,8 @@ def is_proved(total):
     # (one that isn't known is of `rt ci` or `rt run`)
     if not is_newest(PROVED):
         return False
-    keep_proved(total)
+    with contextlib.suppress(OSError):
+        keep_proved(total)
     return True
 
 
@@ -118,4 +119,6 @@ def chosen(total, is_only_proved):
 def keep_ready(kind, program, listed):
     """Notes what the launcher runs as long as tools/listing prints the same."""
     if is_old(listed):
-        write(READY, f"{kind} {os.path.relpath(program, TOP)}\n{listed}")
+        # (where nothing can be written here, each run looks anew)
+        with contextlib.suppress(OSError):
+            write(READY, f"{kind} {os.path.relpath(program, TOP)}\n{listed}")
