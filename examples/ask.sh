@@ -5,6 +5,8 @@ set -u
 here=$(cd "$(dirname "$0")" && pwd)
 address=127.0.0.1:8003
 url=http://$address/sparql
+# (a program that isn't built yet is made first, where that can be seen)
+"$here/../tools/choose" </dev/null >/dev/null || exit
 lines=$(mktemp)
 trap 'kill $member 2>/dev/null; rm -f "$lines"' EXIT
 "$here/../fedx" member "$here/people.nt" $address 7 2>"$lines" &

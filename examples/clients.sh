@@ -9,6 +9,8 @@ query='SELECT ?friend WHERE { <http://example.org/ann> <http://xmlns.com/foaf/0.
 wanted='http://example.org/bob http://example.org/cem'
 failed=0
 
+# (a program that isn't built yet is made first, where that can be seen)
+"$here/../tools/choose" </dev/null >/dev/null || exit
 "$here/../fedx" member "$here/people.nt" $address 2>/dev/null &
 member=$!
 trap 'kill $member 2>/dev/null' EXIT

@@ -8,6 +8,9 @@ failed=0
 
 python3 -c "import rdflib" 2>/dev/null || { echo "rdflib as an endpoint: not here"; exit 0; }
 
+# (a program that isn't built yet is made first, where that can be seen)
+"$here/../tools/choose" </dev/null >/dev/null || exit
+
 room=$(mktemp -d)
 lab='' library=''
 trap 'kill $lab $library 2>/dev/null; rm -r "$room"' EXIT

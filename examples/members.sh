@@ -6,6 +6,8 @@
 set -u
 here=$(cd "$(dirname "$0")" && pwd)
 fedx=$here/../fedx
+# (a program that isn't built yet is made first, where that can be seen)
+"$here/../tools/choose" </dev/null >/dev/null || exit
 if [ $# -gt 0 ]; then
     [ "$1" = -- ] && [ $# -gt 1 ] || { echo "usage: examples/members.sh [-- COMMAND..]" >&2; exit 2; }
     shift
