@@ -1,8 +1,8 @@
 """The programs that are built here, and of which sources: the proved one, and the trial program, which isn't proved.
 
 The proved program is crates/fedx/out/fedx. The file `proved` beside it has a sum of the sources that it was proved of, and a sum of itself. `rt ci` and `rt run` put a
-program there too, without such a file: it counts where it is newer than all sources, and gets the file then. The trial program's name has the
-sum of its sources, so one of others is never taken for it. Each gets its name once it is whole."""
+program there too, without such a file: it counts where it is newer than all sources and says of itself that it is proved, and gets the file then. The
+trial program's name has the sum of its sources, so one of others is never taken for it. Each gets its name once it is whole."""
 import contextlib
 import glob
 import hashlib
@@ -19,6 +19,8 @@ STAMP = f"{OUT}/proved"
 TRIALS = f"{OUT}/trial"
 # What the launcher ran last, with what `tools/listing` printed then.
 READY = f"{OUT}/ready"
+# What the compiler writes into a program that it proved, and not into one that it tries.
+MARK = b"rattle logic="
 # A file that was written to so many seconds ago may be written to again without another time.
 TICK = 2
 
@@ -55,6 +57,11 @@ def is_newest(name):
     return max(os.stat(it).st_mtime_ns for it in [f"{TOP}/crates.txt", *found]) < os.stat(name).st_mtime_ns
 
 
+def has_mark(name):
+    with open(name, "rb") as handle:
+        return MARK in handle.read()
+
+
 def is_proved(total):
     """Whether the proved program is there, of the sources with this sum, which are those that lie here."""
     if not os.access(PROVED, os.X_OK):
@@ -65,7 +72,7 @@ def is_proved(total):
     if len(known) == 2 and known[1] == sum_of_file(PROVED):
         return known[0] == total
     # (one that isn't known is of `rt ci` or `rt run`)
-    if not is_newest(PROVED):
+    if not is_newest(PROVED) or not has_mark(PROVED):
         return False
     with contextlib.suppress(OSError):
         keep_proved(total)
