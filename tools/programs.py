@@ -1,8 +1,8 @@
 """The programs that are built here, and of which sources: the proved one, and the trial program, which isn't proved.
 
-The proved program is crates/fedx/out/fedx. The file `proved` beside it has a sum of the sources that it was proved of, and a sum of itself. `rt ci` and `rt run` put a
-program there too, without such a file: it counts where it is newer than all sources and says of itself that it is proved, and gets the file then. The
-trial program's name has the sum of its sources, so one of others is never taken for it. Each gets its name once it is whole."""
+The proved program is crates/fedx/out/fedx. The file `proved` beside it has a sum of the sources that it was proved of, and a sum of itself. `rt ci`
+and `rt run` put a program there too, without such a file: it counts where it is newer than all sources and says of itself that it is proved, and gets
+the file then. The trial program's name has the sum of its sources, so one of others is never taken for it. Each gets its name once it is whole."""
 import contextlib
 import glob
 import hashlib
@@ -98,7 +98,8 @@ def drop_trials(but):
 
 
 def listing():
-    return subprocess.run([f"{TOP}/tools/listing"], stdin=subprocess.DEVNULL, stdout=subprocess.PIPE, check=False).stdout.decode("utf-8", "surrogateescape")
+    how = {"stdin": subprocess.DEVNULL, "stdout": subprocess.PIPE, "check": False}
+    return subprocess.run([f"{TOP}/tools/listing"], **how).stdout.decode("utf-8", "surrogateescape")
 
 
 def settled():

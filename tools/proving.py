@@ -214,23 +214,33 @@ def prove(shop, order, done, progress):
     return 0
 
 
+def settled(names):
+    """The crates with all that they stand on, the longest way first, those of them that are done, and the sum of the program's sources, which
+    all go together."""
+    while True:
+        all_below, of_kit = crates()
+        below = {name: all_below[name] for name in set().union(*(needed(all_below, it) for it in names))}
+        shop, ways = Workshop(below, of_kit), {}
+        order = sorted(below, key=lambda name: -way(below, name, ways))
+        for name in order:
+            shop.sum(name)
+        done, total = {name for name in order if shop.is_done(name)}, sum_of_program()
+        if crates() == (all_below, of_kit) and all(states_of(name) == shop.states[name] for name in order):
+            return shop, order, done, total
+
+
 def build(names):
-    below, of_kit = crates()
-    below = {name: below[name] for name in set().union(*(needed(below, it) for it in names))}
     if names == [PROGRAM] and programs.is_proved(sum_of_program()):
         return tell_program(Progress(), "proved and built already")
     if shutil.which("rt") is None:
         sys.stderr.write("fedx: the command rt, which proves, isn't on the path\n")
         return 127
-    shop, total = Workshop(below, of_kit), sum_of_program()
+    shop, order, done, total = settled(names)
     if PROGRAM in names:
         with contextlib.suppress(FileNotFoundError):
             os.remove(programs.PROVED)
-    ways = {}
-    order = sorted(below, key=lambda name: -way(below, name, ways))
     progress, begun = Progress(), time.monotonic()
     progress.say(f"proving and building {' and '.join(names)}" + (f"; {took_last()}" if names == [PROGRAM] else ""))
-    done = {name for name in order if shop.is_done(name)}
     # (a run that goes on from an earlier one says nothing of the time that the whole takes)
     is_whole = names == [PROGRAM] and not done
     if status := prove(shop, order, done, progress):

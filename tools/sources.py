@@ -41,9 +41,20 @@ def folders_of(name):
 
 
 def states_of(name):
-    """What the system says of each file of a crate. Where none of it is another, nobody wrote to the files: the time of a file's last change can't be set."""
-    found = [(it, os.stat(it)) for it in files_of(name)]
-    return [(it, state.st_ino, state.st_size, state.st_mtime_ns, state.st_ctime_ns) for it, state in found]
+    """What the system says of each file of a crate. Where none of it is another, nobody wrote to the files: the time of a file's last change
+    can't be set."""
+    return [state_of(it) for it in files_of(name)]
+
+
+def state_of(file):
+    state = os.stat(file)
+    return file, state.st_ino, state.st_size, state.st_mtime_ns, state.st_ctime_ns
+
+
+def states_of_program():
+    """What the system says of all that the program is made of in this repository."""
+    below, _ = crates()
+    return [state_of(f"{TOP}/crates.txt"), *(states_of(name) for name in sorted(needed(below, PROGRAM)))]
 
 
 def add_files(total, name):
