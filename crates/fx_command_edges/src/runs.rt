@@ -141,8 +141,16 @@ fn four_members_at_once(rt: HostRuntime) {
 }
 
 // The first of the four endpoints whose reply can't wait for the others without a failure.
-fn first_slow_member_amiss<R: Threads + Wait + Sync>(rt: &R, alloc: Global) -> Option<&'static str> {
-    for slow in ["127.0.0.1:8001", "127.0.0.1:8002", "127.0.0.1:8003", "127.0.0.1:8004"] {
+fn first_slow_member_amiss<R: Threads + Wait + Sync>(
+    rt: &R,
+    alloc: Global,
+) -> Option<&'static str> {
+    for slow in [
+        "127.0.0.1:8001",
+        "127.0.0.1:8002",
+        "127.0.0.1:8003",
+        "127.0.0.1:8004",
+    ] {
         if code_of_members(rt, alloc, slow) != Some(0) {
             return Some(slow);
         }
