@@ -4,5 +4,7 @@ pub mod WentLemmas
 pub mod ServiceRowLemmas
 pub mod ServiceLemmas
 pub mod NotedLemmas
+pub mod SharingLemmas
 pub mod SideLemmas
+pub mod PieceLemmas
 pub mod ToldLemmas

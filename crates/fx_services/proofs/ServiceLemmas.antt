@@ -1,9 +1,6 @@
--- What asking for an occurrence of SERVICE leaves of wires, by what its one job came to.
+-- What is known of an occurrence of SERVICE by what its one job came to.
 use Rattle.std.proofs.Common.{◌≡◌, ◌∙◌, ap, sym, subst, refl, inl, inr, ◌⊎◌, ℕ, zero, suc, ◌+◌, ◌<◌, ◌≤◌, Bool, true, false, cond, List, [], ◌∷◌, ◌++◌, length, None, Some, All, Contains, IfErr, IfOk, IsTrue, Result, Err, append-nil, arith, slice_get, bytes_eq, ltb, slice_index_or}
-use Rattle.std.specs.List.{HoldsAt}
 use Rattle.std.proofs.lemmas.List.Elements.{All-contains}
-use Rattle.std.proofs.lemmas.List.Sorted.{IsPermutation-refl}
-use Rattle.std.proofs.lemmas.Slice.Eq.{bytes_eq-Decides}
 use Rattle.fx_terms.specs.declared.triples.Triple.{Triple}
 use Rattle.fx_terms.proofs.SetLemmas.{contains_from}
 use Rattle.fx_http.specs.declared.replies.ReplyError.TheVariants.{TooLong}
@@ -21,18 +18,16 @@ use Rattle.fx_pool.specs.Jobs.{AreDone, AreWanted, IsBadReply, IsDone, is_at, is
 use Rattle.fx_pool.specs.Posting.{IsSent, exchanges_of}
 use Rattle.fx_pool.specs.Reading.{a_service, HasFault, HasTable}
 use Rattle.fx_pool.specs.declared.faults.ReplyFault.TheVariants.{Http}
-use Rattle.fx_pool.specs.Runs.{IsHonestOver, WiresDid}
+use Rattle.fx_pool.specs.Runs.{IsHonestOver}
 use Rattle.fx_pool.specs.declared.jobs.BadReply.{BadReply}
 use Rattle.fx_pool.specs.declared.jobs.JobReply.{JobReply}
 use Rattle.fx_pool.specs.declared.jobs.JobReply.TheVariants as reply
 use Rattle.fx_pool.specs.declared.jobs.Work.{Work}
-use Rattle.fx_pool.proofs.AskJobLemmas.{one_at_most}
-use Rattle.fx_pool.proofs.MoveLemmas.{only_itself}
-use Rattle.fx_services.specs.ServicesAsked.{AreRowsOf, AreRowsOver, AskedAt, HasFailed, IsBadService, HasServiceCause, IsForService, IsOneForService, IsRowsOf, IsServable, IsToldBy, ServiceAsked, job_of, service_text}
+use Rattle.fx_services.specs.ServicesAsked.{AreRowsOver, IsBadService, HasServiceCause, IsForService, IsRowsOf, IsServable, IsToldBy, job_of, service_text}
 use Rattle.fx_services.specs.declared.services.ServiceError.{ServiceError}
 use Rattle.fx_services.specs.declared.services.ServiceError.TheVariants as error
 use Rattle.fx_services.proofs.ServiceRowLemmas.{honest_faultless, honest_table, long_service}
-use Rattle.fx_services.proofs.WentLemmas.{found_here, long_or_short, went_nowhere}
+use Rattle.fx_services.proofs.WentLemmas.{found_here, long_or_short}
 
 -- ---- the job
 
@@ -105,33 +100,7 @@ endpoint_at [] at h = absurd (omega (arith, h))
 endpoint_at (e ∷ es) zero h = (e, refl)
 endpoint_at (e ∷ es) (suc at) h = endpoint_at es at (omega (arith, h))
 
--- ---- nothing was asked
-
-module _ (tells alone : Bool) (wires : List Seen) (es : List EndpointParts) (iri : List ℕ) (g : Group) where
-  none_counted : (address : List ℕ) → faults_at wires address ≡ faults_at wires address + cond {A = ℕ} (bytes_eq iri address) 0 0
-  none_counted address = go (bytes_eq iri address)
-    where
-      go : (b : Bool) → faults_at wires address ≡ faults_at wires address + cond {A = ℕ} b 0 0
-      go true = omega arith
-      go false = omega arith
-
-  pub unasked : (why : ServiceError) → HasFailed 0 (Err why) → HasServiceCause wires wires es iri g [] why → ServiceAsked tells alone wires wires es iri g (Err why)
-  unasked why so cause = record {
-    exchanges = [];
-    failed = 0;
-    failed_so = so;
-    went = went_nowhere tells alone wires;
-    exact = λ is settled address. none_counted address;
-    wanted = [];
-    left = [];
-    sent = IsPermutation-refl [];
-    text = inl refl;
-    told = tt;
-    rows = tt;
-    cause = cause;
-  }
-
--- ---- it was
+-- ---- what came of it
 
 module _ (tells alone : Bool) (before after : List Seen) (es : List EndpointParts) (at : ℕ) (g : Group) where
   -- what was wanted is the one text
@@ -149,50 +118,6 @@ module _ (tells alone : Bool) (before after : List Seen) (es : List EndpointPart
     where
       by : {r : List ℕ} → s.request ≡ r → s ∷ [] ≡ record { at = s.at; request = r } ∷ []
       by same = λ i. record { at = s.at; request = same i } ∷ []
-
-  -- memory ran out while it was
-  pub asked_in_vain : (within : at < length es) → WiresDid tells alone before after es (job_of at g ∷ []) None → AskedAt tells alone before after es at g (Err error.Memory)
-  asked_in_vain within did =
-      let here = endpoint_at es at within in
-      let e = here.0 in
-      record {
-        endpoint = e;
-        found = here.1;
-        asked = record {
-          exchanges = did.exchanges;
-          failed = 1;
-          failed_so = omega arith;
-          went = record { gained = did.gained; after_all = did.left; counted = λ is address. counted is address (is_at address (slice_get es at)) refl };
-          exact = λ is settled address. absurd settled;
-          wanted = did.of_jobs.wanted;
-          left = did.of_jobs.left;
-          sent = did.of_jobs.sent;
-          text = inr (the_text e here.1 did.of_jobs.wanted did.of_jobs.of_jobs);
-          told = tt;
-          rows = tt;
-          cause = tt;
-        };
-      }
-    where
-      most : (b : Bool) → cond {A = ℕ} b 1 0 + 0 ≤ 1
-      most true = omega arith
-      most false = omega arith
-
-      counted : IsTrue alone → (address : List ℕ) (b : Bool) → is_at address (slice_get es at) ≡ b → faults_at after address ≤ faults_at before address + 1
-      counted is address b same =
-          let few : faults_at after address ≤ faults_at before address + (cond {A = ℕ} (is_at address (slice_get es at)) 1 0 + 0) = did.few is address in
-          let one : cond {A = ℕ} (is_at address (slice_get es at)) 1 0 + 0 ≤ 1 = most (is_at address (slice_get es at)) in
-          omega (arith, few, one)
-
-  -- ---- it came to an end
-
-  failures_so : (r : JobReply) (result : Result (List Bindings) ServiceError) → IsRowsOf at r result → HasFailed (is_failure r) result
-  failures_so (reply.Table rows) result h = subst (HasFailed 0) (sym h) refl
-  failures_so reply.Failed result h = subst (HasFailed 1) (sym h) refl
-  failures_so (reply.Bad bad) result h = subst (HasFailed 0) (sym h) refl
-  failures_so (reply.TooLong size) result h = subst (HasFailed 0) (sym h) refl
-  failures_so (reply.Truth truth) result h = absurd h
-  failures_so (reply.Found founds) result h = absurd h
 
   module _ (xs : List Exchange) (honest : All (IsHonestOver before) xs) where
     abbrev Came_of : JobReply → Type 0
@@ -264,83 +189,9 @@ module _ (tells alone : Bool) (before after : List Seen) (es : List EndpointPart
       cause_by (reply.Truth truth) d rose result h = absurd h
       cause_by (reply.Found founds) d rose result h = absurd h
 
-  module _ (r : JobReply) (did : WiresDid tells alone before after es (job_of at g ∷ []) (Some (r ∷ []))) where
-    pub whole : IsDone es (job_of at g) r did.exchanges
-    whole =
-        let d = did.done.1 in
-        let one : did.done.0 ≡ d.0 = d.2 ∙ ap (λ (v : List Exchange). d.0 ++ v) d.4 ∙ append-nil d.0 in
-        let short : length did.done.0 ≤ 1 = subst (λ (v : List Exchange). length v ≤ 1) (sym one) (one_at_most es (job_of at g) r d.0 d.3) in
-        let all : did.exchanges ≡ d.0 = only_itself did.done.0 did.exchanges short did.done.2 ∙ one in
-        subst (IsDone es (job_of at g) r) (sym all) d.3
-
-    abbrev e : EndpointParts
-    e = whole.endpoint
-
-    -- how many failures there are at an address
-    failures_are : (address : List ℕ) → cond {A = ℕ} (is_at address (slice_get es at)) (is_failure r) 0 ≡ cond {A = ℕ} (bytes_eq e.iri address) (is_failure r) 0
-    failures_are address = ap (λ o. cond {A = ℕ} (is_at address o) (is_failure r) 0) whole.found
-
-    few : (b : Bool) (n : ℕ) → cond {A = ℕ} b n 0 ≤ n
-    few true n = omega arith
-    few false n = omega arith
-
-    exact_so : IsTrue alone → (address : List ℕ) → faults_at after address ≡ faults_at before address + cond {A = ℕ} (bytes_eq e.iri address) (is_failure r) 0
-    exact_so is address =
-        let all : faults_at after address ≡ faults_at before address + (cond {A = ℕ} (is_at address (slice_get es at)) (is_failure r) 0 + 0) = did.exact is address in
-        omega (arith, all, failures_are address)
-
-    counted_so : IsTrue alone → (address : List ℕ) → faults_at after address ≤ faults_at before address + is_failure r
-    counted_so is address = omega (arith, exact_so is address, few (bytes_eq e.iri address) (is_failure r))
-
-    rose : r ≡ reply.Failed → faults_at before e.iri < faults_at after e.iri
-    rose failed =
-        let low : faults_at before e.iri + (cond {A = ℕ} (is_at e.iri (slice_get es at)) (is_failure r) 0 + 0) ≤ faults_at after e.iri = did.counted e.iri in
-        let one : cond {A = ℕ} (bytes_eq e.iri e.iri) (is_failure r) 0 ≡ 1 = ap (λ (b : Bool). cond {A = ℕ} b (is_failure r) 0) ((bytes_eq-Decides e.iri e.iri).1 refl) ∙ ap is_failure failed in
-        omega (arith, low, failures_are e.iri, one)
-
-    pub asked : IsServable g → (result : Result (List Bindings) ServiceError) → IsRowsOf at r result → AskedAt tells alone before after es at g result
-    asked ok result h = record {
-      endpoint = e;
-      found = whole.found;
-      asked = record {
-        exchanges = did.exchanges;
-        failed = is_failure r;
-        failed_so = failures_so r result h;
-        went = record { gained = did.gained; after_all = did.left; counted = counted_so };
-        exact = λ is settled address. exact_so is address;
-        wanted = did.of_jobs.wanted;
-        left = did.of_jobs.left;
-        sent = did.of_jobs.sent;
-        text = inr (the_text e whole.found did.of_jobs.wanted did.of_jobs.of_jobs);
-        told = told_by did.exchanges did.honest r whole result h;
-        rows = rows_by did.exchanges did.honest ok r whole result h;
-        cause = cause_by did.exchanges did.honest ok r whole rose result h;
-      };
-    }
-
 -- ---- the endpoint of a number
 
 pub at_number : (es : List EndpointParts) (at : ℕ) (e d : EndpointParts) → slice_get es at ≡ Some e → slice_index_or es at d ≡ e
 at_number [] at e d h = cc
 at_number (x ∷ es) zero e d h = cc
 at_number (x ∷ es) (suc at) e d h = at_number es at e d h
-
--- an occurrence was asked for at the endpoint that was found for its address
-pub asked_there : (tells alone : Bool) (before after : List Seen) (es : List EndpointParts) (at : ℕ) (iri : List ℕ) (g : Group) (result : Result (List Bindings) ServiceError)
-    → HoldsAt (λ e. e.iri ≡ iri) es at → AskedAt tells alone before after es at g result → ServiceAsked tells alone before after es iri g result
-asked_there tells alone before after es at iri g result there h =
-    let same : h.endpoint.iri ≡ iri = sym (ap (λ (e : EndpointParts). e.iri) (at_number es at h.endpoint h.endpoint h.found)) ∙ there h.endpoint in
-    subst (λ (v : List ℕ). ServiceAsked tells alone before after es v g result) same h.asked
-
--- one reply
-pub one_reply_for : (es : List EndpointParts) (at : ℕ) (g : Group) (rs : List JobReply) (xs : List Exchange) → AreDone es (job_of at g ∷ []) rs xs → IsOneForService rs
-one_reply_for es at g [] xs h = absurd h
-one_reply_for es at g (r ∷ []) xs h = for_service es at g h.0 r h.3
-one_reply_for es at g (r ∷ s ∷ rs) xs h = absurd h.4
-
--- what comes of it
-pub rows_by_one : (tells alone : Bool) (before after : List Seen) (es : List EndpointParts) (at : ℕ) (g : Group) → IsServable g → (rs : List JobReply) → WiresDid tells alone before after es (job_of at g ∷ []) (Some rs)
-    → (result : Result (List Bindings) ServiceError) → AreRowsOf at rs result → AskedAt tells alone before after es at g result
-rows_by_one tells alone before after es at g ok [] did result h = absurd h
-rows_by_one tells alone before after es at g ok (r ∷ []) did result h = asked tells alone before after es at g r did ok result h
-rows_by_one tells alone before after es at g ok (r ∷ s ∷ rs) did result h = absurd h

@@ -1,5 +1,5 @@
 -- What invoking occurrences of SERVICE side by side leaves of wires, by what their jobs came to.
-use Rattle.std.proofs.Common.{◌≡◌, ◌∙◌, ap, sym, subst, refl, inl, inr, ℕ, suc, ◌+◌, ◌<◌, ◌≤◌, Bool, true, false, cond, List, [], ◌∷◌, ◌++◌, length, Option, None, Some, All, Contains, IfErr, IfOk, IfSome, IsTrue, Err, arith, ◌≢◌, not, nat_lt, slice_get, bytes_eq, IsPermutation}
+use Rattle.std.proofs.Common.{◌≡◌, ◌∙◌, ap, sym, subst, refl, inl, inr, ℕ, suc, ◌+◌, ◌<◌, ◌≤◌, Bool, true, false, cond, List, [], ◌∷◌, ◌++◌, length, map, Option, None, Some, All, Contains, IfErr, IfOk, IfSome, IsTrue, Err, arith, ◌≢◌, not, nat_lt, slice_get, bytes_eq, IsPermutation}
 use Rattle.std.specs.List.{AllByRecursion, HoldsAt, position_or_len}
 use Rattle.std.proofs.lemmas.Bool.Decides.{nat_tests}
 use Rattle.std.proofs.lemmas.List.Sums.{prefix_len-le-length}
@@ -11,24 +11,25 @@ use Rattle.fx_outside.specs.Endpoints.{EndpointParts}
 use Rattle.fx_terms.specs.declared.triples.Triple.{Triple}
 use Rattle.fx_http.specs.Requests.{request_of}
 use Rattle.fx_traffic.specs.Gains.{Tell, faults_at}
-use Rattle.fx_traffic.specs.Sent.{Sent, Sends}
+use Rattle.fx_traffic.specs.Sent.{Sent, Sends, sent_of}
 use Rattle.fx_traffic.specs.Traffic.{IsServiceSent}
 use Rattle.fx_traffic.proofs.GainLemmas.{gain_laws}
 use Rattle.fx_wire.specs.Exchanges.{Exchange, Seen, exchanged}
 use Rattle.fx_sources.specs.Registries.{number_of}
-use Rattle.fx_pool.specs.Jobs.{AreDone, AreWanted, IsDone, failures_at, is_at, is_failure, text_of}
+use Rattle.fx_pool.specs.Jobs.{AreDone, AreWanted, IsDone, IsWanted, failures_at, is_at, is_failure, text_of}
 use Rattle.fx_pool.specs.Posting.{IsPosted, exchanges_of}
 use Rattle.fx_pool.specs.declared.posting.Posted.{Posted}
 use Rattle.fx_pool.specs.declared.posting.Posted.TheVariants as posted
 use Rattle.fx_pool.proofs.BesideLemmas.{back_all, front_all}
-use Rattle.fx_pool.specs.Runs.{IsHonestOver, WiresDid}
+use Rattle.fx_pool.specs.Runs.{AreOfJobs, IsHonestOver, WiresDid}
 use Rattle.fx_pool.specs.declared.jobs.Job.{Job}
 use Rattle.fx_pool.specs.declared.jobs.JobReply.{JobReply}
 use Rattle.fx_pool.specs.declared.jobs.JobReply.TheVariants as reply
 use Rattle.fx_pool.proofs.WireLemmas.{after_itself}
-use Rattle.fx_services.specs.Beside.{AllInvoked, AreInvoked, AreRepliesFor, AreServable, AreTextsOf, AreToldOf, Came, IsInvoked, IsReplyFor, IsToldOf, Occurred, failure_in, failures_in, job_if, jobs_of}
+use Rattle.fx_services.specs.Beside.{AllInvoked, AreInvoked, AreRepliesFor, AreSentFor, AreServable, AreToldOf, Came, IsInvoked, IsReplyFor, IsSentFor, IsToldOf, Occurrence, failure_in, failures_in, job_if, jobs_of}
 use Rattle.fx_services.specs.ServicesAsked.{AreRowsOver, HasServiceCause, IsRowsOf, IsServable, IsToldBy, job_of}
 use Rattle.fx_services.specs.declared.services.ServiceError.TheVariants as error
+use Rattle.fx_services.proofs.SharingLemmas.{Fits, Shared, all_made, all_shared, left_by, made_of, none_sent, text_in, unsent}
 use Rattle.fx_services.proofs.ServiceLemmas.{at_number, cause_by, endpoint_at, for_service, rows_by, the_text, told_by}
 
 -- ---- an address that is found, or isn't (as in `RegistryLemmas` of `fx_sources`, which no other crate can name)
@@ -109,7 +110,7 @@ one_sent es j r own d = by d.posted d.sent d.exchanged
 
 -- ---- the jobs are within
 
-pub jobs_within : (es : List EndpointParts) (os : List Occurred) → AllByRecursion (λ (j : Job). j.at < length es) (jobs_of es os)
+pub jobs_within : (es : List EndpointParts) (os : List Occurrence) → AllByRecursion (λ (j : Job). j.at < length es) (jobs_of es os)
 jobs_within es [] = tt
 jobs_within es (o ∷ os) = by (number_of o.iri es) refl (jobs_within es os)
   where
@@ -117,7 +118,7 @@ jobs_within es (o ∷ os) = by (number_of o.iri es) refl (jobs_within es os)
     by None e rest = rest
     by (Some at) e rest = (within es o.iri at e, rest)
 
-pub few_jobs : (es : List EndpointParts) (os : List Occurred) → length (jobs_of es os) ≤ length os
+pub few_jobs : (es : List EndpointParts) (os : List Occurrence) → length (jobs_of es os) ≤ length os
 few_jobs es [] = omega arith
 few_jobs es (o ∷ os) = by (number_of o.iri es) (few_jobs es os)
   where
@@ -125,28 +126,41 @@ few_jobs es (o ∷ os) = by (number_of o.iri es) (few_jobs es os)
     by None rest = omega (arith, rest)
     by (Some at) rest = omega (arith, rest)
 
--- ---- what was wanted
+-- ---- what was sent
 
 module _ (tells alone : Bool) (before after : List Seen) (es : List EndpointParts) where
-  pub texts_of : (os : List Occurred) (wanted : List Sent) → AreWanted es (jobs_of es os) wanted → AreTextsOf es os wanted
-  texts_of [] wanted h = h
-  texts_of (o ∷ os) wanted h = by (number_of o.iri es) refl (λ w k. texts_of os w k) wanted h
+  -- the text of one that is known, and the exchange that sent it, if one did
+  one_for : (o : Occurrence) (at : ℕ) → number_of o.iri es ≡ Some at → (s : Sent) → IsWanted es (job_of at o.group) s → (own : Option Exchange) → IfSome own (λ x. sent_of x ≡ s) → IsSentFor es o (made_of own)
+  one_for o at e s w own h =
+      let f = found_for es o.iri at e in
+      let left = left_by s own h in
+      record {
+        wanted = s ∷ [];
+        left = left.0;
+        sent = left.1;
+        text = inr (subst (λ (iri : List ℕ). IsServiceSent es iri o.group (s ∷ [])) f.here (the_text tells alone before after es at o.group f.endpoint f.found (s ∷ []) (w, refl)));
+      }
+
+  share : (os : List Occurrence) (ps : List Shared) → AllByRecursion Fits ps → AreWanted es (jobs_of es os) (map text_in ps) → AreSentFor es os (all_made ps)
+  share [] [] fit w = refl
+  share [] (p ∷ ps) fit w = absurd (cc)
+  share (o ∷ os) ps fit w = by (number_of o.iri es) refl (λ qs f k. share os qs f k) ps fit w
     where
-      by : (n : Option ℕ) → number_of o.iri es ≡ n → ((w : List Sent) → AreWanted es (jobs_of es os) w → AreTextsOf es os w) → (w : List Sent) → AreWanted es (job_if n o.group ++ jobs_of es os) w → AreTextsOf es (o ∷ os) w
-      by None e others w k = ([], w, refl, inl refl, others w k)
-      by (Some at) e others [] k = absurd k
-      by (Some at) e others (s ∷ w) k =
-          let f = found_for es o.iri at e in (
-            s ∷ [],
-            w,
-            refl,
-            inr (subst (λ (iri : List ℕ). IsServiceSent es iri o.group (s ∷ [])) f.here (the_text tells alone before after es at o.group f.endpoint f.found (s ∷ []) (k.0, refl))),
-            others w k.1,
-          )
+      by : (n : Option ℕ) → number_of o.iri es ≡ n → ((qs : List Shared) → AllByRecursion Fits qs → AreWanted es (jobs_of es os) (map text_in qs) → AreSentFor es os (all_made qs))
+          → (qs : List Shared) → AllByRecursion Fits qs → AreWanted es (job_if n o.group ++ jobs_of es os) (map text_in qs) → AreSentFor es (o ∷ os) (all_made qs)
+      by None e others qs f k = ([], all_made qs, refl, unsent es o, others qs f k)
+      by (Some at) e others [] f k = absurd k
+      by (Some at) e others (q ∷ qs) f k = (made_of q.1, all_made qs, refl, one_for o at e q.0 k.0 q.1 f.0, others qs f.1 k.1)
+
+  -- what was sent is each one's own
+  shared_out : (os : List Occurrence) (xs : List Exchange) → AreOfJobs es (jobs_of es os) xs → (in_turn : List Exchange) × IsPermutation in_turn xs × AreSentFor es os in_turn
+  shared_out os xs h =
+      let all = all_shared h.wanted h.left xs h.sent in
+      (all_made all.list, all.same, share os all.list all.fit (subst (AreWanted es (jobs_of es os)) (sym all.texts) h.of_jobs))
 
   -- ---- the replies
 
-  pub replies_for : (os : List Occurred) (rs : List JobReply) (xs : List Exchange) → AreDone es (jobs_of es os) rs xs → AreRepliesFor es os rs
+  pub replies_for : (os : List Occurrence) (rs : List JobReply) (xs : List Exchange) → AreDone es (jobs_of es os) rs xs → AreRepliesFor es os rs
   replies_for [] [] xs h = refl
   replies_for [] (r ∷ rs) xs h = absurd h
   replies_for (o ∷ os) rs xs h = by (number_of o.iri es) refl (λ qs ys k. replies_for os qs ys k) rs h
@@ -161,7 +175,7 @@ module _ (tells alone : Bool) (before after : List Seen) (es : List EndpointPart
   abbrev Counts : List Job → List JobReply → Type 0
   Counts js rs = (address : List ℕ) → faults_at before address + failures_at es address js rs ≤ faults_at after address
 
-  module _ (o : Occurred) (ok : IsServable o.group) (at : ℕ) (e : number_of o.iri es ≡ Some at) (r : JobReply) (own : List Exchange) (honest : All (IsHonestOver before) own) (d : IsDone es (job_of at o.group) r own) where
+  module _ (o : Occurrence) (ok : IsServable o.group) (at : ℕ) (e : number_of o.iri es ≡ Some at) (r : JobReply) (own : List Exchange) (honest : All (IsHonestOver before) own) (d : IsDone es (job_of at o.group) r own) where
     there : d.endpoint.iri ≡ o.iri
     there = let f = found_for es o.iri at e in (let same : d.endpoint ≡ f.endpoint = (let a = d.found in let b = f.found in cc) in ap (λ (x : EndpointParts). x.iri) same ∙ f.here)
 
@@ -179,18 +193,20 @@ module _ (tells alone : Bool) (before after : List Seen) (es : List EndpointPart
     known js rs counts c told =
         let text = one_sent es (job_of at o.group) r own d in
         record {
-          wanted = text.wanted;
-          left = text.left;
-          sent = text.sent;
-          text = inr (subst (λ (iri : List ℕ). IsServiceSent es iri o.group text.wanted) there (the_text tells alone before after es at o.group d.endpoint d.found text.wanted text.of_job));
+          sent_so = record {
+            wanted = text.wanted;
+            left = text.left;
+            sent = text.sent;
+            text = inr (subst (λ (iri : List ℕ). IsServiceSent es iri o.group text.wanted) there (the_text tells alone before after es at o.group d.endpoint d.found text.wanted text.of_job));
+          };
           told = subst (λ (iri : List ℕ). IfOk c (λ rows. (x : EndpointParts) × Contains es x × (x.iri ≡ iri) × IsToldBy x o.group own rows)) there (told_by tells alone before after es at o.group own honest r d c told);
           rows = subst (λ (iri : List ℕ). IfOk c (λ rows. (graph : List Triple) → Tell before iri graph → AreRowsOver graph o.group rows)) there (rows_by tells alone before after es at o.group own honest ok r d c told);
           cause = subst (λ (iri : List ℕ). IfErr c (HasServiceCause before after es iri o.group own)) there (cause_by tells alone before after es at o.group own honest ok r d (rose js rs counts) c told);
         }
 
   -- one that isn't
-  unknown : (o : Occurred) → number_of o.iri es ≡ None → (c : Came) → c ≡ Err error.Unknown → IsInvoked before after es o [] c
-  unknown o e c is = subst (IsInvoked before after es o []) (sym is) (record { wanted = []; left = []; sent = IsPermutation-refl []; text = inl refl; told = tt; rows = tt; cause = (no_address es o.iri e, refl) })
+  unknown : (o : Occurrence) → number_of o.iri es ≡ None → (c : Came) → c ≡ Err error.Unknown → IsInvoked before after es o [] c
+  unknown o e c is = subst (IsInvoked before after es o []) (sym is) (record { sent_so = unsent es o; told = tt; rows = tt; cause = (no_address es o.iri e, refl) })
 
   -- ---- all of them
 
@@ -199,7 +215,7 @@ module _ (tells alone : Bool) (before after : List Seen) (es : List EndpointPart
       let all : faults_at before address + (cond {A = ℕ} (is_at address (slice_get es j.at)) (is_failure r) 0 + failures_at es address js rs) ≤ faults_at after address = counts address in
       omega (arith, all)
 
-  pub invoked_all : (os : List Occurred) → AllByRecursion (λ (o : Occurred). IsServable o.group) os → (rs : List JobReply) (cs : List Came) (xs : List Exchange) → AreDone es (jobs_of es os) rs xs → AreToldOf es os rs cs → All (IsHonestOver before) xs → Counts (jobs_of es os) rs
+  pub invoked_all : (os : List Occurrence) → AllByRecursion (λ (o : Occurrence). IsServable o.group) os → (rs : List JobReply) (cs : List Came) (xs : List Exchange) → AreDone es (jobs_of es os) rs xs → AreToldOf es os rs cs → All (IsHonestOver before) xs → Counts (jobs_of es os) rs
       → AreInvoked before after es os cs xs
   invoked_all [] ok [] [] xs d t honest counts = d
   invoked_all [] ok (r ∷ rs) [] xs d t honest counts = absurd d
@@ -244,7 +260,7 @@ module _ (tells alone : Bool) (before after : List Seen) (es : List EndpointPart
   none_of true n h = h
   none_of false n h = refl
 
-  pub failures_are : (address : List ℕ) (os : List Occurred) (rs : List JobReply) (cs : List Came) → AreToldOf es os rs cs → failures_in address os cs ≡ failures_at es address (jobs_of es os) rs
+  pub failures_are : (address : List ℕ) (os : List Occurrence) (rs : List JobReply) (cs : List Came) → AreToldOf es os rs cs → failures_in address os cs ≡ failures_at es address (jobs_of es os) rs
   failures_are address [] rs [] t = refl
   failures_are address [] rs (c ∷ cs) t = absurd t
   failures_are address (o ∷ os) rs [] t = absurd t
@@ -267,65 +283,38 @@ module _ (tells alone : Bool) (before after : List Seen) (es : List EndpointPart
 
   -- ---- the call
 
-  pub all_lost : (os : List Occurred) → WiresDid tells alone before after es (jobs_of es os) None → AllInvoked tells alone before after es os None
-  all_lost os did = record {
-    exchanges = did.exchanges;
-    gained = did.gained;
-    after_all = did.left;
-    wanted = did.of_jobs.wanted;
-    texts = texts_of os did.of_jobs.wanted did.of_jobs.of_jobs;
-    left = did.of_jobs.left;
-    sent = did.of_jobs.sent;
-    invoked = tt;
-    counted = tt;
-    exact = λ is. tt;
-  }
+  pub all_lost : (os : List Occurrence) → WiresDid tells alone before after es (jobs_of es os) None → AllInvoked tells alone before after es os None
+  all_lost os did =
+      let its = shared_out os did.exchanges did.of_jobs in
+      record { exchanges = did.exchanges; gained = did.gained; after_all = did.left; in_turn = its.0; same = its.1; come_to = its.2; counted = tt; exact = λ is. tt }
 
-  pub all_invoked : (os : List Occurred) → AreServable os → (rs : List JobReply) → WiresDid tells alone before after es (jobs_of es os) (Some rs) → (cs : Option (List Came)) → IfSome cs (AreToldOf es os rs) → AllInvoked tells alone before after es os cs
-  all_invoked os ok rs did cs told = record {
-    exchanges = did.exchanges;
-    gained = did.gained;
-    after_all = did.left;
-    wanted = did.of_jobs.wanted;
-    texts = texts_of os did.of_jobs.wanted did.of_jobs.of_jobs;
-    left = did.of_jobs.left;
-    sent = did.of_jobs.sent;
-    invoked = invoked cs told;
-    counted = counted cs told;
-    exact = λ is. exact is cs told;
-  }
-    where
-      honest : All (IsHonestOver before) did.done.0
-      honest = All-permutation (IsHonestOver before) did.exchanges did.done.0 (IsPermutation-sym did.done.0 did.exchanges did.done.2) did.honest
-
-      invoked : (o : Option (List Came)) → IfSome o (AreToldOf es os rs) → IfSome o (λ c. (in_turn : List Exchange) × IsPermutation in_turn did.exchanges × AreInvoked before after es os c in_turn)
-      invoked (Some c) t = (did.done.0, did.done.2, invoked_all os (recursion_from_All (λ (o : Occurred). IsServable o.group) os ok) rs c did.done.0 did.done.1 t honest did.counted)
-      invoked None t = tt
-
-      counted : (o : Option (List Came)) → IfSome o (AreToldOf es os rs) → IfSome o (λ c. (address : List ℕ) → faults_at before address + failures_in address os c ≤ faults_at after address)
-      counted (Some c) t = λ address. omega (arith, did.counted address, failures_are address os rs c t)
-      counted None t = tt
-
-      exact : IsTrue alone → (o : Option (List Came)) → IfSome o (AreToldOf es os rs) → IfSome o (λ c. (address : List ℕ) → faults_at after address ≡ faults_at before address + failures_in address os c)
-      exact is (Some c) t = λ address. omega (arith, did.exact is address, failures_are address os rs c t)
-      exact is None t = tt
+  pub all_invoked : (os : List Occurrence) → AreServable os → (rs : List JobReply) → WiresDid tells alone before after es (jobs_of es os) (Some rs) → (cs : Option (List Came)) → IfSome cs (AreToldOf es os rs) → AllInvoked tells alone before after es os cs
+  all_invoked os ok rs did None told =
+      let its = shared_out os did.exchanges did.of_jobs in
+      record { exchanges = did.exchanges; gained = did.gained; after_all = did.left; in_turn = its.0; same = its.1; come_to = its.2; counted = tt; exact = λ is. tt }
+  all_invoked os ok rs did (Some cs) told =
+      let honest : All (IsHonestOver before) did.done.0 = All-permutation (IsHonestOver before) did.exchanges did.done.0 (IsPermutation-sym did.done.0 did.exchanges did.done.2) did.honest in
+      record {
+        exchanges = did.exchanges;
+        gained = did.gained;
+        after_all = did.left;
+        in_turn = did.done.0;
+        same = did.done.2;
+        come_to = invoked_all os (recursion_from_All (λ (o : Occurrence). IsServable o.group) os ok) rs cs did.done.0 did.done.1 told honest did.counted;
+        counted = λ address. omega (arith, did.counted address, failures_are address os rs cs told);
+        exact = λ is address. omega (arith, did.exact is address, failures_are address os rs cs told);
+      }
 
 -- ---- nothing was asked
 
-no_texts : (es : List EndpointParts) (os : List Occurred) → AreTextsOf es os []
-no_texts es [] = refl
-no_texts es (o ∷ os) = ([], [], refl, inl refl, no_texts es os)
-
-pub none_asked : (tells alone : Bool) (wires : List Seen) (es : List EndpointParts) (os : List Occurred) → AllInvoked tells alone wires wires es os None
+pub none_asked : (tells alone : Bool) (wires : List Seen) (es : List EndpointParts) (os : List Occurrence) → AllInvoked tells alone wires wires es os None
 none_asked tells alone wires es os = record {
   exchanges = [];
   gained = λ told. gain_laws.nothing wires;
   after_all = after_itself wires;
-  wanted = [];
-  texts = no_texts es os;
-  left = [];
-  sent = IsPermutation-refl [];
-  invoked = tt;
+  in_turn = [];
+  same = IsPermutation-refl [];
+  come_to = none_sent es os;
   counted = tt;
   exact = λ is. tt;
 }

@@ -1,5 +1,5 @@
--- The rows of an occurrence of SERVICE, asked for over wires.
-use Rattle.std.specs.Prelude.{◌≡◌, ◌≢◌, ◌<◌, ◌≤◌, ◌+◌, ◌⊎◌, ℕ, Bool, List, [], ◌∷◌, IfOk, IfErr, IsTrue, All, Contains, Some, Result, Ok, Err, bytes_eq, cond, length, slice_get, IsPermutation}
+-- What is asked for an occurrence of SERVICE, and what its reply says.
+use Rattle.std.specs.Prelude.{◌≡◌, ◌≢◌, ◌<◌, ◌≤◌, ℕ, List, [], ◌∷◌, All, Some, Result, Ok, Err, length, slice_get, IsPermutation}
 use Rattle.fx_terms.specs.declared.triples.Triple.{Triple}
 use Rattle.fx_outside.specs.Endpoints.{EndpointParts}
 use Rattle.fx_algebra.specs.Groups.{group_rows, meaning}
@@ -12,8 +12,7 @@ use Rattle.fx_grammar.specs.Accepted.{Accepted}
 use Rattle.fx_http.specs.Requests.{request_of}
 use Rattle.fx_http.specs.declared.replies.ReplyError.TheVariants.{TooLong}
 use Rattle.fx_traffic.specs.Gains.{Tell, faults_at}
-use Rattle.fx_traffic.specs.Sent.{Sent, Sends}
-use Rattle.fx_traffic.specs.Traffic.{IsServiceSent, service_query}
+use Rattle.fx_traffic.specs.Traffic.{service_query}
 use Rattle.fx_wire.specs.Exchanges.{Exchange, Seen, exchanged}
 use Rattle.fx_pool.specs.Reading.{a_service, HasFault, HasTable}
 use Rattle.fx_pool.specs.declared.faults.ReplyFault.TheVariants.{Http}
@@ -23,7 +22,6 @@ use Rattle.fx_pool.specs.declared.jobs.JobKind.TheVariants as kind
 use Rattle.fx_pool.specs.declared.jobs.JobReply.{JobReply}
 use Rattle.fx_pool.specs.declared.jobs.JobReply.TheVariants as reply
 use Rattle.fx_pool.specs.declared.jobs.Work.TheVariants as work
-use Rattle.fx_services.specs.Went.{Went}
 use Rattle.fx_services.specs.declared.services.ServiceError.{ServiceError}
 use Rattle.fx_services.specs.declared.services.ServiceError.TheVariants as error
 
@@ -64,11 +62,6 @@ IsRowsOf at (reply.TooLong size) result = result ≡ Err (error.TooLong at size)
 IsRowsOf at (reply.Truth truth) result = ⊥
 IsRowsOf at (reply.Found founds) result = ⊥
 
-abbrev pub AreRowsOf : ℕ → List JobReply → Result (List Bindings) ServiceError → Type 0
-AreRowsOf at [] result = ⊥
-AreRowsOf at (r ∷ []) result = IsRowsOf at r result
-AreRowsOf at (r ∷ s ∷ rs) result = ⊥
-
 -- ---- rows
 
 -- the one exchange has the text to the endpoint, and a reply that reads as these rows, which bind the group's scope alone
@@ -99,52 +92,9 @@ pub record IsBadService (tells : List Triple → Type 0) (e : EndpointParts) (g 
   pub fault : HasFault (a_service (scope g)) bad.reply bad.why
   pub long : (graph : List Triple) → tells graph → (bad.why ≡ Http TooLong) × (67108864 < length bad.reply)
 
--- Why there are no rows: but for a bad reply nothing was exchanged then, unless memory ran out. The text is too long exactly in the case that says so.
+-- Why there are no rows: but for a bad reply nothing was exchanged then. The text is too long exactly in the case that says so.
 abbrev pub HasServiceCause : List Seen → List Seen → List EndpointParts → List ℕ → Group → List Exchange → ServiceError → Type 0
 HasServiceCause before after endpoints iri g xs error.Unknown = All (λ e. e.iri ≢ iri) endpoints × (xs ≡ [])
 HasServiceCause before after endpoints iri g xs (error.Failed at) = AtAddress endpoints iri at (λ e. (xs ≡ []) × (length (service_text g) ≤ 67108864) × (faults_at before iri < faults_at after iri))
 HasServiceCause before after endpoints iri g xs (error.Bad at bad) = AtAddress endpoints iri at (λ e. IsBadService (Tell before iri) e g xs bad)
 HasServiceCause before after endpoints iri g xs (error.TooLong at size) = AtAddress endpoints iri at (λ e. (xs ≡ []) × (size ≡ length (service_text g)) × (67108864 < size))
-HasServiceCause before after endpoints iri g xs error.Memory = Unit {0}
-
--- how many exchanges failed: one where that is the cause, none where it isn't, and at most one where memory ran out
-abbrev pub HasFailed : ℕ → Result (List Bindings) ServiceError → Type 0
-HasFailed failed (Ok rows) = failed ≡ 0
-HasFailed failed (Err error.Unknown) = failed ≡ 0
-HasFailed failed (Err (error.Failed at)) = failed ≡ 1
-HasFailed failed (Err (error.Bad at bad)) = failed ≡ 0
-HasFailed failed (Err (error.TooLong at size)) = failed ≡ 0
-HasFailed failed (Err error.Memory) = failed ≤ 1
-
--- memory didn't run out
-abbrev pub IsSettled : Result (List Bindings) ServiceError → Type 0
-IsSettled (Ok rows) = Unit {0}
-IsSettled (Err error.Unknown) = Unit {0}
-IsSettled (Err (error.Failed at)) = Unit {0}
-IsSettled (Err (error.Bad at bad)) = Unit {0}
-IsSettled (Err (error.TooLong at size)) = Unit {0}
-IsSettled (Err error.Memory) = ⊥
-
--- ---- an occurrence
-
--- A group was asked of the endpoint at an address over wires: what was exchanged, which is its one text at most; its rows, or why there are none; and
--- the faults that were counted, which are at the address alone where wires count each address alone.
-pub record ServiceAsked (tells alone : Bool) (before after : List Seen) (endpoints : List EndpointParts) (iri : List ℕ) (g : Group) (result : Result (List Bindings) ServiceError) : Type 0 where
-  pub exchanges : List Exchange
-  pub failed : ℕ
-  pub failed_so : HasFailed failed result
-  pub went : Went tells alone failed before after exchanges
-  pub exact : IsTrue alone → IsSettled result → (address : List ℕ) → faults_at after address ≡ faults_at before address + cond {A = ℕ} (bytes_eq iri address) failed 0
-  pub wanted : List Sent
-  pub left : List Sent
-  pub sent : Sends wanted left exchanges
-  pub text : (wanted ≡ []) ⊎ IsServiceSent endpoints iri g wanted
-  pub told : IfOk result (λ rows. (e : EndpointParts) × Contains endpoints e × (e.iri ≡ iri) × IsToldBy e g exchanges rows)
-  pub rows : IfOk result (λ rows. (graph : List Triple) → Tell before iri graph → AreRowsOver graph g rows)
-  pub cause : IfErr result (HasServiceCause before after endpoints iri g exchanges)
-
--- so it was asked of the endpoint of a number
-pub record AskedAt (tells alone : Bool) (before after : List Seen) (endpoints : List EndpointParts) (at : ℕ) (g : Group) (result : Result (List Bindings) ServiceError) : Type 0 where
-  pub endpoint : EndpointParts
-  pub found : slice_get endpoints at ≡ Some endpoint
-  pub asked : ServiceAsked tells alone before after endpoints endpoint.iri g result

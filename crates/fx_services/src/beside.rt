@@ -1,7 +1,8 @@
-//! Occurrences of SERVICE, invoked side by side.
-ghost use Rattle.std.specs.Prelude.{◌≡◌, ◌<◌, ◌≤◌, All, IfOk, length, map};
+//! Occurrences of SERVICE, invoked side by side (SPARQL 1.1 Federated Query, sections 2 and 4).
+ghost use Rattle.std.specs.Prelude.{◌≡◌, ◌<◌, ◌≤◌, IfOk, length, map};
 ghost use Rattle.fx_services.specs.Beside as spec;
 ghost use Rattle.fx_services.specs.Noted as noted;
+ghost use Rattle.fx_sources.specs.Registries.{number_of};
 
 use crate::noted::{Down, note_down};
 use crate::services::{ServiceError, job_of, rows_in};
@@ -15,6 +16,9 @@ use std::marker::Model;
 use std::sync::Wait;
 use std::thread::Threads;
 
+/// The most occurrences that are invoked at once.
+const MOST: usize = 65_536;
+
 /// An occurrence of SERVICE of a query, which owns it.
 #[derive(Drop)]
 pub struct Occurrence<'a> {
@@ -26,7 +30,7 @@ pub struct Occurrence<'a> {
 impl<'a> Model for Occurrence<'a> {
     ghost use Rattle.std.specs.Coded.{codes};
     ghost use Rattle.fx_algebra.specs.contracts.queries.Group as tree;
-    ghost use Rattle.fx_services.specs.Beside.{Occurred};
+    ghost use Rattle.fx_services.specs.Beside.{Occurrence as Occurred};
 
     ghost Value = { Occurred };
 
@@ -35,8 +39,22 @@ impl<'a> Model for Occurrence<'a> {
     ghost view = { λ o. record { silent = o.silent; iri = o.iri.now; group = o.group.now } };
 }
 
-/// What occurrences of SERVICE come to, in their order: the text of each is sent once, each wire sending the next that no other has begun. An unknown one has none.
-/// Each is invoked, whatever became of those before it.
+/// What a query goes on with behind its occurrences of SERVICE.
+#[derive(Drop)]
+pub struct Settled {
+    /// The rows of each that passed, in text order, up to the one that was refused, where there is one. One that is down has the one empty solution.
+    pub rows: Vec<Items<Solution>>,
+    /// Those of them that are down, by their places in text order.
+    pub down: Vec<Down>,
+    /// Why the first without SILENT that has no rows has none.
+    pub refused: Option<ServiceError>,
+}
+
+/// What occurrences of SERVICE come to, in their order: the rows of each over the graph at its IRI, in some order, or why there are none.
+///
+/// The text of each, a SELECT with its group's scope as columns, is sent once to the endpoint of the registry whose address is its IRI, character by character, and
+/// nowhere else: each wire sends the next that no other has begun. Nothing is sent for one whose endpoint the registry doesn't have, or whose text is longer than 67,108,864
+/// bytes. Each is invoked whatever becomes of the others, in pieces of 65,536; where memory runs out, those of later pieces aren't.
 pub fn ask_services<R: Threads + Wait + Sync, W: Wire + Send>(
     rt: &R,
     alloc: Global,
@@ -46,7 +64,36 @@ pub fn ask_services<R: Threads + Wait + Sync, W: Wire + Send>(
 ) -> Result<Vec<Result<Items<Solution>, ServiceError>>, Memory>
     requires wired { (0 < length wires.old) × (length wires.old ≤ 16) }
     requires servable { spec.AreServable asked.now }
-    requires few { length asked.now < 4294967296 }
+    ensures { spec.AllInvoked W.tells_log W.counts_alone (map W.seen wires.old) (map W.seen wires.new) registry.now asked.now (spec.came_in result) }
+{
+    let mut came = Vec::new(alloc);
+    let mut start = 0;
+    while start < asked.len() {
+        let end = start + (asked.len() - start).min(MOST);
+        match ask_some(rt, alloc, &asked[start..end], registry, wires) {
+            Err(Memory) => return Err(Memory),
+            Ok(mut more) => {
+                if came.append(&mut more).is_err() {
+                    return Err(Memory);
+                }
+            }
+        }
+        start = end;
+    }
+    Ok(came)
+}
+
+// What occurrences come to that are invoked at once.
+fn ask_some<R: Threads + Wait + Sync, W: Wire + Send>(
+    rt: &R,
+    alloc: Global,
+    asked: &[Occurrence<'_>],
+    registry: &Registry,
+    wires: &mut [W],
+) -> Result<Vec<Result<Items<Solution>, ServiceError>>, Memory>
+    requires wired { (0 < length wires.old) × (length wires.old ≤ 16) }
+    requires servable { spec.AreServable asked.now }
+    requires few { length asked.now ≤ 65536 }
     ensures { spec.AllInvoked W.tells_log W.counts_alone (map W.seen wires.old) (map W.seen wires.new) registry.now asked.now (spec.came_in result) }
 {
     match jobs_of(alloc, asked, registry) {
@@ -64,7 +111,7 @@ fn jobs_of(alloc: Global, asked: &[Occurrence<'_>], registry: &Registry) -> Resu
 {
     let mut jobs = Vec::new(alloc);
     for occurrence in asked {
-        if let Some(at) = registry.find(occurrence.iri) {
+        if let Some(at) = endpoint_of(registry, occurrence) {
             let job = job_of(alloc, at, occurrence.group)?;
             if jobs.push(job).is_err() {
                 return Err(Memory);
@@ -72,6 +119,13 @@ fn jobs_of(alloc: Global, asked: &[Occurrence<'_>], registry: &Registry) -> Resu
         }
     }
     Ok(jobs)
+}
+
+// The endpoint that is asked for an occurrence, by its number.
+fn endpoint_of(registry: &Registry, occurrence: &Occurrence<'_>) -> Option<u32>
+    ensures { result ≡ number_of occurrence.now.iri registry.now }
+{
+    registry.find(occurrence.iri)
 }
 
 // What the replies tell, with a reason for each that is unknown.
@@ -87,7 +141,7 @@ fn told_of(
     let mut came = Vec::new(alloc);
     let mut replies = replies.into_iter();
     for occurrence in asked {
-        let one = match registry.find(occurrence.iri) {
+        let one = match endpoint_of(registry, occurrence) {
             None => Err(ServiceError::Unknown),
             Some(at) => match replies.next() {
                 None => unreachable!(),
@@ -101,54 +155,71 @@ fn told_of(
     Ok(came)
 }
 
-/// What a query goes on with, by what its occurrences came to: the rows of each, in text order. A silent one that has none gives the one empty solution, and is
-/// noted under its place; of the plain ones that have none the first in text order is the refusal.
+/// What a query goes on with, by what its occurrences of SERVICE came to, both in text order.
+///
+/// One with SILENT that has no rows gives the one empty solution, and is down under its place. Of those without SILENT that have none the first in text order is refused,
+/// and nothing of those behind it is kept.
 pub fn settle(
     alloc: Global,
     asked: &[Occurrence<'_>],
     came: Vec<Result<Items<Solution>, ServiceError>>,
-    down: &mut Vec<Down>,
-) -> Result<Vec<Items<Solution>>, ServiceError>
+) -> Result<Settled, Memory>
     requires { length came.items ≡ length asked.now }
-    ensures { spec.AreSettled asked.now came.items down.old.items down.new.items result }
+    ensures { IfOk result (spec.AreSettled asked.now came.items) }
 {
     let mut rows = Vec::new(alloc);
+    let mut down = Vec::new(alloc);
     let mut came = came.into_iter();
     for occurrence in asked {
         let Some(one) = came.next() else {
             unreachable!()
         };
         let number = rows.len() as u64;
-        match come_to(alloc, number, occurrence.silent, occurrence.iri, one, down) {
-            Err(error) => return Err(error),
-            Ok(found) => {
+        match come_to(alloc, number, occurrence, one, &mut down) {
+            Err(Memory) => return Err(Memory),
+            Ok(Err(error)) => {
+                let refused = Some(error);
+                return Ok(Settled {
+                    rows,
+                    down,
+                    refused,
+                });
+            }
+            Ok(Ok(found)) => {
                 if rows.push(found).is_err() {
-                    return Err(ServiceError::Memory);
+                    return Err(Memory);
                 }
             }
         }
     }
-    Ok(rows)
+    let refused = None;
+    Ok(Settled {
+        rows,
+        down,
+        refused,
+    })
 }
 
-// What an occurrence comes to.
+// What an occurrence comes to: its rows, or why it is refused.
 fn come_to(
     alloc: Global,
     number: u64,
-    silent: bool,
-    iri: &Iri,
+    occurrence: &Occurrence<'_>,
     came: Result<Items<Solution>, ServiceError>,
     down: &mut Vec<Down>,
-) -> Result<Items<Solution>, ServiceError>
-    ensures { noted.ComesTo number silent iri.now down.old.items down.new.items came result }
+) -> Result<Result<Items<Solution>, ServiceError>, Memory>
+    ensures { IfOk result (noted.ComesTo number occurrence.now.silent occurrence.now.iri down.old.items down.new.items came) }
 {
     match came {
-        Ok(rows) => Ok(rows),
+        Ok(rows) => Ok(Ok(rows)),
         Err(error) => {
-            if silent {
-                note_down(alloc, number, iri, error, down)
+            if occurrence.silent {
+                match note_down(alloc, number, occurrence.iri, error, down) {
+                    Err(Memory) => Err(Memory),
+                    Ok(rows) => Ok(Ok(rows)),
+                }
             } else {
-                Err(error)
+                Ok(Err(error))
             }
         }
     }

@@ -5,8 +5,9 @@ pub mod beside;
 pub mod noted;
 pub mod services;
 
+pub use beside::{Occurrence, Settled, ask_services, settle};
 use fx_terms::shareable;
-pub use noted::{Down, DownCause, rows_or_down};
+pub use noted::{Down, DownCause};
 pub use services::ServiceError;
 
 /// Every type of this crate may be shared between threads and sent to them.
@@ -14,4 +15,5 @@ pub fn all_shareable() {
     shareable::<Down>();
     shareable::<DownCause>();
     shareable::<ServiceError>();
+    shareable::<Settled>();
 }

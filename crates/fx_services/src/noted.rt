@@ -1,17 +1,12 @@
-//! Occurrences of SERVICE, plain and silent.
-ghost use Rattle.std.specs.Prelude.{◌≡◌, ◌∷◌, ◌<◌, ◌≤◌, [], IfOk, length, map};
+//! Occurrences of SERVICE SILENT that failed.
+ghost use Rattle.std.specs.Prelude.{◌≡◌, ◌∷◌, [], IfOk};
 ghost use Rattle.fx_services.specs.Noted as spec;
-ghost use Rattle.fx_services.specs.ServicesAsked.{IsServable};
 
-use crate::services::{ServiceError, ask_service};
-use fx_algebra::{Group, Solution};
+use crate::services::ServiceError;
+use fx_algebra::Solution;
 use fx_pool::BadReply;
-use fx_sources::Registry;
 use fx_terms::{Iri, Items, Memory};
-use fx_wire::Wire;
 use std::alloc::Global;
-use std::sync::Wait;
-use std::thread::Threads;
 
 /// An occurrence of SERVICE SILENT that failed.
 #[derive(Drop)]
@@ -35,83 +30,35 @@ pub enum DownCause {
     Unknown,
 }
 
-/// The rows of the occurrence of SERVICE of this number. Where it is silent and has none, it gives the one empty solution, and is noted behind what was down;
-/// where it is plain and has none, the reason is the refusal.
-pub fn rows_or_down<R: Threads + Wait + Sync, W: Wire + Send>(
-    rt: &R,
-    alloc: Global,
-    number: u64,
-    silent: bool,
-    iri: &Iri,
-    group: &Group,
-    down: &mut Vec<Down>,
-    registry: &Registry,
-    wires: &mut [W],
-) -> Result<Items<Solution>, ServiceError>
-    requires wired { (0 < length wires.old) × (length wires.old ≤ 16) }
-    requires servable { IsServable group.now }
-    ensures { spec.OccurrenceAsked W.tells_log W.counts_alone (map W.seen wires.old) (map W.seen wires.new) registry.now number silent iri.now group.now down.old.items down.new.items result }
-{
-    match ask_service(rt, alloc, iri, group, registry, wires) {
-        Ok(rows) => Ok(rows),
-        Err(error) => {
-            if silent {
-                note_down(alloc, number, iri, error, down)
-            } else {
-                Err(error)
-            }
-        }
-    }
-}
-
-/// The one empty solution of a silent occurrence that has no rows for this reason. It is noted behind what was down.
+/// Notes an occurrence that has no rows for this reason behind those that are down, and gives the one empty solution.
 pub(crate) fn note_down(
     alloc: Global,
     number: u64,
     iri: &Iri,
     error: ServiceError,
     down: &mut Vec<Down>,
-) -> Result<Items<Solution>, ServiceError>
-    ensures { spec.IsNoted number iri.now error down.old.items down.new.items result }
+) -> Result<Items<Solution>, Memory>
+    ensures { IfOk result (spec.IsNoted number iri.now (spec.cause_of error) down.old.items down.new.items) }
 {
-    match cause_of(error) {
-        None => Err(ServiceError::Memory),
-        Some(why) => note(alloc, number, iri, why, down),
-    }
-}
-
-fn note(
-    alloc: Global,
-    number: u64,
-    iri: &Iri,
-    why: DownCause,
-    down: &mut Vec<Down>,
-) -> Result<Items<Solution>, ServiceError>
-    ensures { spec.IsNotedBy number iri.now why down.old.items down.new.items result }
-{
-    let Ok(rows) = one_row(alloc) else {
-        return Err(ServiceError::Memory);
-    };
-    let Ok(iri) = iri.copy() else {
-        return Err(ServiceError::Memory);
-    };
+    let rows = one_row(alloc)?;
+    let iri = iri.copy()?;
     let place = number;
+    let why = cause_of(error);
     if down.push(Down { place, iri, why }).is_err() {
-        return Err(ServiceError::Memory);
+        return Err(Memory);
     }
     Ok(Items::from_vec(rows))
 }
 
-// Why an occurrence is down that has no rows for this reason. Want of memory is none.
-fn cause_of(error: ServiceError) -> Option<DownCause>
+// Why an occurrence is down that has no rows for this reason.
+fn cause_of(error: ServiceError) -> DownCause
     ensures { result ≡ spec.cause_of error }
 {
     match error {
-        ServiceError::Unknown => Some(DownCause::Unknown),
-        ServiceError::Failed { at: _ } => Some(DownCause::Failed),
-        ServiceError::Bad { at: _, bad } => Some(DownCause::Bad(bad)),
-        ServiceError::TooLong { at: _, length } => Some(DownCause::TooLong { length }),
-        ServiceError::Memory => None,
+        ServiceError::Unknown => DownCause::Unknown,
+        ServiceError::Failed { at: _ } => DownCause::Failed,
+        ServiceError::Bad { at: _, bad } => DownCause::Bad(bad),
+        ServiceError::TooLong { at: _, length } => DownCause::TooLong { length },
     }
 }
 

@@ -1,5 +1,5 @@
-//! The rows of an occurrence of SERVICE (SPARQL 1.1 Federated Query, section 4).
-ghost use Rattle.std.specs.Prelude.{◌≡◌, ◌++◌, ◌∷◌, ◌<◌, ◌≤◌, [], IfOk, OnOk, false, length, map, string_bytes};
+//! What is asked for an occurrence of SERVICE, and what its reply says (SPARQL 1.1 Federated Query, section 4).
+ghost use Rattle.std.specs.Prelude.{◌≡◌, ◌++◌, IfOk, OnOk, false, string_bytes};
 ghost use Rattle.fx_algebra.specs.Printed as printed;
 ghost use Rattle.fx_algebra.specs.Scopes as scopes;
 ghost use Rattle.fx_algebra.specs.declared.queries.Form.TheVariants as form;
@@ -7,15 +7,11 @@ ghost use Rattle.fx_traffic.specs.Traffic as traffic;
 ghost use Rattle.fx_services.specs.ServicesAsked as spec;
 
 use fx_algebra::{Group, Solution, scope};
-use fx_pool::{BadReply, Job, JobReply, RequestText, Work, run_jobs};
+use fx_pool::{BadReply, Job, JobReply, RequestText, Work};
 use fx_print::groups::push_group;
 use fx_print::words::{push_fixed, push_variables, without_the_first_space};
-use fx_sources::Registry;
-use fx_terms::{Iri, Items, Memory, Name};
-use fx_wire::Wire;
+use fx_terms::{Items, Memory, Name};
 use std::alloc::Global;
-use std::sync::Wait;
-use std::thread::Threads;
 
 /// Why an occurrence of SERVICE has no rows. An endpoint stands under its number in the registry.
 #[derive(Drop)]
@@ -28,68 +24,9 @@ pub enum ServiceError {
     Bad { at: u32, bad: BadReply },
     /// The text has more than 67,108,864 bytes, so many, and wasn't sent.
     TooLong { at: u32, length: u64 },
-    /// Memory ran out.
-    Memory,
 }
 
-/// The rows of an occurrence of SERVICE over the graph at its IRI, in some order.
-///
-/// The text of its group, a SELECT with the group's scope as its columns, is sent once to the endpoint of the registry whose address is the IRI, character
-/// by character. It is sent nowhere else, and nothing is sent where the registry has no such endpoint or the text is longer than 67,108,864 bytes.
-pub fn ask_service<R: Threads + Wait + Sync, W: Wire + Send>(
-    rt: &R,
-    alloc: Global,
-    iri: &Iri,
-    group: &Group,
-    registry: &Registry,
-    wires: &mut [W],
-) -> Result<Items<Solution>, ServiceError>
-    requires wired { (0 < length wires.old) × (length wires.old ≤ 16) }
-    requires servable { spec.IsServable group.now }
-    ensures { spec.ServiceAsked W.tells_log W.counts_alone (map W.seen wires.old) (map W.seen wires.new) registry.now iri.now group.now result }
-{
-    match registry.find(iri) {
-        None => Err(ServiceError::Unknown),
-        Some(at) => ask_at(rt, alloc, at, group, registry, wires),
-    }
-}
-
-// The rows of a group at the endpoint of this number.
-fn ask_at<R: Threads + Wait + Sync, W: Wire + Send>(
-    rt: &R,
-    alloc: Global,
-    at: u32,
-    group: &Group,
-    registry: &Registry,
-    wires: &mut [W],
-) -> Result<Items<Solution>, ServiceError>
-    requires wired { (0 < length wires.old) × (length wires.old ≤ 16) }
-    requires servable { spec.IsServable group.now }
-    requires within { at < length registry.now }
-    ensures { spec.AskedAt W.tells_log W.counts_alone (map W.seen wires.old) (map W.seen wires.new) registry.now at group.now result }
-{
-    match jobs_of(alloc, at, group) {
-        Err(Memory) => Err(ServiceError::Memory),
-        Ok(jobs) => match run_jobs(rt, alloc, registry.endpoints(), jobs.as_slice(), wires) {
-            Err(Memory) => Err(ServiceError::Memory),
-            Ok(replies) => rows_of(at, replies),
-        },
-    }
-}
-
-// The one job that asks for a group.
-fn jobs_of(alloc: Global, at: u32, group: &Group) -> Result<Vec<Job>, Memory>
-    ensures { IfOk result (λ jobs. jobs.items ≡ spec.job_of at group.now ∷ []) }
-{
-    let job = job_of(alloc, at, group)?;
-    let mut jobs = Vec::new(alloc);
-    if jobs.push(job).is_err() {
-        return Err(Memory);
-    }
-    Ok(jobs)
-}
-
-/// The job that asks the endpoint of this number for a group.
+/// The job that asks the endpoint of this number for a group: its text is a SELECT with the group's scope as its columns.
 pub(crate) fn job_of(alloc: Global, at: u32, group: &Group) -> Result<Job, Memory>
     ensures { IfOk result (λ job. job ≡ spec.job_of at group.now) }
 {
@@ -132,18 +69,6 @@ fn push_columns(text: &mut String, columns: &[Name]) -> Result<(), Memory>
         return push_fixed(text, "*");
     }
     push_variables(text, columns)
-}
-
-// The rows that the one reply tells, or why there are none.
-fn rows_of(at: u32, replies: Vec<JobReply>) -> Result<Items<Solution>, ServiceError>
-    requires { spec.IsOneForService replies.items }
-    ensures { spec.AreRowsOf at replies.items result }
-{
-    let mut replies = replies;
-    match replies.pop() {
-        None => unreachable!(),
-        Some(reply) => rows_in(at, reply),
-    }
 }
 
 /// The rows that a reply tells, or why there are none.

@@ -1,67 +1,67 @@
-use Rattle.std.proofs.Common.{◌≡◌, ◌∙◌, ◌<◌, ap, map, sym, subst, List, None, Some, All, IfOk, IfSome, Err, Ok, Result, length, arith}
-use Rattle.std.specs.declared.alloc.Global.{Global}
-use Rattle.std.specs.declared.vec.Vec.{Vec}
-use Rattle.std.proofs.lemmas.List.Elements.{All-from_recursion}
-use Rattle.fx_outside.specs.Endpoints.{EndpointParts}
-use Rattle.fx_terms.specs.declared.allocation.Memory.{Memory}
-use Rattle.fx_pool.specs.Runs.{WiresDid}
-use Rattle.fx_pool.specs.declared.jobs.Job.{Job}
-use Rattle.fx_services.specs.Beside.{AreToldOf, Came, came_in, jobs_of}
-use Rattle.fx_services.proofs.SideLemmas.{all_invoked, all_lost, few_jobs, jobs_within, none_asked, replies_for}
+use Rattle.std.proofs.Common.{rules, ◌≡◌, ◌+◌, ◌++◌, sym, subst, List, [], Some, All, map, slice_range, take, arith}
+use Rattle.std.proofs.lemmas.List.{take_all}
+use Rattle.fx_services.specs.Beside.{AllInvoked, AreServable, Came, Occurrence}
+use Rattle.fx_services.proofs.PieceLemmas.{are_some, lost_behind, lost_in, none, piece_servable, some_more}
+use Rattle.fx_pool.proofs.WiresLemmas.{all_tell}
 use Rattle.fx_services.proofs.beside.ask_services.Goals as goal
 
+pub loop-start-init : goal.loop-start-init
+loop-start-init g c =
+    let see = map g.W.Wire.seen c.args.wires.now in
+    record {
+      within = omega arith;
+      so_far = subst (λ (v : List Came). AllInvoked g.W.Wire.tells_log g.W.Wire.counts_alone see see c.args.registry.now [] (Some v)) (sym c.new-came.ensures.items) (none g.W.Wire.tells_log g.W.Wire.counts_alone c.args.registry.now see);
+    }
+
+pub ask_some-requires-clause-servable : goal.ask_some-requires-clause-servable
+ask_some-requires-clause-servable g c κs w = piece_servable c.args.asked.now c.loop-start.start c.min.result (are_some c.args.asked.now c.loop-start.start c.min.result c.loop-start-test.true c.min.ensures) c.requires.servable
+
+pub ask_some-requires-clause-few : goal.ask_some-requires-clause-few
+ask_some-requires-clause-few g c κs w = (are_some c.args.asked.now c.loop-start.start c.min.result c.loop-start-test.true c.min.ensures).few
+
 pub returns-in-Err : goal.returns-in-Err
-returns-in-Err g c = none_asked g.W.Wire.tells_log g.W.Wire.counts_alone (map g.W.Wire.seen c.args.wires.now) c.args.registry.now c.args.asked.now
-
-pub run_jobs-requires-clause-within : goal.run_jobs-requires-clause-within
-run_jobs-requires-clause-within g c κs within =
-    subst (λ (v : List Job). All (λ (j : Job). j.at < length c.endpoints.result.now) v) (sym (c.as_slice.ensures.value ∙ c.in-Ok.ensures.jobs))
-    (subst (λ (v : List EndpointParts). All (λ (j : Job). j.at < length v) (jobs_of c.args.registry.now c.args.asked.now)) (sym c.endpoints.ensures.value)
-    (All-from_recursion (λ (j : Job). j.at < length c.args.registry.now) (jobs_of c.args.registry.now c.args.asked.now) (jobs_within c.args.registry.now c.args.asked.now)))
-
-pub run_jobs-requires-clause-few : goal.run_jobs-requires-clause-few
-run_jobs-requires-clause-few g c κs within =
-    let long : length c.as_slice.result.now ≡ length (jobs_of c.args.registry.now c.args.asked.now) = ap length (c.as_slice.ensures.value ∙ c.in-Ok.ensures.jobs) in
-    let few = c.requires.few in
-    omega (arith, long, few, few_jobs c.args.registry.now c.args.asked.now)
-
-pub returns-in-Err-run_jobs : goal.returns-in-Err-run_jobs
-returns-in-Err-run_jobs g c =
+returns-in-Err g c =
     let see = g.W.Wire.seen in
-    let tells = g.W.Wire.tells_log in
-    let alone = g.W.Wire.counts_alone in
-    let s = map see c.args.wires.now in
-    let t = map see c.run_jobs.new.wires in
-    all_lost tells alone s t c.args.registry.now c.args.asked.now
-    (subst (λ (v : List Job). WiresDid tells alone s t c.args.registry.now v None) (c.as_slice.ensures.value ∙ c.in-Ok.ensures.jobs)
-    (subst (λ (v : List EndpointParts). WiresDid tells alone s t v c.as_slice.result.now None) c.endpoints.ensures.value c.in-Err-run_jobs.ensures))
+    -- the laws of a type that may be sent hold wherever a thread runs, and so here
+    let laws = g.met.W.Wire g.world.𝓛 g.world.𝓜 g.world.𝓡 ((λ s x. x), (λ x. x), (λ x. x), λ x. x) in
+    let os = c.args.asked.now in
+    let k = c.loop-start.start in
+    let n = c.min.result in
+    let it = are_some os k n c.loop-start-test.true c.min.ensures in
+    lost_in g.W.Wire.tells_log g.W.Wire.counts_alone c.args.registry.now (map see c.args.wires.now) (map see c.loop-start.wires) (map see c.ask_some.new.wires)
+    (all_tell see g.W.Wire.tells_log laws.told c.args.wires.now) (all_tell see g.W.Wire.tells_log laws.told c.loop-start.wires) os k (k + n) (slice_range os k (k + n)) it.front c.loop-start.came.items c.loop-start.invariant.so_far c.in-Err.ensures
 
-pub told_of-requires : goal.told_of-requires
-told_of-requires g c =
+pub returns-then-is_err : goal.returns-then-is_err
+returns-then-is_err g c =
     let see = g.W.Wire.seen in
-    let tells = g.W.Wire.tells_log in
-    let alone = g.W.Wire.counts_alone in
-    let s = map see c.args.wires.now in
-    let t = map see c.run_jobs.new.wires in
-    let es = c.args.registry.now in
-    let did =
-    subst (λ (v : List Job). WiresDid tells alone s t es v (Some c.in-Ok-run_jobs.replies.items)) (c.as_slice.ensures.value ∙ c.in-Ok.ensures.jobs)
-    (subst (λ (v : List EndpointParts). WiresDid tells alone s t v c.as_slice.result.now (Some c.in-Ok-run_jobs.replies.items)) c.endpoints.ensures.value c.in-Ok-run_jobs.ensures) in
-    replies_for tells alone s t es c.args.asked.now c.in-Ok-run_jobs.replies.items did.done.0 did.done.1
+    let laws = g.met.W.Wire g.world.𝓛 g.world.𝓜 g.world.𝓡 ((λ s x. x), (λ x. x), (λ x. x), λ x. x) in
+    let os = c.args.asked.now in
+    let k = c.loop-start.start in
+    let n = c.min.result in
+    let it = are_some os k n c.loop-start-test.true c.min.ensures in
+    lost_behind g.W.Wire.tells_log g.W.Wire.counts_alone c.args.registry.now (map see c.args.wires.now) (map see c.loop-start.wires) (map see c.ask_some.new.wires)
+    (all_tell see g.W.Wire.tells_log laws.told c.args.wires.now) (all_tell see g.W.Wire.tells_log laws.told c.loop-start.wires) os k (k + n) (slice_range os k (k + n)) it.front c.loop-start.came.items c.loop-start.invariant.so_far c.in-Ok.more.items c.in-Ok.ensures
+
+pub loop-start-preserved : goal.loop-start-preserved
+loop-start-preserved g c =
+    let see = g.W.Wire.seen in
+    let laws = g.met.W.Wire g.world.𝓛 g.world.𝓜 g.world.𝓡 ((λ s x. x), (λ x. x), (λ x. x), λ x. x) in
+    let os = c.args.asked.now in
+    let k = c.loop-start.start in
+    let n = c.min.result in
+    let it = are_some os k n c.loop-start-test.true c.min.ensures in
+    let joined : c.append.new.self.items ≡ c.loop-start.came.items ++ c.in-Ok.more.items = search rules in
+    record {
+      within = it.within;
+      so_far =
+          subst (λ (v : List Came). AllInvoked g.W.Wire.tells_log g.W.Wire.counts_alone (map see c.args.wires.now) (map see c.ask_some.new.wires) c.args.registry.now (take (k + n) os) (Some v)) (sym joined)
+          (some_more g.W.Wire.tells_log g.W.Wire.counts_alone c.args.registry.now (map see c.args.wires.now) (map see c.loop-start.wires) (map see c.ask_some.new.wires)
+          (all_tell see g.W.Wire.tells_log laws.told c.args.wires.now) (all_tell see g.W.Wire.tells_log laws.told c.loop-start.wires) os k (k + n) (slice_range os k (k + n)) it.front c.loop-start.came.items c.loop-start.invariant.so_far c.in-Ok.more.items c.in-Ok.ensures);
+    }
 
 pub returns : goal.returns
 returns g c =
     let see = g.W.Wire.seen in
-    let tells = g.W.Wire.tells_log in
-    let alone = g.W.Wire.counts_alone in
-    let s = map see c.args.wires.now in
-    let t = map see c.run_jobs.new.wires in
-    let es = c.args.registry.now in
-    let did =
-    subst (λ (v : List Job). WiresDid tells alone s t es v (Some c.in-Ok-run_jobs.replies.items)) (c.as_slice.ensures.value ∙ c.in-Ok.ensures.jobs)
-    (subst (λ (v : List EndpointParts). WiresDid tells alone s t v c.as_slice.result.now (Some c.in-Ok-run_jobs.replies.items)) c.endpoints.ensures.value c.in-Ok-run_jobs.ensures) in
-    all_invoked tells alone s t es c.args.asked.now c.requires.servable c.in-Ok-run_jobs.replies.items did (came_in c.told_of.result) (told c.told_of.result c.told_of.ensures)
-  where
-    told : (r : Result (Vec Came Global) Memory) → IfOk r (λ came. AreToldOf c.args.registry.now c.args.asked.now c.in-Ok-run_jobs.replies.items came.items) → IfSome (came_in r) (AreToldOf c.args.registry.now c.args.asked.now c.in-Ok-run_jobs.replies.items)
-    told (Ok came) h = h
-    told (Err e) h = tt
+    let os = c.args.asked.now in
+    let whole : take c.loop-start.start os ≡ os = take_all c.loop-start.start os (omega arith) in
+    subst (λ (v : List Occurrence). AllInvoked g.W.Wire.tells_log g.W.Wire.counts_alone (map see c.args.wires.now) (map see c.loop-start.wires) c.args.registry.now v (Some c.loop-start.came.items)) whole c.loop-start.invariant.so_far

@@ -3,7 +3,7 @@ use Rattle.std.proofs.lemmas.List.{take_all}
 use Rattle.fx_pool.specs.declared.jobs.Job.{Job}
 use Rattle.fx_sources.specs.Registries.{number_of}
 use Rattle.fx_services.specs.Beside as spec
-use Rattle.fx_services.specs.Beside.{Occurred, job_if}
+use Rattle.fx_services.specs.Beside.{Occurrence, job_if}
 use Rattle.fx_services.specs.ServicesAsked.{job_of}
 use Rattle.fx_services.proofs.ToldLemmas.{jobs_more}
 use Rattle.fx_services.proofs.beside.jobs_of.Goals as goal
@@ -16,15 +16,15 @@ loop-occurrence-preserved c =
     let k = c.loop-occurrence.occurrence-index in
     let o = c.occurrence-item.result in
     let old = c.loop-occurrence.jobs.items in
-    elim c.match-find.branch [
+    elim c.match-endpoint_of.branch [
       | in-Some+in_ok-job+else-is_err w ↦
-          (let number : number_of o.iri es ≡ Some w.in-Some.at = ap (λ (v : Occurred). number_of v.iri es) (sym c.occurrence.view_is) ∙ sym w.in-Some.ensures.number in
+          (let number : number_of o.iri es ≡ Some w.in-Some.at = sym w.in-Some.ensures in
           let pushed : w.push.new.self.items ≡ old ++ w.in_ok-job.job ∷ [] = search rules in
-          let job : w.in_ok-job.job ≡ job_of w.in-Some.at o.group = w.in_ok-job.ensures ∙ ap (λ (v : Occurred). job_of w.in-Some.at v.group) c.occurrence.view_is in
+          let job : w.in_ok-job.job ≡ job_of w.in-Some.at o.group = w.in_ok-job.ensures ∙ ap (λ (v : Occurrence). job_of w.in-Some.at v.group) c.occurrence.view_is in
           ap (λ v. v.items) w.jobs-is ∙ pushed ∙ ap (λ (v : List Job). v ++ w.in_ok-job.job ∷ []) c.loop-occurrence.invariant ∙ ap (λ (v : Job). spec.jobs_of es _ ++ v ∷ []) job
           ∙ sym (jobs_more es os k o c.loop-occurrence-test.true c.occurrence-item.is (Some w.in-Some.at) number))
       | in_default w ↦
-          (let number : number_of o.iri es ≡ None = ap (λ (v : Occurred). number_of v.iri es) (sym c.occurrence.view_is) ∙ sym w.in_default.ensures.number in
+          (let number : number_of o.iri es ≡ None = sym w.in_default.ensures in
           ap (λ v. v.items) w.jobs-is ∙ c.loop-occurrence.invariant ∙ sym (append-nil _) ∙ sym (jobs_more es os k o c.loop-occurrence-test.true c.occurrence-item.is None number))
     ]
 

@@ -1,4 +1,4 @@
-use Rattle.std.proofs.Common.{◌≡◌, ◌++◌, List, drop, length}
+use Rattle.std.proofs.Common.{◌≡◌, ◌++◌, [], List, drop, length}
 use Rattle.std.specs.Vec.Iter.{into_iter_items, into_iter_len}
 use Rattle.fx_algebra.specs.Solutions.{Bindings}
 use Rattle.fx_services.specs.Beside.{HavePassed, IsFirstRefusal}
@@ -14,8 +14,8 @@ invariant-loop-occurrence l = record {
   place : length l.rows.items ≡ l.occurrence-index;
   passed : (new : List Down) (more : List (List Bindings))
       → HavePassed l.occurrence-index (drop l.occurrence-index l.asked) (into_iter_items l.came) l.down.items new more
-      → HavePassed 0 l.asked l.fn.came.items l.initial.down.items new (l.rows.items ++ more);
-  refused : (new : List Down) (e : ServiceError)
-      → IsFirstRefusal l.occurrence-index (drop l.occurrence-index l.asked) (into_iter_items l.came) l.down.items new e
-      → IsFirstRefusal 0 l.asked l.fn.came.items l.initial.down.items new e;
+      → HavePassed 0 l.asked l.fn.came.items [] new (l.rows.items ++ more);
+  refused : (new : List Down) (more : List (List Bindings)) (e : ServiceError)
+      → IsFirstRefusal l.occurrence-index (drop l.occurrence-index l.asked) (into_iter_items l.came) l.down.items new more e
+      → IsFirstRefusal 0 l.asked l.fn.came.items [] new (l.rows.items ++ more) e;
 }
