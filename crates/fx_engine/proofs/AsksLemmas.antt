@@ -1,8 +1,7 @@
 -- What asking for probes leaves of wires: some at once, and some after the other.
-use Rattle.std.proofs.Common.{◌≡◌, ◌∙◌, ap, sym, subst, refl, ℕ, ◌+◌, ◌-◌, ◌<◌, ◌≤◌, Bool, List, [], ◌∷◌, ◌++◌, map, min, Some, None, IfOk, IfErr, Result, Ok, Err, All, Contains, IsPermutation, length, length-append, slice_range, take, drop, take-append-drop, arith, append-nil, append_assoc}
+use Rattle.std.proofs.Common.{◌≡◌, ◌∙◌, ap, sym, subst, refl, ℕ, ◌+◌, ◌<◌, ◌≤◌, Bool, List, [], ◌∷◌, ◌++◌, map, Some, None, IfOk, IfErr, Result, Ok, Err, All, Contains, IsPermutation, length, length-append, take, drop, take-append-drop, arith, append-nil, append_assoc}
 use Rattle.std.specs.List.{AllByRecursion, zip}
-use Rattle.std.proofs.Math.Seq.{take-add}
-use Rattle.std.proofs.lemmas.List.{length-map, length-drop, length-take-le}
+use Rattle.std.proofs.lemmas.List.{length-map}
 use Rattle.std.proofs.lemmas.List.Elements.{All-append, All-contains, All-from_recursion, All-weaker, recursion_from_All, Contains-append_left, Contains-append_right}
 use Rattle.std.proofs.lemmas.List.Sorted.{All-permutation, Contains-permutation, IsPermutation-append, IsPermutation-append_left, IsPermutation-refl, IsPermutation-trans}
 use Rattle.fx_terms.specs.declared.triples.Triple.{Triple}
@@ -352,25 +351,3 @@ module _ (tells alone : Bool) (es : List EndpointParts) where
     -- or behind some that are
     pub lost : (more : List Bool) → AskedAll tells alone t u es some (Ok more) → AskedAll tells alone s u es probes (Err flow.Memory)
     lost more d = stopped flow.Memory (truths_lost t u some more d)
-
--- ---- some of the probes
-
--- those behind the first k: n of them, or all that are left
-pub record AreSome (probes : List Probe) (k n : ℕ) : Type 0 where
-  pub few : length (slice_range probes k (k + n)) ≤ 65536
-  pub within : k + n ≤ length probes
-  pub front : take (k + n) probes ≡ take k probes ++ slice_range probes k (k + n)
-
-pub are_some : (probes : List Probe) (k n : ℕ) → k < length probes → n ≡ min (length probes - k) 65536 → AreSome probes k n
-are_some probes k n below is =
-    let few : n ≤ length probes - k = omega (arith, is) in
-    let most : n ≤ 65536 = omega (arith, is) in
-    let same : k + n - k ≡ n = omega arith in
-    let left : length (drop k probes) ≡ length probes - k = length-drop k probes in
-    let some : slice_range probes k (k + n) ≡ take n (drop k probes) = ap (λ (m : ℕ). take m (drop k probes)) same in
-    let size : length (slice_range probes k (k + n)) ≡ n = ap length some ∙ length-take-le n (drop k probes) (omega (arith, few, left)) in
-    record {
-      few = omega (arith, size, most);
-      within = omega (arith, few, below);
-      front = take-add k n probes ∙ ap (λ (v : List Probe). take k probes ++ v) (sym some);
-    }

@@ -28,7 +28,8 @@ use Rattle.fx_traffic.proofs.GainLemmas.{gain_laws}
 use Rattle.fx_traffic.proofs.SentLemmas.{sent_laws}
 use Rattle.fx_wire.specs.Exchanges.{Exchange, Seen}
 use Rattle.fx_engine.specs.Asks.{AskedAll, IsAskRead}
-use Rattle.fx_engine.specs.Calls.{AgreesWith, AreCalls, Call, IsPassed, Occurrence, down_in, failures_at, occurrences}
+use Rattle.fx_engine.specs.Calls.{AgreesWith, AreCalls, Call, IsPassed, down_in, failures_at, occurrences}
+use Rattle.fx_services.specs.Beside.{Occurrence}
 use Rattle.fx_engine.specs.Mediation.{AreKnown, Federated, HasFedCause, HasPlanCause, HoldsBehind, IsNamed, IsRead, IsUnitBefore, IsUnitOf, KnowsServices, Serve}
 use Rattle.fx_services.specs.Noted.{places}
 use Rattle.fx_engine.specs.GroupsAsked.{CanBeAsked, units_in}
@@ -43,7 +44,7 @@ use Rattle.fx_engine.specs.declared.mediator.FedError.TheVariants as fed
 use Rattle.fx_engine.specs.declared.mediator.Outcome.{Outcome}
 use Rattle.fx_engine.specs.declared.tasks.Task.{Task}
 use Rattle.fx_engine.proofs.BatchCauseLemmas.{batch_cause_behind, read_of_query, texts_of_query}
-use Rattle.fx_engine.proofs.CallLemmas.{calls_earlier}
+use Rattle.fx_engine.proofs.CallLemmas.{calls_earlier, first_of}
 use Rattle.fx_engine.proofs.ChoiceLemmas.{has_kept, has_learned, parts_are_by_graphs, plan_cause}
 use Rattle.fx_engine.proofs.MediationLemmas.{kept_true, known_named, learned_true, stays}
 use Rattle.fx_engine.proofs.RunsSentLemmas.{AreCalled, sent_by_all}
@@ -105,7 +106,7 @@ federated_unasked tells alone wires es q old block e known cause = record {
   gained = λ told. gain_laws.nothing wires;
   after_all = after_itself wires;
   calls = [];
-  first = record { others = occurrences q; are = refl };
+  called = inl refl;
   all_called = tt;
   passed = tt;
   down = tt;
@@ -175,7 +176,7 @@ module _ (tells alone : Bool) (s t : List Seen) (es : List EndpointParts) (q : Q
         gained = h.gained;
         after_all = h.after_all;
         calls = [];
-        first = record { others = occurrences q; are = refl };
+        called = inl refl;
         all_called = tt;
         passed = tt;
         down = tt;
@@ -268,7 +269,7 @@ module _ (tells alone : Bool) (s t : List Seen) (es : List EndpointParts) (q : Q
           gained = both.gained;
           after_all = all_after tells s t u a b h.after_all k.after_all;
           calls = k.calls;
-          first = k.first;
+          called = k.called;
           all_called = all_called;
           passed = passed;
           down = down;
@@ -290,7 +291,7 @@ module _ (tells alone : Bool) (s t : List Seen) (es : List EndpointParts) (q : Q
           sent = sent;
           faultless = faultless o read;
           traffic = λ graphs known services serve down agrees.
-              traffic_of es graphs block services down q old s h.wanted k.texts (h.left ++ k.left) k.calls k.first.others (h.exchanges ++ k.of_runs) k.of_calls both.all asked (runs_sent graphs known services serve down agrees) sent k.first.are called parted;
+              traffic_of es graphs block services down q old s h.wanted k.texts (h.left ++ k.left) k.calls (first_of k.calls (occurrences q) k.called).others (h.exchanges ++ k.of_runs) k.of_calls both.all asked (runs_sent graphs known services serve down agrees) sent (first_of k.calls (occurrences q) k.called).are called parted;
           answer = answer;
           known = knows;
           cause = cause both.all (λ x m. Contains-permutation (h.exchanges ++ k.exchanges) both.all x both.same (Contains-append_right h.exchanges k.exchanges x m));

@@ -12,10 +12,10 @@ use Rattle.fx_algebra.specs.declared.queries.Query.{Query}
 use Rattle.fx_grammar.specs.Accepted.{Accepted}
 use Rattle.fx_traffic.specs.Numbers.{numbered_from, service_in}
 use Rattle.fx_traffic.proofs.NumberLemmas.{stations_have_the_numbers}
-use Rattle.fx_engine.specs.Calls.{Occurrence, occurrence_in, occurrences}
+use Rattle.fx_engine.specs.Calls.{occurrence_in, occurrences}
 use Rattle.fx_depths.specs.Shallow.{IsShallow}
 use Rattle.fx_depths.proofs.ServiceDepths.{services_are_shallow}
-use Rattle.fx_engine.specs.Invocations.{AreServable}
+use Rattle.fx_services.specs.Beside.{AreServable, Occurrence}
 use Rattle.fx_services.specs.ServicesAsked.{IsServable}
 use Rattle.fx_engine.specs.Unknown.{first_unknown, is_registered, unknown_of}
 use Rattle.fx_engine.proofs.ServableLemmas.{HasServed, servable, services_of_the_grammar}

@@ -43,4 +43,4 @@ pub mod ChoiceLemmas
 pub mod BatchCauseLemmas
 pub mod MediationLemmas
 pub mod FederationLemmas
-mod GatherLemmas
+pub mod GatherLemmas

@@ -13,7 +13,8 @@ use Rattle.fx_algebra.specs.declared.queries.Element.TheVariants.{Bind, Filter, 
 use Rattle.fx_algebra.specs.declared.queries.Inline.{Inline}
 use Rattle.fx_algebra.specs.declared.queries.Group.{Group, Group-F, ind-Group, fold-roll-Group, map-Group, roll-Group}
 use Rattle.fx_algebra.proofs.CutLemmas.{has_the_tree}
-use Rattle.fx_engine.specs.Calls.{Occurrence, occurrence_in}
+use Rattle.fx_engine.specs.Calls.{occurrence_in}
+use Rattle.fx_services.specs.Beside.{Occurrence}
 use Rattle.fx_engine.specs.Invocations.{in_element, in_group, in_meaning, in_part, one_of}
 use Rattle.fx_engine.specs.SectionSteps.{group_of, part_of}
 use Rattle.fx_engine.proofs.SectionLemmas.{meaning_is}

@@ -1,5 +1,5 @@
 -- A query's occurrences of SERVICE were invoked, and then its runs were asked for: its outcome, or the cause of a refusal.
-use Rattle.std.proofs.Common.{◌≡◌, ◌∙◌, ap, sym, subst, refl, ℕ, zero, suc, ◌+◌, ◌≤◌, zero-le, Bool, true, false, List, [], ◌∷◌, ◌++◌, map, length, ◌⊎◌, Some, All, Contains, IfErr, IfOk, IsTrue, Result, Ok, Err, append-nil, append_assoc, arith, slice_get}
+use Rattle.std.proofs.Common.{◌≡◌, ◌∙◌, ap, sym, subst, refl, ℕ, zero, suc, ◌+◌, ◌≤◌, zero-le, Bool, true, false, List, [], ◌∷◌, ◌++◌, map, length, take, ◌⊎◌, Some, All, Contains, IfErr, IfOk, IsTrue, Result, Ok, Err, append-nil, append_assoc, arith, slice_get}
 use Rattle.std.specs.List.{AllByRecursion}
 use Rattle.std.proofs.lemmas.List.{length-map, map-append}
 use Rattle.std.proofs.lemmas.List.Elements.{All-from_recursion, Contains-append_right, recursion_from_All}
@@ -24,7 +24,8 @@ use Rattle.fx_traffic.proofs.NumberLemmas.{stations_have_the_numbers}
 use Rattle.fx_wire.specs.Exchanges.{Exchange, Seen}
 use Rattle.fx_engine.specs.AnswersAsked.{AnswerDue, AnswerGiven}
 use Rattle.fx_engine.specs.Asked.{Asked, Knows}
-use Rattle.fx_engine.specs.Calls.{AgreesWith, AreCalls, AreFirst, Call, Came, IsCertain, IsPassed, IsRefused, Occurrence, Passes, down_in, failed, failures_at, lost, occurrences, rows_of, told}
+use Rattle.fx_engine.specs.Calls.{AgreesWith, AreAllOrNone, AreCalls, Call, Came, IsPassed, IsRefused, Passes, down_in, failed, failures_at, occurrences, rows_of}
+use Rattle.fx_services.specs.Beside.{Occurrence}
 use Rattle.fx_engine.specs.GroupsAsked.{HasRows, all_planned, units_in}
 use Rattle.fx_services.specs.Served.{Served}
 use Rattle.fx_engine.specs.Invocations.{Calling}
@@ -40,6 +41,7 @@ use Rattle.fx_engine.specs.declared.mediator.FedError.{FedError}
 use Rattle.fx_engine.specs.declared.mediator.Outcome.{Outcome}
 use Rattle.fx_engine.specs.declared.tasks.RowsError.{RowsError}
 use Rattle.fx_engine.specs.declared.tasks.Task.{Task}
+use Rattle.fx_engine.proofs.CallLemmas.{AreFirst, first_of}
 use Rattle.fx_engine.proofs.DownLemmas.{down_at, has_gone}
 use Rattle.fx_engine.proofs.HandLemmas.{Fits, at_hand, calls_fit}
 use Rattle.fx_engine.proofs.TaskLemmas.{AreAtHand, tasks_are_planned}
@@ -68,22 +70,22 @@ behind_passed (d ∷ front) rest h zero c there refused =
     absurd (not_both c.of.silent c.came passes refused.0 refused.1.0 refused.1.1)
 behind_passed (d ∷ front) rest h (suc k) c there refused = omega (arith, behind_passed front rest h.1 k c there refused)
 
-passes_certain : (silent : Bool) (came : Came) → Passes silent came → IsCertain came
-passes_certain silent (told rows) h = tt
-passes_certain silent (failed why) h = tt
-passes_certain silent lost h = h
-
-pub each_certain : (calls : List Call) → AllByRecursion IsPassed calls → AllByRecursion (λ (c : Call). IsCertain c.came) calls
-each_certain [] h = tt
-each_certain (c ∷ cs) h = (passes_certain c.of.silent c.came h.0, each_certain cs h.1)
+-- and so have all before one that did
+passed_before : (front rest : List Call) → AllByRecursion IsPassed front → (i : ℕ) (c : Call) → slice_get front i ≡ Some c → AllByRecursion IsPassed (take i (front ++ rest))
+passed_before [] rest h i c is = absurd (cc)
+passed_before (d ∷ front) rest h zero c is = tt
+passed_before (d ∷ front) rest h (suc i) c is = (h.0, passed_before front rest h.1 i c is)
 
 module _ (tells alone : Bool) (s t u : List Seen) (a : AllTell tells s) (b : AllTell tells t) (es : List EndpointParts) (q : Query) (text : List ℕ) (accepted : Accepted text q) (plan : List Part) (block : ℕ) (found : List (List Bindings)) (front rest : List Call)
-    (passed : All IsPassed front) (rows_are : found ≡ map rows_of front) (c : Calling tells alone s t es (front ++ rest)) (first : AreFirst (front ++ rest) (occurrences q)) where
+    (passed : All IsPassed front) (rows_are : found ≡ map rows_of front) (c : Calling tells alone s t es (front ++ rest)) (called : AreAllOrNone (front ++ rest) (occurrences q)) where
   abbrev calls : List Call
   calls = front ++ rest
 
   abbrev tasks : List Task
   tasks = tasks_with plan found
+
+  first : AreFirst calls (occurrences q)
+  first = first_of calls (occurrences q) called
 
   -- ---- how SERVICE is served
 
@@ -102,7 +104,8 @@ module _ (tells alone : Bool) (s t u : List Seen) (a : AllTell tells s) (b : All
     down_so i d is =
         let same : 0 + i ≡ i = omega arith in
         let there = in_front front rest i d is in
-        ap (is_down down) same ∙ agrees i d there (passed_at front (recursion_from_All IsPassed front passed) i d is) ∙ ap (is_down (places (down_in calls))) (sym same) ∙ down_at 0 calls i d there
+        let each = recursion_from_All IsPassed front passed in
+        ap (is_down down) same ∙ agrees i d there (passed_at front each i d is) (All-from_recursion IsPassed (take i calls) (passed_before front rest each i d is)) ∙ ap (is_down (places (down_in calls))) (sym same) ∙ down_at 0 calls i d there
 
     at_numbers : ((i : ℕ) → served.rows (0 + i) ≡ slice_get (map rows_of front) i) × ((i : ℕ) (c : Call) → slice_get front i ≡ Some c → is_down served.down (0 + i) ≡ has_gone c.of.silent c.came)
     at_numbers = ((λ i. let same : 0 + i ≡ i = omega arith in ap (λ (n : ℕ). slice_get found n) same ∙ ap (λ (v : List (List Bindings)). slice_get v i) rows_are), λ i d is. down_so i d is)
@@ -138,7 +141,7 @@ module _ (tells alone : Bool) (s t u : List Seen) (a : AllTell tells s) (b : All
 
     -- what is down of them agrees with itself
     itself : AgreesWith (places (down_in calls)) calls
-    itself i d there passes = refl
+    itself i d there passes before = refl
 
     pub its_answer : (answer : Answer) → r ≡ Ok answer → (graphs : List (List Triple)) (tell : TellAll s es graphs) (is : plan ≡ parts_with (sources graphs) q) (its : List ℕ → List Triple) (serve : Serve its es graphs)
         → answer ≡ answer_of q (union graphs) its (places (down_in calls))
@@ -147,17 +150,21 @@ module _ (tells alone : Bool) (s t u : List Seen) (a : AllTell tells s) (b : All
         let gone = places (down_in calls) in
         (known (served graphs tell is its serve gone itself) (tasks_are graphs tell is its serve gone itself) (rows_right graphs tell is its serve gone itself)).1
 
+    -- no faults were counted at the occurrences but theirs
+    abbrev AreCounted : Type 0
+    AreCounted = IsTrue alone → (address : List ℕ) → faults_at t address ≡ faults_at s address + failures_at address calls
+
     -- where no batch was refused, no faults are counted but those of the occurrences
-    pub none_but_theirs : k.failed ≡ 0 → AllByRecursion (λ (d : Call). IsCertain d.came) calls → IsTrue alone → (address : List ℕ) → faults_at u address ≡ faults_at s address + failures_at address calls
-    none_but_theirs none certain is address =
+    pub none_but_theirs : k.failed ≡ 0 → AreCounted → IsTrue alone → (address : List ℕ) → faults_at u address ≡ faults_at s address + failures_at address calls
+    none_but_theirs none exact is address =
         let low : faults_at t address ≤ faults_at u address = gain_laws.never_fall t u address k.went.after_all in
         let high : faults_at u address ≤ faults_at t address + k.failed = k.went.counted is address in
-        let same : faults_at t address ≡ faults_at s address + failures_at address calls = c.exact is (All-from_recursion (λ (d : Call). IsCertain d.came) calls certain) address in
+        let same : faults_at t address ≡ faults_at s address + failures_at address calls = exact is address in
         omega (arith, low, high, same, none)
 
-    unfaulted : (o : Result Outcome FedError) → IfOk o (λ _. k.failed ≡ 0) → IfOk o (λ _. All IsPassed calls) → IsTrue alone → IfOk o (λ _. (address : List ℕ) → faults_at u address ≡ faults_at s address + failures_at address calls)
-    unfaulted (Ok outcome) none all is = λ address. none_but_theirs none (each_certain calls (recursion_from_All IsPassed calls all)) is address
-    unfaulted (Err e) none all is = tt
+    unfaulted : (o : Result Outcome FedError) → IfOk o (λ _. k.failed ≡ 0) → IfOk o (λ _. AreCounted) → IsTrue alone → IfOk o (λ _. (address : List ℕ) → faults_at u address ≡ faults_at s address + failures_at address calls)
+    unfaulted (Ok outcome) none exact is = λ address. none_but_theirs none exact is address
+    unfaulted (Err e) none exact is = tt
 
     -- one that was refused stands behind those that passed, which have rows
     behind_rows : (k : ℕ) (d : Call) → slice_get calls k ≡ Some d → IsRefused d → length found ≤ k
@@ -169,13 +176,13 @@ module _ (tells alone : Bool) (s t u : List Seen) (a : AllTell tells s) (b : All
     abbrev Among : List Exchange → List Exchange → Type 0
     Among xs all = (x : Exchange) → Contains xs x → Contains all x
 
-    pub outcomed : (o : Result Outcome FedError) → IfOk o (λ _. k.failed ≡ 0) → IfOk o (λ _. map (λ c. c.of) calls ≡ occurrences q) → IfOk o (λ _. All IsPassed calls) → IfOk o (λ outcome. outcome.down ≡ down_in calls)
+    pub outcomed : (o : Result Outcome FedError) → IfOk o (λ _. k.failed ≡ 0) → IfOk o (λ _. AreCounted) → IfOk o (λ _. map (λ c. c.of) calls ≡ occurrences q) → IfOk o (λ _. All IsPassed calls) → IfOk o (λ outcome. outcome.down ≡ down_in calls)
         → IfOk o (λ outcome. (graphs : List (List Triple)) → TellAll s es graphs → plan ≡ parts_with (sources graphs) q → (its : List ℕ → List Triple) → Serve its es graphs → outcome.answer ≡ answer_of q (union graphs) its (places outcome.down))
         → IfOk o (λ _. All (IsBatchRead (Contains (units_in tasks))) k.exchanges)
         → ((all : List Exchange) → Among k.exchanges all → IfErr o (HasOutcomeCause s u es plan found block calls k.wanted all))
         → ((all : List Exchange) → Among k.exchanges all → IfErr o (λ e. HasBatchRefusal s u es plan found block k.wanted all e ⊎ AreGiven alone s u calls (IsBatchRead (Contains (units_in tasks))) k.exchanges))
         → Outcomed tells alone s u es q plan block o
-    outcomed o none all_called all_passed down answer read cause in_turn =
+    outcomed o none counted all_called all_passed down answer read cause in_turn =
         let both = gained_both tells s t u c.exchanges k.exchanges c.gained k.went.gained in
         record {
           found = found;
@@ -183,7 +190,7 @@ module _ (tells alone : Bool) (s t u : List Seen) (a : AllTell tells s) (b : All
           gained = both.gained;
           after_all = all_after tells s t u a b c.after_all k.went.after_all;
           calls = calls;
-          first = first;
+          called = called;
           behind = behind_rows;
           all_called = all_called;
           passed = all_passed;
@@ -192,7 +199,7 @@ module _ (tells alone : Bool) (s t u : List Seen) (a : AllTell tells s) (b : All
               let one : faults_at s address + failures_at address calls ≤ faults_at t address = c.counted address in
               let low : faults_at t address ≤ faults_at u address = gain_laws.never_fall t u address k.went.after_all in
               omega (arith, one, low);
-          exact = λ is. unfaulted o none all_passed is;
+          exact = λ is. unfaulted o none counted is;
           of_calls = c.in_turn;
           of_runs = k.exchanges;
           parted =

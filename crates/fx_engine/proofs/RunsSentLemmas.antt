@@ -10,7 +10,8 @@ use Rattle.fx_algebra.specs.Stations as station
 use Rattle.fx_traffic.specs.Sent.{Sent}
 use Rattle.fx_traffic.specs.Traffic.{AreStationsSent, IsServiceSent}
 use Rattle.fx_traffic.proofs.SentLemmas.{middle_changes}
-use Rattle.fx_engine.specs.Calls.{Occurrence, occurrence_in}
+use Rattle.fx_engine.specs.Calls.{occurrence_in}
+use Rattle.fx_services.specs.Beside.{Occurrence}
 use Rattle.fx_engine.specs.RunsSent.{AreRunsSent}
 
 -- each occurrence has its one text, or nothing

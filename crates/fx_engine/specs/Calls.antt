@@ -1,5 +1,5 @@
 -- The occurrences of SERVICE of a query, and what each of them came to when it was invoked (SPARQL 1.1 Federated Query, sections 2 and 4).
-use Rattle.std.specs.Prelude.{◌≡◌, ◌≢◌, ◌<◌, ◌≤◌, ◌+◌, ◌⊎◌, ℕ, Bool, true, false, List, [], ◌∷◌, ◌++◌, map, All, Contains, length, bytes_eq, cond, Some, slice_get}
+use Rattle.std.specs.Prelude.{◌≡◌, ◌≢◌, ◌<◌, ◌≤◌, ◌+◌, ◌⊎◌, ℕ, Bool, true, false, List, [], ◌∷◌, ◌++◌, map, All, Contains, length, take, bytes_eq, cond, Some, slice_get}
 use Rattle.std.proofs.Common.{suc}
 use Rattle.std.specs.List.{flat_map}
 use Rattle.fx_terms.specs.declared.triples.Triple.{Triple}
@@ -12,9 +12,8 @@ use Rattle.fx_algebra.specs.Stations as station
 use Rattle.fx_algebra.specs.declared.queries.Group.{Group}
 use Rattle.fx_algebra.specs.declared.queries.Query.{Query}
 use Rattle.fx_traffic.specs.Gains.{Tell}
-use Rattle.fx_traffic.specs.Sent.{Sent, Sends}
-use Rattle.fx_traffic.specs.Traffic.{IsServiceSent}
 use Rattle.fx_wire.specs.Exchanges.{Exchange, Seen}
+use Rattle.fx_services.specs.Beside.{IsSentFor, Occurrence}
 use Rattle.fx_services.specs.Noted.{down_of, places}
 use Rattle.fx_services.specs.ServicesAsked.{AreRowsOver, IsBadService, IsToldBy, service_text}
 use Rattle.fx_services.specs.declared.noted.Down.{Down}
@@ -22,12 +21,6 @@ use Rattle.fx_services.specs.declared.noted.DownCause.{DownCause}
 use Rattle.fx_services.specs.declared.noted.DownCause.TheVariants as cause
 
 -- ---- occurrences
-
--- an occurrence of SERVICE: whether it is silent, its IRI and its group
-pub record Occurrence : Type 0 where
-  pub silent : Bool
-  pub iri : List ℕ
-  pub group : Group
 
 abbrev pub occurrence_in : Station → List Occurrence
 occurrence_in (station.run ps filters before) = []
@@ -88,10 +81,21 @@ down_from number (c ∷ cs) = down_if number c.of.silent c.of.iri c.came ++ down
 abbrev pub down_in : List Call → List Down
 down_in calls = down_from 0 calls
 
--- The numbers have those of the occurrences that passed which are down, and no other of these. Of the other occurrences, which were refused or not invoked, any may be
--- among them.
+-- Of the occurrences that passed, with all before them, the numbers have those that are down, and no other. Of the other occurrences, which were refused, stand behind one
+-- that was, or weren't invoked, any may be among them.
 abbrev pub AgreesWith : List ℕ → List Call → Type 0
-AgreesWith down calls = (k : ℕ) (c : Call) → slice_get calls k ≡ Some c → IsPassed c → is_down down k ≡ is_down (places (down_in calls)) k
+AgreesWith down calls = (k : ℕ) (c : Call) → slice_get calls k ≡ Some c → IsPassed c → All IsPassed (take k calls) → is_down down k ≡ is_down (places (down_in calls)) k
+
+-- The first of them that was refused: all before it passed, and it isn't silent, has this IRI, and has no rows for this reason.
+pub record HasFirstRefused (calls : List Call) (why : DownCause) (iri : List ℕ) : Type 0 where
+  pub before : List Call
+  pub refused : Call
+  pub behind : List Call
+  pub are : calls ≡ before ++ refused ∷ behind
+  pub passed : All IsPassed before
+  pub plain : refused.of.silent ≡ false
+  pub came : refused.came ≡ failed why
+  pub at : refused.of.iri ≡ iri
 
 -- ---- faults
 
@@ -108,12 +112,6 @@ failure_of lost = 0
 abbrev pub failures_at : List ℕ → List Call → ℕ
 failures_at address [] = 0
 failures_at address (c ∷ cs) = cond {A = ℕ} (bytes_eq c.of.iri address) (failure_of c.came) 0 + failures_at address cs
-
--- memory didn't run out
-abbrev pub IsCertain : Came → Type 0
-IsCertain (told rows) = Unit {0}
-IsCertain (failed why) = Unit {0}
-IsCertain lost = ⊥
 
 -- ---- exchanges
 
@@ -132,20 +130,12 @@ HasComeTo before endpoints iri g (failed (cause.TooLong size)) own = AtOne endpo
 HasComeTo before endpoints iri g (failed cause.Unknown) own = All (λ (e : EndpointParts). e.iri ≢ iri) endpoints × (own ≡ [])
 HasComeTo before endpoints iri g lost own = Unit {0}
 
--- its text was sent once at most, to the endpoint that has its address, and nothing else
-pub record IsSentFor (endpoints : List EndpointParts) (o : Occurrence) (own : List Exchange) : Type 0 where
-  pub wanted : List Sent
-  pub left : List Sent
-  pub sent : Sends wanted left own
-  pub text : (wanted ≡ []) ⊎ IsServiceSent endpoints o.iri o.group wanted
-
 -- occurrences that were invoked, each with its own exchanges
 abbrev pub AreCalls : List Seen → List EndpointParts → List Call → List Exchange → Type 0
 AreCalls before endpoints [] xs = xs ≡ []
 AreCalls before endpoints (c ∷ cs) xs =
     (own : List Exchange) × (rest : List Exchange) × (xs ≡ own ++ rest) × HasComeTo before endpoints c.of.iri c.of.group c.came own × IsSentFor endpoints c.of own × AreCalls before endpoints cs rest
 
--- they are the first of these occurrences
-pub record AreFirst (calls : List Call) (all : List Occurrence) : Type 0 where
-  pub others : List Occurrence
-  pub are : map (λ c. c.of) calls ++ others ≡ all
+-- all of these occurrences were invoked, in their order, or none was
+abbrev pub AreAllOrNone : List Call → List Occurrence → Type 0
+AreAllOrNone calls all = (calls ≡ []) ⊎ (map (λ c. c.of) calls ≡ all)

@@ -17,4 +17,3 @@ pub mod SectionSteps
 pub mod Sections
 pub mod Tasks
 pub mod Unknown
-pub mod Gathered

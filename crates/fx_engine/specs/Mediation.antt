@@ -1,5 +1,5 @@
 -- What a federation gives over several wires, and why it gives nothing.
-use Rattle.std.specs.Prelude.{◌≡◌, ◌<◌, ◌≤◌, ◌+◌, ◌⊎◌, ◌++◌, ◌∷◌, ℕ, Bool, false, List, [], IsPermutation, map, IfOk, IfErr, IsTrue, All, Contains, None, Some, Result, Ok, Err, length, slice_get}
+use Rattle.std.specs.Prelude.{◌≡◌, ◌<◌, ◌≤◌, ◌+◌, ◌⊎◌, ◌++◌, ◌∷◌, ℕ, Bool, List, [], IsPermutation, map, IfOk, IfErr, IsTrue, All, Contains, None, Some, Result, Ok, Err, length, slice_get}
 use Rattle.std.specs.List.{zip}
 use Rattle.std.specs.declared.alloc.Global.{Global}
 use Rattle.std.specs.declared.vec.Vec.{Vec}
@@ -29,13 +29,12 @@ use Rattle.fx_traffic.specs.Sent.{Sent, Sends}
 use Rattle.fx_traffic.specs.Traffic.{AreAsked, IsTraffic}
 use Rattle.fx_wire.specs.Exchanges.{Exchange, Seen}
 use Rattle.fx_engine.specs.Asks.{IsAnsweredBy, IsAskRead, IsBadAsk, IsLongAsk}
-use Rattle.fx_engine.specs.Calls.{AgreesWith, AreCalls, AreFirst, Call, IsPassed, IsRefused, down_in, failed, failures_at, occurrences}
+use Rattle.fx_engine.specs.Calls.{AgreesWith, AreAllOrNone, AreCalls, Call, HasFirstRefused, IsPassed, IsRefused, down_in, failures_at, occurrences}
 use Rattle.fx_services.specs.Noted.{places}
 use Rattle.fx_engine.specs.Order.{AreGiven, AsksComeFirst, patterns_before}
 use Rattle.fx_engine.specs.RunsSent.{AreRunsSent}
 use Rattle.fx_engine.specs.Sections.{parts_by, parts_with, sections}
 use Rattle.fx_engine.specs.Unknown.{unknown_of}
-use Rattle.fx_services.specs.declared.noted.DownCause.{DownCause}
 use Rattle.fx_services.specs.declared.noted.DownCause.TheVariants as cause
 use Rattle.fx_engine.specs.declared.mediator.FedError.{FedError}
 use Rattle.fx_engine.specs.declared.mediator.FedError.TheVariants as fed
@@ -102,20 +101,16 @@ HasPlanCause before after endpoints q entries xs (fed.RequestTooLong name size) 
 HasPlanCause before after endpoints q entries xs (fed.UnknownService iri) = (after ≡ before) × (xs ≡ [])
 HasPlanCause before after endpoints q entries xs fed.Memory = Unit {0}
 
--- an occurrence without SILENT has no rows for this reason, and P holds of its IRI
-abbrev pub HasPlain : List Call → DownCause → (List ℕ → Type 0) → Type 0
-HasPlain calls why P = (c : Call) × Contains calls c × (c.of.silent ≡ false) × (c.came ≡ failed why) × P c.of.iri
-
--- Why there is no answer: such a cause; or so it is of a batch of no more rows than so many, of a run before each occurrence of SERVICE that was refused; or one of these
--- occurrences without SILENT has no rows for that reason, at the endpoint that has its IRI as its address.
+-- Why there is no answer: such a cause; or so it is of a batch of no more rows than so many, of a run before each occurrence of SERVICE that was refused; or the first of these
+-- occurrences that was refused, before which all passed, has no rows for that reason, at the endpoint that has its IRI as its address.
 abbrev pub HasFedCause : List Seen → List Seen → List EndpointParts → Query → List Entry → List Call → List Call → List Sent → List Exchange → ℕ → FedError → Type 0
 HasFedCause before after endpoints q entries calls plain texts xs block (fed.Member name) = (0 < length (patterns q)) × AtNamed endpoints name (λ e. faults_at before e.iri < faults_at after e.iri)
 HasFedCause before after endpoints q entries calls plain texts xs block (fed.Service iri) =
-    HasPlain plain cause.Failed (λ i. i ≡ iri) × ((e : EndpointParts) × Contains endpoints e × (e.iri ≡ iri)) × (faults_at before iri < faults_at after iri)
+    HasFirstRefused plain cause.Failed iri × ((e : EndpointParts) × Contains endpoints e × (e.iri ≡ iri)) × (faults_at before iri < faults_at after iri)
 HasFedCause before after endpoints q entries calls plain texts xs block (fed.BadReply name bad) =
-    AtNamed endpoints name (λ e. HasBadAsk before endpoints q entries e xs bad ⊎ (HasBadBatch before endpoints q calls block e xs bad ⊎ HasPlain plain (cause.Bad bad) (λ i. i ≡ e.iri)))
+    AtNamed endpoints name (λ e. HasBadAsk before endpoints q entries e xs bad ⊎ (HasBadBatch before endpoints q calls block e xs bad ⊎ HasFirstRefused plain (cause.Bad bad) e.iri))
 HasFedCause before after endpoints q entries calls plain texts xs block (fed.RequestTooLong name size) =
-    AtNamed endpoints name (λ e. HasLongAsk endpoints q entries e size ⊎ (HasLongBatch endpoints q calls block e texts size ⊎ HasPlain plain (cause.TooLong size) (λ i. i ≡ e.iri)))
+    AtNamed endpoints name (λ e. HasLongAsk endpoints q entries e size ⊎ (HasLongBatch endpoints q calls block e texts size ⊎ HasFirstRefused plain (cause.TooLong size) e.iri))
 HasFedCause before after endpoints q entries calls plain texts xs block (fed.UnknownService iri) = (after ≡ before) × (xs ≡ [])
 HasFedCause before after endpoints q entries calls plain texts xs block fed.Memory = Unit {0}
 
@@ -179,10 +174,10 @@ Serve services (e ∷ endpoints) [] = ⊥
 Serve services (e ∷ endpoints) (graph ∷ graphs) = (services e.iri ≡ graph) × Serve services endpoints graphs
 
 -- A query was asked over wires, in batches of so many rows at most: what was exchanged, one wire's part behind the other's. Of that the one part is for the
--- occurrences of SERVICE that were invoked, which are the query's first, each once: what each came to, by its own exchanges. The other is ASKs and texts of batches
+-- occurrences of SERVICE, which were all invoked, each once, or none of them: what each came to, by its own exchanges. The other is ASKs and texts of batches
 -- that were wanted of the query, which where graphs are told are those of its runs; with an answer, each reply there was read without a fault. Together they are the
--- query's traffic, whichever are down of the occurrences that didn't pass. With an answer: all occurrences were invoked, those that have no rows are silent, and are down; and the answer is that over the union of the graphs.
--- Else the cause. ASKs come first: nothing else was asked for before each had its answer. Batches are wanted of runs before each occurrence that was refused alone, so a batch
+-- query's traffic, whichever are down of the occurrences that didn't pass, or stand behind one that didn't. With an answer: all occurrences were invoked, those that have no
+-- rows are silent, and are down; and the answer is that over the union of the graphs. Else the cause, which of occurrences is that of the first in text order that was refused. ASKs come first: nothing else was asked for before each had its answer. Batches are wanted of runs before each occurrence that was refused alone, so a batch
 -- that is refused is of one of these. And a refusal is that of an occurrence, and of no ASK and no batch, only where all that was asked for beside the occurrences was given. At each address as many faults at least were counted as exchanges with occurrences failed there, and with an answer no other by wires that count each
 -- address alone. And what the cache holds, which stays true of graphs.
 pub record Federated (tells alone : Bool) (before after : List Seen) (endpoints : List EndpointParts) (q : Query) (old new : List Entry) (block : ℕ) (result : Result Outcome FedError) : Type 0 where
@@ -190,7 +185,7 @@ pub record Federated (tells alone : Bool) (before after : List Seen) (endpoints 
   pub gained : IsTrue tells → HaveGained before after exchanges
   pub after_all : AreAfter before after
   pub calls : List Call
-  pub first : AreFirst calls (occurrences q)
+  pub called : AreAllOrNone calls (occurrences q)
   pub all_called : IfOk result (λ _. map (λ c. c.of) calls ≡ occurrences q)
   pub passed : IfOk result (λ _. All IsPassed calls)
   pub down : IfOk result (λ outcome. outcome.down ≡ down_in calls)

@@ -1,5 +1,5 @@
 -- The answer of a query by its plan, with its occurrences of SERVICE, or why there is none.
-use Rattle.std.specs.Prelude.{◌≡◌, ◌<◌, ◌≤◌, ◌+◌, ◌⊎◌, ◌++◌, ℕ, Bool, true, false, List, IfOk, IfErr, IsTrue, IsPermutation, All, Contains, Some, Result, length, map, slice_get}
+use Rattle.std.specs.Prelude.{◌≡◌, ◌<◌, ◌≤◌, ◌+◌, ◌⊎◌, ◌++◌, ℕ, Bool, List, IfOk, IfErr, IsTrue, IsPermutation, All, Contains, Some, Result, length, map, slice_get}
 use Rattle.std.specs.List.{AllByRecursion}
 use Rattle.fx_terms.specs.declared.patterns.Pattern.{Pattern}
 use Rattle.fx_terms.specs.declared.triples.Triple.{Triple}
@@ -18,9 +18,9 @@ use Rattle.fx_traffic.specs.Batches.{IsBatchText}
 use Rattle.fx_traffic.specs.Gains.{AreAfter, HaveGained, TellAll, faults_at}
 use Rattle.fx_traffic.specs.Sent.{Sent, Sends}
 use Rattle.fx_wire.specs.Exchanges.{Exchange, Seen}
-use Rattle.fx_engine.specs.Calls.{AgreesWith, AreCalls, AreFirst, Call, IsPassed, IsRefused, down_in, failures_at, occurrences}
+use Rattle.fx_engine.specs.Calls.{AgreesWith, AreAllOrNone, AreCalls, Call, HasFirstRefused, IsPassed, IsRefused, down_in, failures_at, occurrences}
 use Rattle.fx_engine.specs.GroupsAsked.{units_in}
-use Rattle.fx_engine.specs.Mediation.{AtNamed, HasName, HasPlain, IsNamed, Serve}
+use Rattle.fx_engine.specs.Mediation.{AtNamed, HasName, IsNamed, Serve}
 use Rattle.fx_services.specs.Noted.{places}
 use Rattle.fx_engine.specs.Order.{AreGiven}
 use Rattle.fx_engine.specs.RunsSent.{AreRunsSent}
@@ -35,11 +35,11 @@ use Rattle.fx_services.specs.declared.services.ServiceError.TheVariants as error
 
 -- ---- refusals
 
--- an occurrence without SILENT has no rows, for the reason that the refusal tells, at the endpoint that it names
+-- the first occurrence without SILENT that has no rows has none for the reason that the refusal tells, at the endpoint that it names
 abbrev pub HasRefusal : List Seen → List Seen → List EndpointParts → List Call → FedError → Type 0
-HasRefusal before after endpoints calls (fed.Service iri) = HasPlain calls cause.Failed (λ i. i ≡ iri) × ((e : EndpointParts) × Contains endpoints e × (e.iri ≡ iri)) × (faults_at before iri < faults_at after iri)
-HasRefusal before after endpoints calls (fed.BadReply name bad) = AtNamed endpoints name (λ e. HasPlain calls (cause.Bad bad) (λ i. i ≡ e.iri))
-HasRefusal before after endpoints calls (fed.RequestTooLong name size) = AtNamed endpoints name (λ e. HasPlain calls (cause.TooLong size) (λ i. i ≡ e.iri))
+HasRefusal before after endpoints calls (fed.Service iri) = HasFirstRefused calls cause.Failed iri × ((e : EndpointParts) × Contains endpoints e × (e.iri ≡ iri)) × (faults_at before iri < faults_at after iri)
+HasRefusal before after endpoints calls (fed.BadReply name bad) = AtNamed endpoints name (λ e. HasFirstRefused calls (cause.Bad bad) e.iri)
+HasRefusal before after endpoints calls (fed.RequestTooLong name size) = AtNamed endpoints name (λ e. HasFirstRefused calls (cause.TooLong size) e.iri)
 HasRefusal before after endpoints calls fed.Memory = Unit {0}
 HasRefusal before after endpoints calls e = ⊥
 
@@ -51,22 +51,12 @@ HasBatchRefusal before after endpoints plan found block texts xs e = (why : Flow
 abbrev pub HasOutcomeCause : List Seen → List Seen → List EndpointParts → List Part → List (List Bindings) → ℕ → List Call → List Sent → List Exchange → FedError → Type 0
 HasOutcomeCause before after endpoints plan found block calls texts xs e = HasBatchRefusal before after endpoints plan found block texts xs e ⊎ HasRefusal before after endpoints calls e
 
--- the number that the reason names is that of an endpoint, and memory didn't run out
+-- the number that the reason names is that of an endpoint
 abbrev pub IsPlacedAt : ℕ → ServiceError → Type 0
 IsPlacedAt count (error.Failed at) = at < count
 IsPlacedAt count (error.Bad at bad) = at < count
 IsPlacedAt count (error.TooLong at size) = at < count
 IsPlacedAt count error.Unknown = ⊥
-IsPlacedAt count error.Memory = ⊥
-
-abbrev pub is_lost : ServiceError → Bool
-is_lost error.Memory = true
-is_lost e = false
-
--- so it is, or memory ran out
-abbrev pub IsPlacedOrLost : ℕ → ServiceError → Type 0
-IsPlacedOrLost count error.Memory = Unit {0}
-IsPlacedOrLost count e = IsPlacedAt count e
 
 -- whether wires tell their logs
 abbrev pub AllTell : Bool → List Seen → Type 0
@@ -98,7 +88,7 @@ pub record Outcomed (tells alone : Bool) (before after : List Seen) (endpoints :
   pub gained : IsTrue tells → HaveGained before after exchanges
   pub after_all : AreAfter before after
   pub calls : List Call
-  pub first : AreFirst calls (occurrences q)
+  pub called : AreAllOrNone calls (occurrences q)
   pub behind : (k : ℕ) (c : Call) → slice_get calls k ≡ Some c → IsRefused c → length found ≤ k
   pub all_called : IfOk result (λ _. map (λ c. c.of) calls ≡ occurrences q)
   pub passed : IfOk result (λ _. All IsPassed calls)

@@ -1,11 +1,10 @@
 //! The occurrences of SERVICE of a query, in text order.
 ghost use Rattle.std.specs.Prelude.{◌≡◌, ◌++◌, ◌∷◌, [], OnOk};
 ghost use Rattle.std.specs.List.{flat_map};
-ghost use Rattle.fx_engine.specs.Gathered.{all_occurred};
 ghost use Rattle.fx_engine.specs.Invocations as spec;
 
 use fx_algebra::{Element, Group};
-use fx_services::beside::Occurrence;
+use fx_services::Occurrence;
 use fx_terms::{Iri, Memory};
 
 /// Puts the occurrences of a group, in text order, behind those that were found before.
@@ -14,7 +13,7 @@ pub(crate) fn gather_group<'a>(
     group: &'a Group,
     found: &mut Vec<Occurrence<'a>>,
 ) -> Result<(), Memory>
-    ensures { OnOk result (found.new.items ≡ found.old.items ++ all_occurred (spec.in_group group.now)) }
+    ensures { OnOk result (found.new.items ≡ found.old.items ++ spec.in_group group.now) }
 {
     for element in group.elements.as_slice() {
         match gather_element(element, found) {
@@ -28,7 +27,7 @@ pub(crate) fn gather_group<'a>(
 // The same of an element.
 #[cycle(gathering)]
 fn gather_element<'a>(element: &'a Element, found: &mut Vec<Occurrence<'a>>) -> Result<(), Memory>
-    ensures { OnOk result (found.new.items ≡ found.old.items ++ all_occurred (spec.in_element element.now)) }
+    ensures { OnOk result (found.new.items ≡ found.old.items ++ spec.in_element element.now) }
 {
     match element {
         Element::Triple(_) => Ok(()),
@@ -45,7 +44,7 @@ fn gather_element<'a>(element: &'a Element, found: &mut Vec<Occurrence<'a>>) -> 
 // The same of groups, one after the other.
 #[cycle(gathering)]
 fn gather_groups<'a>(groups: &'a [Group], found: &mut Vec<Occurrence<'a>>) -> Result<(), Memory>
-    ensures { OnOk result (found.new.items ≡ found.old.items ++ all_occurred (flat_map spec.in_group groups.now)) }
+    ensures { OnOk result (found.new.items ≡ found.old.items ++ flat_map spec.in_group groups.now) }
 {
     for group in groups {
         match gather_group(group, found) {
@@ -63,7 +62,7 @@ fn gather_one<'a>(
     group: &'a Group,
     found: &mut Vec<Occurrence<'a>>,
 ) -> Result<(), Memory>
-    ensures { OnOk result (found.new.items ≡ found.old.items ++ all_occurred (spec.one_of silent iri.now group.now)) }
+    ensures { OnOk result (found.new.items ≡ found.old.items ++ spec.one_of silent iri.now group.now) }
 {
     if found.push(Occurrence { silent, iri, group }).is_err() {
         return Err(Memory);

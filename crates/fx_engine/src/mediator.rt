@@ -72,7 +72,7 @@ impl MemberName {
 pub enum FedError {
     /// An exchange with the endpoint failed, and was counted as a fault at its address.
     Member { name: MemberName },
-    /// The exchange for a SERVICE without SILENT failed, and was counted as a fault at the address that is its IRI.
+    /// The exchange for a SERVICE without SILENT failed, the first in text order that has no rows, and was counted as a fault at the address that is its IRI.
     Service { iri: Iri },
     /// A reply of the endpoint is bad.
     BadReply { name: MemberName, bad: BadReply },
@@ -87,14 +87,14 @@ pub enum FedError {
 /// The answer of a query over the union of the graphs of the registry's endpoints, as if they were one graph.
 ///
 /// First each endpoint is asked which triple patterns outside SERVICE fit its graph, unless the cache holds the answer. The endpoints whose graphs a pattern
-/// fits are its sources. Then each occurrence of SERVICE is invoked, once, in text order: its group is asked for by one text, which goes to the endpoint that
-/// has its IRI as its address. Then the runs are asked for in text order. The patterns of a run whose only source is one and the same endpoint are asked for
-/// together, each other pattern by itself, in the order of the plan that `plan_parts` gives, in batches of at most `block` rows. A run in which a pattern
+/// fits are its sources. Then each occurrence of SERVICE is invoked, once: all side by side, whatever becomes of the others. Its group is asked for by one text, which goes
+/// to the endpoint that has its IRI as its address. Then the runs are asked for in text order. The patterns of a run whose only source is one and the same endpoint are
+/// asked for together, each other pattern by itself, in the order of the plan that `plan_parts` gives, in batches of at most `block` rows. A run in which a pattern
 /// has no source is empty, and nothing more is asked for it.
 ///
 /// An occurrence of SERVICE SILENT whose exchange fails, whose reply is bad, whose text is too long or whose IRI is unknown gives the one empty solution,
-/// and is listed as down. A SERVICE without SILENT has to name an endpoint: `UnknownService` has the first that doesn't, before anything is asked; and its
-/// failure is the refusal, behind that of a run before it in the text. The errors come as `FedError` says.
+/// and is listed as down. A SERVICE without SILENT has to name an endpoint: `UnknownService` has the first that doesn't, before anything is asked. Of those that fail the
+/// first in text order is the refusal, behind that of a run before it in the text; no run behind it is asked for. The errors come as `FedError` says.
 ///
 /// The cache learns after the last exchange. After a refusal it is as before; after want of memory each of its entries was there before, or is one
 /// of this call's answers.

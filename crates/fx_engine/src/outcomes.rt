@@ -1,5 +1,5 @@
 //! The answer of a query by its plan, with its occurrences of SERVICE.
-ghost use Rattle.std.specs.Prelude.{◌≡◌, ◌<◌, ◌≤◌, All, List, None, [], length, map};
+ghost use Rattle.std.specs.Prelude.{◌≡◌, ◌<◌, ◌≤◌, All, List, None, length, map};
 ghost use Rattle.fx_algebra.specs.Solutions.{Bindings};
 ghost use Rattle.fx_wire.specs.Exchanges.{Seen};
 ghost use Rattle.fx_engine.specs.AnswersAsked.{AnswerDue, AnswerGiven};
@@ -14,13 +14,13 @@ ghost use Rattle.fx_engine.specs.Unknown.{unknown_of};
 ghost use Rattle.fx_engine.specs.Outcomes.{AllTell, IsAllOf, IsPlanOf};
 
 use crate::answers::answer_with;
-use crate::invocations::{Invoked, invoke_group};
+use crate::invocations::invoke_all;
 use crate::mediator::{FedError, Outcome, name_at, named};
 use crate::tasks::RowsError;
 use fx_algebra::{Answer, Query, Solution};
 use fx_outside::Endpoint;
 use fx_plan::Part;
-use fx_services::ServiceError;
+use fx_services::{Down, ServiceError, Settled};
 use fx_sources::Registry;
 use fx_terms::{Items, Memory};
 use fx_wire::Wire;
@@ -30,8 +30,8 @@ use std::thread::Threads;
 
 /// The outcome of a query over the union of the endpoints' graphs, by the parts of its plan, in text order.
 ///
-/// Each occurrence of SERVICE is invoked first, in text order, up to the first without SILENT that has no rows. Then the runs are asked for, in text order, up
-/// to that occurrence: a refusal of a run before it comes first.
+/// All occurrences of SERVICE are invoked first, side by side. Then the runs are asked for, in text order, up to the first occurrence without SILENT that has no rows, if there
+/// is one: a refusal of a run before it comes first, and then its own.
 pub(crate) fn outcome_by_plan<R: Threads + Wait + Sync, W: Wire + Send>(
     rt: &R,
     alloc: Global,
@@ -49,15 +49,18 @@ pub(crate) fn outcome_by_plan<R: Threads + Wait + Sync, W: Wire + Send>(
     requires asked { (found : List (List Bindings)) → All (CanBeAsked (length registry.now)) (tasks_with plan.items found) }
     ensures { spec.Outcomed W.tells_log W.counts_alone (map W.seen wires.old) (map W.seen wires.new) registry.now query.now plan.items block result }
 {
-    let mut invoked = Invoked {
-        rows: Vec::new(alloc),
-        down: Vec::new(alloc),
-    };
-    match invoke_group(rt, alloc, &query.group, registry, &mut invoked, wires) {
-        Ok(()) => answer_all(rt, alloc, query, plan, invoked, registry, block, wires),
-        Err(error) => refuse(
-            rt, alloc, query, plan, invoked, error, registry, block, wires,
-        ),
+    match invoke_all(rt, alloc, query, registry, wires) {
+        Err(Memory) => Err(FedError::Memory),
+        Ok(
+            Settled {
+                rows,
+                down,
+                refused,
+            },
+        ) => match refused {
+            None => answer_all(rt, alloc, query, plan, rows, down, registry, block, wires),
+            Some(error) => refuse(rt, alloc, query, plan, rows, error, registry, block, wires),
+        },
     }
 }
 
@@ -67,7 +70,8 @@ fn answer_all<R: Threads + Wait + Sync, W: Wire + Send>(
     alloc: Global,
     query: &Query,
     plan: Vec<Part>,
-    invoked: Invoked,
+    rows: Vec<Items<Solution>>,
+    down: Vec<Down>,
     registry: &Registry,
     block: u32,
     wires: &mut [W],
@@ -77,10 +81,9 @@ fn answer_all<R: Threads + Wait + Sync, W: Wire + Send>(
     requires spellable { IsSpellable query.now }
     requires laid_out { IsPlanOf query.now plan.items }
     requires asked { (found : List (List Bindings)) → All (CanBeAsked (length registry.now)) (tasks_with plan.items found) }
-    requires all { IsAllOf query.now invoked.rows.items }
-    ensures { (start : List Seen) → AllTell W.tells_log start → AreInvoked W.tells_log W.counts_alone start (map W.seen wires.old) registry.now (occurrences query.now) [] invoked.down.items [] invoked.rows.items → spec.Outcomed W.tells_log W.counts_alone start (map W.seen wires.new) registry.now query.now plan.items block result }
+    requires all { IsAllOf query.now rows.items }
+    ensures { (start : List Seen) → AllTell W.tells_log start → AreInvoked W.tells_log W.counts_alone start (map W.seen wires.old) registry.now (occurrences query.now) down.items rows.items → spec.Outcomed W.tells_log W.counts_alone start (map W.seen wires.new) registry.now query.now plan.items block result }
 {
-    let Invoked { rows, down } = invoked;
     match answer_of_plan(rt, alloc, query, plan, rows, registry, block, wires) {
         Ok(answer) => Ok(Outcome {
             answer,
@@ -91,13 +94,13 @@ fn answer_all<R: Threads + Wait + Sync, W: Wire + Send>(
     }
 }
 
-// The refusal where an occurrence of SERVICE without SILENT has no rows: that of a run before it, or else its own.
+// The refusal where an occurrence of SERVICE without SILENT has no rows: that of a run before it, or else its own, for this reason.
 fn refuse<R: Threads + Wait + Sync, W: Wire + Send>(
     rt: &R,
     alloc: Global,
     query: &Query,
     plan: Vec<Part>,
-    invoked: Invoked,
+    rows: Vec<Items<Solution>>,
     error: ServiceError,
     registry: &Registry,
     block: u32,
@@ -107,13 +110,9 @@ fn refuse<R: Threads + Wait + Sync, W: Wire + Send>(
     requires block { (0 < block) × (block ≤ 64) }
     requires spellable { IsSpellable query.now }
     requires asked { (found : List (List Bindings)) → All (CanBeAsked (length registry.now)) (tasks_with plan.items found) }
-    requires placed { spec.IsPlacedOrLost (length registry.now) error }
-    ensures { (start : List Seen) → AllTell W.tells_log start → IsStopped W.tells_log W.counts_alone start (map W.seen wires.old) registry.now (occurrences query.now) [] invoked.down.items [] invoked.rows.items error → spec.Outcomed W.tells_log W.counts_alone start (map W.seen wires.new) registry.now query.now plan.items block result }
+    requires placed { spec.IsPlacedAt (length registry.now) error }
+    ensures { (start : List Seen) → AllTell W.tells_log start → IsStopped W.tells_log W.counts_alone start (map W.seen wires.old) registry.now (occurrences query.now) rows.items error → spec.Outcomed W.tells_log W.counts_alone start (map W.seen wires.new) registry.now query.now plan.items block result }
 {
-    if is_lost(&error) {
-        return Err(FedError::Memory);
-    }
-    let Invoked { rows, down: _ } = invoked;
     match answer_of_plan(rt, alloc, query, plan, rows, registry, block, wires) {
         Err(RowsError::Flow(first)) => Err(named(alloc, registry.endpoints(), first)),
         Err(RowsError::Refused) => Err(told(alloc, registry.endpoints(), error)),
@@ -149,18 +148,6 @@ fn answer_of_plan<R: Threads + Wait + Sync, W: Wire + Send>(
     )
 }
 
-fn is_lost(error: &ServiceError) -> bool
-    ensures { result ≡ spec.is_lost error.now }
-{
-    match error {
-        ServiceError::Unknown => false,
-        ServiceError::Failed { at: _ } => false,
-        ServiceError::Bad { at: _, bad: _ } => false,
-        ServiceError::TooLong { at: _, length: _ } => false,
-        ServiceError::Memory => true,
-    }
-}
-
 // The refusal of an occurrence of SERVICE without SILENT, with the name or the address of the endpoint in place of its number.
 fn told(alloc: Global, endpoints: &[Endpoint], error: ServiceError) -> FedError
     requires { spec.IsPlacedAt (length endpoints.now) error }
@@ -180,6 +167,5 @@ fn told(alloc: Global, endpoints: &[Endpoint], error: ServiceError) -> FedError
             Err(Memory) => FedError::Memory,
         },
         ServiceError::Unknown => unreachable!(),
-        ServiceError::Memory => unreachable!(),
     }
 }

@@ -2,7 +2,8 @@ use Rattle.std.proofs.Common.{rules, ◌≡◌, ◌+◌, ◌++◌, sym, subst, B
 use Rattle.std.proofs.lemmas.List.{take_all}
 use Rattle.fx_keys.specs.declared.probes.Probe.{Probe}
 use Rattle.fx_engine.specs.Asks.{AskedAll}
-use Rattle.fx_engine.proofs.AsksLemmas.{are_some, lost, none, some_more, stopped}
+use Rattle.fx_engine.proofs.AsksLemmas.{lost, none, some_more, stopped}
+use Rattle.fx_services.proofs.PieceLemmas.{are_some}
 use Rattle.fx_pool.proofs.WiresLemmas.{all_tell}
 use Rattle.fx_engine.proofs.asks.ask_all.Goals as goal
 

@@ -1,8 +1,7 @@
 use Rattle.std.proofs.Common.{◌≡◌, ◌∙◌, ◌++◌, ap, sym, subst, List, OnOk, rules}
 use Rattle.std.specs.List.{flat_map}
 use Rattle.std.proofs.lemmas.List.{take_all}
-use Rattle.fx_engine.specs.Calls.{Occurrence}
-use Rattle.fx_engine.specs.Gathered.{all_occurred}
+use Rattle.fx_services.specs.Beside.{Occurrence}
 use Rattle.fx_engine.specs.Invocations.{in_element, in_group}
 use Rattle.fx_engine.proofs.GatherLemmas.{none_more, one_more}
 use Rattle.fx_engine.proofs.OccurrenceLemmas.{of_bind, of_elements, of_filter, of_service, of_triple, of_union, of_values}
@@ -22,12 +21,12 @@ gather_element-returns-in-Values t c = none_more c.args.found.now.items _ (ap in
 
 pub gather_element-returns-in-Union : goal.gather_element-returns-in-Union
 gather_element-returns-in-Union t c =
-    subst (λ (os : List Occurrence). OnOk c.gather_groups.result (c.gather_groups.new.found.items ≡ c.args.found.now.items ++ all_occurred os))
+    subst (λ (os : List Occurrence). OnOk c.gather_groups.result (c.gather_groups.new.found.items ≡ c.args.found.now.items ++ os))
     (sym (ap in_element c.in-Union.is ∙ of_union c.in-Union.groups ∙ ap (flat_map in_group) (sym c.as_slice.ensures))) c.gather_groups.ensures
 
 pub gather_element-returns-in-Service : goal.gather_element-returns-in-Service
 gather_element-returns-in-Service t c =
-    subst (λ (os : List Occurrence). OnOk c.gather_one.result (c.gather_one.new.found.items ≡ c.args.found.now.items ++ all_occurred os))
+    subst (λ (os : List Occurrence). OnOk c.gather_one.result (c.gather_one.new.found.items ≡ c.args.found.now.items ++ os))
     (sym (ap in_element c.in-Service.is ∙ of_service c.in-Service.silent c.in-Service.iri c.in-Service.group)) c.gather_one.ensures
 
 pub gather_group-loop-element-init : goal.gather_group-loop-element-init
@@ -44,7 +43,7 @@ pub gather_group-returns : goal.gather_group-returns
 gather_group-returns t c =
     let all = c.as_slice-element-items.result.now in
     c.loop-element.invariant.so_far
-    ∙ ap (λ v. c.args.found.now.items ++ all_occurred v) (ap (flat_map in_element) (take_all c.loop-element.element-index all c.loop-element-test.false) ∙ ap (flat_map in_element) c.loop-element.invariant.are ∙ sym (of_elements c.args.group.now))
+    ∙ ap (λ v. c.args.found.now.items ++ v) (ap (flat_map in_element) (take_all c.loop-element.element-index all c.loop-element-test.false) ∙ ap (flat_map in_element) c.loop-element.invariant.are ∙ sym (of_elements c.args.group.now))
 
 pub gather_groups-loop-group-preserved : goal.gather_groups-loop-group-preserved
 gather_groups-loop-group-preserved t c =
