@@ -36,11 +36,13 @@ use Rattle.fx_spelling.proofs.Saying.{fine_both}
 use Rattle.fx_spelling.proofs.Terms.{fine_triple}
 use Rattle.fx_sources.specs.Probes.{Entry}
 use Rattle.fx_traffic.specs.Gains.{TellAll}
-use Rattle.fx_engine.specs.Calls.{AreFirst, Call, Occurrence, down_in, occurrence_in, occurrences}
+use Rattle.fx_engine.specs.Calls.{AreAllOrNone, Call, down_in, occurrence_in, occurrences}
+use Rattle.fx_services.specs.Beside.{Occurrence}
 use Rattle.fx_engine.specs.Mediation.{Federated, Serve}
 use Rattle.fx_services.specs.Noted.{places}
 use Rattle.fx_engine.specs.Unknown.{first_unknown, unknown_of}
 use Rattle.fx_services.specs.declared.noted.Down.{Down}
+use Rattle.fx_services.specs.declared.noted.DownCause.TheVariants as cause
 use Rattle.fx_engine.specs.declared.mediator.FedError.{FedError}
 use Rattle.fx_engine.specs.declared.mediator.FedError.TheVariants as fed
 use Rattle.fx_engine.specs.declared.mediator.Outcome.{Outcome}
@@ -48,6 +50,7 @@ use Rattle.fx_commands.specs.Asking.{WiresSeen}
 use Rattle.fx_commands.specs.Counting.{IsOfMember, IsRowCount, WasCounted, age, first_address, generated_elements, generated_members, generated_query, generated_text, is_young, knows, linked, rows_in, second_address, thirty}
 use Rattle.fx_commands.specs.MemberSteps.{IsAnswered}
 use Rattle.fx_commands.proofs.QueryLemmas.{known_from_nothing}
+use Rattle.fx_commands.proofs.SilentLemmas.{no_refused}
 
 -- ---- the elements of the query
 
@@ -251,11 +254,12 @@ answers_alike graph graphs = ap (λ (m : Meaning). form_answer generated_query g
 none_occur : occurrences generated_query ≡ []
 none_occur = ap (λ (m : Meaning). flat_map occurrence_in (m.cut.stations 0 [])) (meaning_is no_graphs)
 
-no_call : (calls : List Call) (os : List Occurrence) → os ≡ [] → AreFirst calls os → calls ≡ []
-no_call [] os none first = refl
-no_call (c ∷ cs) os none first = absurd (not_empty (first.are ∙ none))
+no_call : (calls : List Call) (os : List Occurrence) → os ≡ [] → AreAllOrNone calls os → calls ≡ []
+no_call calls os none (inl empty) = empty
+no_call [] os none (inr are) = refl
+no_call (c ∷ cs) os none (inr are) = absurd (not_empty (are ∙ none))
   where
-    not_empty : c.of ∷ (map (λ (d : Call). d.of) cs ++ first.others) ≡ [] → ⊥
+    not_empty : c.of ∷ map (λ (d : Call). d.of) cs ≡ [] → ⊥
     not_empty h = cc
 
 -- ---- what the members give
@@ -269,7 +273,7 @@ serves a b c = (refl, (refl, (refl, tt)))
 
 module _ (w : WiresSeen) (entries : List Entry) where
   nothing_called : (result : Result Outcome FedError) (f : Federated w.tells w.alone w.before w.after generated_members generated_query [] entries 15 result) → f.calls ≡ []
-  nothing_called result f = no_call f.calls (occurrences generated_query) none_occur f.first
+  nothing_called result f = no_call f.calls (occurrences generated_query) none_occur f.called
 
   answer_is : (outcome : Outcome) (a b c : List Triple) → Federated w.tells w.alone w.before w.after generated_members generated_query [] entries 15 (Ok outcome) → TellAll w.before generated_members (a ∷ b ∷ c ∷ []) → outcome.answer ≡ answer_alone generated_query (union (a ∷ b ∷ c ∷ []))
   answer_is outcome a b c f told =
@@ -294,7 +298,7 @@ module _ (w : WiresSeen) (entries : List Entry) where
 
   of_member : (e : FedError) → Federated w.tells w.alone w.before w.after generated_members generated_query [] entries 15 (Err e) → IsOfMember e
   of_member (fed.Member name) f = tt
-  of_member (fed.Service iri) f = absurd (among_from [] f.cause.0.0 (subst (λ (l : List Call). Contains l f.cause.0.0) (nothing_called (Err (fed.Service iri)) f) f.cause.0.1))
+  of_member (fed.Service iri) f = absurd (no_refused f.calls cause.Failed iri (nothing_called (Err (fed.Service iri)) f) f.cause.0)
   of_member (fed.BadReply name bad) f = tt
   of_member (fed.RequestTooLong name size) f = tt
   of_member (fed.UnknownService iri) f = absurd (known_service iri f.known)

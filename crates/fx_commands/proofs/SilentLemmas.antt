@@ -1,5 +1,5 @@
 -- What is down of the occurrences of SERVICE SILENT, and why, from what the members gave.
-use Rattle.std.proofs.Common.{◌≡◌, ◌∙◌, ap, sym, subst, refl, ℕ, suc, ◌+◌, ◌≤◌, Bool, true, false, cond, List, [], ◌∷◌, ◌++◌, map, All, IsTrue, Ok, arith, bytes_eq, if◌then◌else◌}
+use Rattle.std.proofs.Common.{◌≡◌, ◌∙◌, ap, sym, subst, refl, inl, inr, ℕ, suc, ◌+◌, ◌≤◌, Bool, true, false, cond, List, [], ◌∷◌, ◌++◌, map, All, IsTrue, Ok, Err, arith, bytes_eq, if◌then◌else◌}
 use Rattle.std.specs.List.{AllByRecursion}
 use Rattle.std.proofs.lemmas.List.Elements.{recursion_from_All}
 use Rattle.fx_outside.specs.Endpoints.{EndpointParts}
@@ -7,17 +7,20 @@ use Rattle.fx_algebra.specs.declared.queries.Query.{Query}
 use Rattle.fx_sources.specs.Probes.{Entry}
 use Rattle.fx_traffic.specs.Gains.{faults_at}
 use Rattle.fx_wire.specs.Exchanges.{Exchange, Seen}
-use Rattle.fx_engine.specs.Calls.{AreCalls, Call, Came, HasComeTo, IsPassed, Occurrence, Passes, down_from, down_if, failed, failure_of, failures_at, lost, told}
+use Rattle.fx_engine.specs.Calls.{AreAllOrNone, AreCalls, Call, Came, HasComeTo, HasFirstRefused, IsPassed, Passes, down_from, down_if, failed, failure_of, failures_at, lost, occurrences, told}
+use Rattle.fx_services.specs.Beside.{Occurrence}
 use Rattle.fx_engine.specs.Mediation.{Federated}
 use Rattle.fx_services.specs.Noted.{places}
 use Rattle.fx_services.specs.declared.noted.Down.{Down}
+use Rattle.fx_services.specs.declared.noted.DownCause.{DownCause}
 use Rattle.fx_services.specs.declared.noted.DownCause.TheVariants as cause
+use Rattle.fx_engine.specs.declared.mediator.FedError.TheVariants as fed
 use Rattle.fx_engine.specs.declared.mediator.Outcome.{Outcome}
 use Rattle.fx_engine.proofs.RegisteredLemmas.{registered_by, unregistered_by}
 use Rattle.fx_commands.specs.Asking.{WiresSeen}
 use Rattle.fx_local.specs.Files.{FileRead}
 use Rattle.fx_commands.specs.Query.{CountsDown, IsQueryDone}
-use Rattle.fx_commands.specs.Silent.{AreDown, AreLicensed, unregistered, wires_failed}
+use Rattle.fx_commands.specs.Silent.{AreDown, AreLicensed, IsFirstFailed, unregistered, wires_failed}
 use Rattle.fx_local.specs.Sinks.{SinkWritten}
 
 -- ---- faults
@@ -79,6 +82,15 @@ module _ (before : List Seen) (es : List EndpointParts) where
   are_unregistered n [] xs h passed all = refl
   are_unregistered n (c ∷ cs) xs h passed all = one_unknown n c.of.silent c.of c.came cs h.0 h.3 passed.0 all (λ rest. are_unregistered (suc n) cs h.1 h.5 passed.1 rest)
 
+-- ---- none
+
+pub no_refused : (calls : List Call) (why : DownCause) (iri : List ℕ) → calls ≡ [] → HasFirstRefused calls why iri → ⊥
+no_refused calls why iri none h = not_empty h.before (sym none ∙ h.are)
+  where
+    not_empty : (before : List Call) → [] ≡ before ++ h.refused ∷ h.behind → ⊥
+    not_empty [] e = cc
+    not_empty (c ∷ before) e = cc
+
 -- ---- what the members gave
 
 pub are_down : (tells alone : Bool) (before after : List Seen) (es : List EndpointParts) (asked : Query) (entries : List Entry) (block : ℕ) (outcome : Outcome) → Federated tells alone before after es asked [] entries block (Ok outcome) → AreDown asked outcome.down
@@ -100,6 +112,25 @@ are_licensed w es asked entries block outcome fed = record {
   all_unknown = λ all.
       let each = recursion_from_All IsUnknown _ (subst (λ (l : List Down). All IsUnknown l) fed.down all) in
       ap places fed.down ∙ are_unregistered w.before es 0 fed.calls fed.of_calls fed.are_calls (recursion_from_All IsPassed fed.calls fed.passed) each ∙ ap (unregistered es 0) fed.all_called;
+}
+
+-- where one was refused, all were invoked
+all_of : (calls : List Call) (os : List Occurrence) (why : DownCause) (iri : List ℕ) → AreAllOrNone calls os → HasFirstRefused calls why iri → map (λ c. c.of) calls ≡ os
+all_of calls os why iri (inl none) h = absurd (no_refused calls why iri none h)
+all_of calls os why iri (inr are) h = are
+
+pub first_failed : (w : WiresSeen) (es : List EndpointParts) (asked : Query) (entries : List Entry) (block : ℕ) (iri : List ℕ) → Federated w.tells w.alone w.before w.after es asked [] entries block (Err (fed.Service iri)) → IsFirstFailed w es asked iri
+first_failed w es asked entries block iri given = record {
+  calls = given.calls;
+  all_called = all_of given.calls (occurrences asked) cause.Failed iri given.called given.cause.0;
+  first = given.cause.0;
+  exchanges = given.exchanges;
+  gained = given.gained;
+  own = given.of_calls;
+  others = given.of_others;
+  parted = given.parted;
+  come_to = given.are_calls;
+  counted = given.counted;
 }
 
 -- by wires that count each address alone they are all that is counted

@@ -1,19 +1,16 @@
--- What is down of the occurrences of SERVICE SILENT of a query, and why.
-use Rattle.std.specs.Prelude.{◌≡◌, ◌≤◌, ◌+◌, ℕ, suc, false, List, [], ◌∷◌, ◌++◌, map, All, Contains, IsTrue, IsPermutation, bytes_eq, cond, if◌then◌else◌}
+-- What is down of the occurrences of SERVICE SILENT of a query, and why; and the first occurrence that was refused.
+use Rattle.std.specs.Prelude.{◌≡◌, ◌≤◌, ◌+◌, ℕ, suc, List, [], ◌∷◌, ◌++◌, map, All, IsTrue, IsPermutation, bytes_eq, cond, if◌then◌else◌}
 use Rattle.fx_outside.specs.Endpoints.{EndpointParts}
 use Rattle.fx_algebra.specs.declared.queries.Query.{Query}
 use Rattle.fx_traffic.specs.Gains.{HaveGained, faults_at}
 use Rattle.fx_wire.specs.Exchanges.{Exchange}
-use Rattle.fx_engine.specs.Calls.{AreCalls, Call, IsPassed, Occurrence, down_in, failed, failure_of, occurrences}
+use Rattle.fx_engine.specs.Calls.{AreCalls, Call, HasFirstRefused, IsPassed, down_in, failed, failure_of, failures_at, occurrences}
+use Rattle.fx_services.specs.Beside.{Occurrence}
 use Rattle.fx_services.specs.Noted.{places}
 use Rattle.fx_engine.specs.Unknown.{is_registered}
 use Rattle.fx_services.specs.declared.noted.Down.{Down}
 use Rattle.fx_services.specs.declared.noted.DownCause.TheVariants as cause
 use Rattle.fx_commands.specs.Asking.{WiresSeen}
-
--- an occurrence without SILENT has the IRI
-abbrev pub IsPlain : Query → List ℕ → Type 0
-IsPlain asked iri = (o : Occurrence) × Contains (occurrences asked) o × (o.silent ≡ false) × (o.iri ≡ iri)
 
 -- the numbers of occurrences that name no endpoint, from a number on
 abbrev pub unregistered : List EndpointParts → ℕ → List Occurrence → List ℕ
@@ -44,3 +41,19 @@ pub record AreLicensed (w : WiresSeen) (endpoints : List EndpointParts) (asked :
   pub come_to : AreCalls w.before endpoints down.calls own
   pub counted : (address : List ℕ) → faults_at w.before address + wires_failed address noted ≤ faults_at w.after address
   pub all_unknown : All (λ (d : Down). d.why ≡ cause.Unknown) noted → places noted ≡ unregistered endpoints 0 (occurrences asked)
+
+-- ---- what is refused
+
+-- The exchange for an occurrence without SILENT of this IRI failed, and it is the first in text order that is refused: each occurrence of the query came to what it did by its own
+-- exchanges alone, which are some of those that were made, all before it have rows or are silent, and no address has more failed exchanges than its count of faults rose by.
+pub record IsFirstFailed (w : WiresSeen) (endpoints : List EndpointParts) (asked : Query) (iri : List ℕ) : Type 0 where
+  pub calls : List Call
+  pub all_called : map (λ c. c.of) calls ≡ occurrences asked
+  pub first : HasFirstRefused calls cause.Failed iri
+  pub exchanges : List Exchange
+  pub gained : IsTrue w.tells → HaveGained w.before w.after exchanges
+  pub own : List Exchange
+  pub others : List Exchange
+  pub parted : IsPermutation (others ++ own) exchanges
+  pub come_to : AreCalls w.before endpoints calls own
+  pub counted : (address : List ℕ) → faults_at w.before address + failures_at address calls ≤ faults_at w.after address
