@@ -1,6 +1,6 @@
 -- The query of `count_rows` is accepted from its text, and has no SERVICE; and what the members give for it is counted.
 use Rattle.std.proofs.Common.{◌≡◌, ◌∙◌, ap, sym, subst, refl, ℕ, zero, suc, ◌<◌, ◌≤◌, true, false, List, [], ◌∷◌, ◌++◌, map, length, max, codes, Some, None, Ok, Err, inl, inr, arith}
-use Rattle.std.specs.Prelude.{Contains, Result, nat_le, bytes_eq, if◌then◌else◌}
+use Rattle.std.specs.Prelude.{Result, nat_le, bytes_eq, if◌then◌else◌}
 use Rattle.std.specs.List.{flat_map, list_all}
 use Rattle.std.specs.Str.{IsAscii}
 use Rattle.std.proofs.lemmas.Bool.{and_parts}
@@ -12,7 +12,6 @@ use Rattle.fx_terms.specs.Names.{IsName, is_name, named}
 use Rattle.fx_terms.specs.Terms.{IsTerm}
 use Rattle.fx_terms.specs.declared.patterns.Pattern.{Pattern}
 use Rattle.fx_terms.specs.declared.triples.Triple.{Triple}
-use Rattle.fx_terms.proofs.SetLemmas.{among_from}
 use Rattle.fx_algebra.specs.Answers.{answer, answer_alone, form_answer, no_graphs, with_inline}
 use Rattle.fx_algebra.specs.Graphs.{union}
 use Rattle.fx_algebra.specs.Groups.{Meaning, Part, pattern, condition, meaning, element_meaning, group_meaning, group_rows}

@@ -20,7 +20,7 @@ use Rattle.fx_sources.specs.Registries.{read_registry}
 use Rattle.fx_sources.specs.declared.errors.RegistryError.{RegistryError}
 use Rattle.fx_traffic.specs.Gains.{Tell, TellAll, faults_at}
 use Rattle.fx_wire.specs.Exchanges.{Seen}
-use Rattle.fx_engine.specs.Calls.{Call}
+use Rattle.fx_engine.specs.Calls.{Call, HasFirstRefused}
 use Rattle.fx_engine.specs.Unknown.{unknown_of}
 use Rattle.fx_services.specs.declared.noted.DownCause.TheVariants as cause
 use Rattle.fx_engine.specs.declared.mediator.FedError.{FedError}
@@ -43,7 +43,7 @@ use Rattle.fx_wire.specs.Exchanges.{Exchange, exchanged}
 use Rattle.fx_flows.specs.Flows.{IsLongBatch}
 use Rattle.fx_engine.specs.Asks.{IsLongAsk}
 use Rattle.fx_pool.specs.declared.jobs.BadReply.{BadReply}
-use Rattle.fx_engine.specs.Mediation.{Federated, HasBadAsk, HasBadBatch, HasLongAsk, HasLongBatch, HasPlain as HasPlainCall, Planned, Serve}
+use Rattle.fx_engine.specs.Mediation.{Federated, HasBadAsk, HasBadBatch, HasLongAsk, HasLongBatch, Planned, Serve}
 use Rattle.fx_commands.specs.FedRefusals.{fed_status_of}
 use Rattle.fx_local.specs.Limits.{graph_limit, query_limit, registry_limit}
 use Rattle.fx_local.specs.declared.statuses.Status.{Status}
@@ -209,16 +209,16 @@ no_bad_batch w es asked calls graphs block e xs bad told gained short is =
     no_long_reply w xs (exchanged e bad.request bad.reply) gained short is.is_bad.exchanged_so (is.is_bad.long g.0 g.1).1
 
 no_bad_reply : (w : WiresSeen) (es : List EndpointParts) (asked : Query) (graphs : List (List Triple)) (block : ℕ) (e : EndpointParts) (calls : List Call) (texts : List Sent) (xs : List Exchange) (bad : BadReply) → TellAll w.before es graphs → HaveGained w.before w.after xs → AreRepliesShort w → AllIsWell es calls texts
-    → HasBadAsk w.before es asked [] e xs bad ⊎ (HasBadBatch w.before es asked calls block e xs bad ⊎ HasPlainCall calls (cause.Bad bad) (λ i. i ≡ e.iri)) → ⊥
+    → HasBadAsk w.before es asked [] e xs bad ⊎ (HasBadBatch w.before es asked calls block e xs bad ⊎ HasFirstRefused calls (cause.Bad bad) e.iri) → ⊥
 no_bad_reply w es asked graphs block e calls texts xs bad are_told gained short well (inl h) = no_bad_ask w es asked graphs e xs bad are_told gained short h
 no_bad_reply w es asked graphs block e calls texts xs bad are_told gained short well (inr (inl h)) = no_bad_batch w es asked calls graphs block e xs bad are_told gained short h
-no_bad_reply w es asked graphs block e calls texts xs bad are_told gained short well (inr (inr h)) = no_plain es calls (cause.Bad bad) (λ i. i ≡ e.iri) (λ iri is. is) well.each_harmless h
+no_bad_reply w es asked graphs block e calls texts xs bad are_told gained short well (inr (inr h)) = no_plain es calls (cause.Bad bad) e.iri (λ iri is. is) well.each_harmless h
 
 no_long_text : (w : WiresSeen) (es : List EndpointParts) (asked : Query) (block : ℕ) (calls : List Call) (texts : List Sent) (e : EndpointParts) (size : ℕ) → AreAsksShort es asked → AllIsWell es calls texts
-    → HasLongAsk es asked [] e size ⊎ (HasLongBatch es asked calls block e texts size ⊎ HasPlainCall calls (cause.TooLong size) (λ i. i ≡ e.iri)) → ⊥
+    → HasLongAsk es asked [] e size ⊎ (HasLongBatch es asked calls block e texts size ⊎ HasFirstRefused calls (cause.TooLong size) e.iri) → ⊥
 no_long_text w es asked block calls texts e size asks well (inl (p, lacked, long)) = no_long_ask es asked p size asks lacked.lacked long
 no_long_text w es asked block calls texts e size asks well (inr (inl long)) = no_long_batch es texts long.unit long.batch long.asked.at e size well.texts_short long.asked.member long.asked.found long.allowed long.is_long
-no_long_text w es asked block calls texts e size asks well (inr (inr h)) = no_plain es calls (cause.TooLong size) (λ i. i ≡ e.iri) (λ iri is. is) well.each_harmless h
+no_long_text w es asked block calls texts e size asks well (inr (inr h)) = no_plain es calls (cause.TooLong size) e.iri (λ iri is. is) well.each_harmless h
 
 no_unknown : (iri : List ℕ) → Some iri ≡ None → ⊥
 no_unknown iri h = cc

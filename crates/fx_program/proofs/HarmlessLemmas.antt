@@ -6,6 +6,7 @@ use Rattle.std.proofs.lemmas.List.Elements.{All-contains, Contains-append_left, 
 use Rattle.std.proofs.lemmas.List.Sorted.{Contains-permutation}
 use Rattle.std.proofs.lemmas.Slice.Eq.{bytes_eq-Decides}
 use Rattle.fx_terms.specs.declared.triples.Triple.{Triple}
+use Rattle.fx_algebra.proofs.MemberLemmas.{among_right}
 use Rattle.fx_terms.proofs.SetLemmas.{Among, among_from, contains_from}
 use Rattle.fx_outside.specs.Endpoints.{EndpointParts}
 use Rattle.fx_algebra.specs.Answers.{is_empty_list}
@@ -26,8 +27,9 @@ use Rattle.fx_traffic.specs.Sent.{Sent}
 use Rattle.fx_traffic.specs.Traffic.{AreStationsSent, IsStationSent, SentUnless}
 use Rattle.fx_traffic.proofs.CutLemmas.{batch_laws}
 use Rattle.fx_wire.specs.Exchanges.{Exchange, Seen, exchanged}
-use Rattle.fx_engine.specs.Calls.{AgreesWith, AreCalls, Call, Came, HasComeTo, IsPassed, Occurrence, Passes, down_in, failed, failure_of, failures_at, lost, occurrence_in, occurrences, told}
-use Rattle.fx_engine.specs.Mediation.{Federated, HasPlain, Serve}
+use Rattle.fx_engine.specs.Calls.{AgreesWith, AreCalls, Call, Came, HasComeTo, HasFirstRefused, IsPassed, Passes, down_in, failed, failure_of, failures_at, lost, occurrence_in, occurrences, told}
+use Rattle.fx_services.specs.Beside.{Occurrence}
+use Rattle.fx_engine.specs.Mediation.{Federated, Serve}
 use Rattle.fx_services.specs.Noted.{places}
 use Rattle.fx_engine.specs.RunsSent.{AreRunsSent, IsSentForRun}
 use Rattle.fx_services.specs.ServicesAsked.{service_text}
@@ -42,6 +44,7 @@ use Rattle.fx_engine.proofs.RegisteredLemmas.{registered_by, unregistered_by}
 use Rattle.fx_commands.specs.Asking.{WiresSeen}
 use Rattle.fx_program.specs.Completeness.{AreRepliesShort, AreTextsShort, AreWell}
 use Rattle.fx_commands.specs.Silent.{unregistered}
+use Rattle.fx_engine.proofs.CallLemmas.{first_of}
 use Rattle.fx_program.proofs.HeadlineLemmas.{of_query}
 use Rattle.fx_commands.proofs.QueryLemmas.{known_from_nothing}
 
@@ -265,12 +268,13 @@ all_is_well w es asked graphs graph_at entries block result are_told serve fed w
     omega (arith, same, counted) in
     let fit : AreShort fed.of_calls = λ x among.
     All-contains (λ (y : Exchange). length y.reply ≤ 67108864) xs x (replies xs (fed.gained well.0)) (Contains-permutation (fed.of_others ++ fed.of_calls) xs x fed.parted (Contains-append_right fed.of_others fed.of_calls x among)) in
-    let each = harmless w.before es graphs are_told calls fed.of_calls fed.are_calls none fit (λ c m. short_for es graphs graph_at block asked c.of short (of_query asked calls c fed.first (contains_from calls c m))) in
+    let each = harmless w.before es graphs are_told calls fed.of_calls fed.are_calls none fit (λ c m. short_for es graphs graph_at block asked c.of short (of_query asked calls c fed.called (contains_from calls c m))) in
     let down = unregistered es 0 (occurrences asked) in
-    let agrees : AgreesWith down calls = λ k c there passes.
+    let first = first_of calls (occurrences asked) fed.called in
+    let agrees : AgreesWith down calls = λ k c there passes before.
     let same : 0 + k ≡ k = omega arith in
-    let theirs = each_agrees w.before es 0 calls fed.first.others fed.of_calls fed.are_calls each k c there passes in
-    let so : is_down down (0 + k) ≡ has_gone c.of.silent c.came = subst (λ (l : List Occurrence). is_down (unregistered es 0 l) (0 + k) ≡ has_gone c.of.silent c.came) fed.first.are theirs in
+    let theirs = each_agrees w.before es 0 calls first.others fed.of_calls fed.are_calls each k c there passes in
+    let so : is_down down (0 + k) ≡ has_gone c.of.silent c.came = subst (λ (l : List Occurrence). is_down (unregistered es 0 l) (0 + k) ≡ has_gone c.of.silent c.came) first.are theirs in
     ap (is_down down) (sym same) ∙ so ∙ sym (down_at 0 calls k c there) ∙ ap (is_down (places (down_in calls))) same in
     record {
       each_harmless = each;
@@ -278,5 +282,7 @@ all_is_well w es asked graphs graph_at entries block result are_told serve fed w
     }
 
 -- no occurrence without SILENT has a bad reply, or a text that is too long
-pub no_plain : (es : List EndpointParts) (calls : List Call) (why : DownCause) (P : List ℕ → Type 0) → ((iri : List ℕ) → IsHarmless es iri (failed why) → ⊥) → ((c : Call) → Among c calls → IsHarmless es c.of.iri c.came) → HasPlain calls why P → ⊥
-no_plain es calls why P harm each (c, among, plain, came, p) = harm c.of.iri (subst (IsHarmless es c.of.iri) came (each c (among_from calls c among)))
+pub no_plain : (es : List EndpointParts) (calls : List Call) (why : DownCause) (iri : List ℕ) → ((address : List ℕ) → IsHarmless es address (failed why) → ⊥) → ((c : Call) → Among c calls → IsHarmless es c.of.iri c.came) → HasFirstRefused calls why iri → ⊥
+no_plain es calls why iri harm each h =
+    let its : Among h.refused calls = subst (Among h.refused) (sym h.are) (among_right h.refused h.before (h.refused ∷ h.behind) (inl refl)) in
+    harm h.refused.of.iri (subst (IsHarmless es h.refused.of.iri) h.came (each h.refused its))

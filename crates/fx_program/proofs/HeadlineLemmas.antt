@@ -2,7 +2,6 @@
 use Rattle.std.proofs.Common.{◌≡◌, ◌∙◌, ap, sym, subst, ℕ, ◌≤◌, ◌<◌, ◌⊎◌, List, [], ◌++◌, map, Option, Some, None, Ok, Err, length, inl, inr, arith, take, IsTrue}
 use Rattle.std.specs.Prelude.{Contains, IfSome}
 use Rattle.std.proofs.lemmas.List.{take_all}
-use Rattle.std.proofs.lemmas.List.Elements.{Contains-append_left}
 use Rattle.fx_terms.specs.declared.triples.Triple.{Triple}
 use Rattle.fx_terms.proofs.SetLemmas.{among_from, contains_from}
 use Rattle.fx_outside.specs.Endpoints.{EndpointParts}
@@ -23,11 +22,11 @@ use Rattle.fx_plan.specs.Explained.{explained}
 use Rattle.fx_sources.specs.Probes.{Entry}
 use Rattle.fx_sources.specs.Registries.{read_registry}
 use Rattle.fx_traffic.specs.Gains.{TellAll, faults_at}
-use Rattle.fx_engine.specs.Calls.{AreFirst, Call, Occurrence, occurrences}
-use Rattle.fx_engine.specs.Mediation.{Federated, HasPlain, Serve}
+use Rattle.fx_engine.specs.Calls.{AreAllOrNone, Call, occurrences}
+use Rattle.fx_services.specs.Beside.{Occurrence}
+use Rattle.fx_engine.specs.Mediation.{Federated, Serve}
 use Rattle.fx_engine.specs.Sections.{parts_with}
 use Rattle.fx_services.specs.declared.noted.Down.{Down}
-use Rattle.fx_services.specs.declared.noted.DownCause.{DownCause}
 use Rattle.fx_engine.specs.declared.mediator.FedError.TheVariants as fed
 use Rattle.fx_engine.specs.declared.mediator.Outcome.{Outcome}
 use Rattle.fx_local.specs.Limits.{graph_limit, query_limit, registry_limit}
@@ -45,10 +44,10 @@ use Rattle.fx_commands.specs.MemberLines.{down_lines, member_failed, service_fai
 use Rattle.fx_local.specs.Local.{HasLines, IsWritten}
 use Rattle.fx_commands.specs.Query.{IsOutcomeWritten, IsQueryDone, IsQueryReported}
 use Rattle.fx_local.specs.Services.{all_numbers, silent_lines}
-use Rattle.fx_commands.specs.Silent.{AreLicensed, IsPlain}
+use Rattle.fx_commands.specs.Silent.{AreLicensed, IsFirstFailed}
 use Rattle.fx_local.specs.Sinks.{SinkWritten, Wrote}
 use Rattle.fx_commands.proofs.QueryLemmas.{fed_not_done, known_from_nothing}
-use Rattle.fx_commands.proofs.SilentLemmas.{are_licensed}
+use Rattle.fx_commands.proofs.SilentLemmas.{are_licensed, first_failed}
 
 -- ---- what is told
 
@@ -70,24 +69,26 @@ nothing_more old new text front is = front.1 ∙ ap (λ (t : List ℕ). old ++ t
 -- ---- `query`
 
 -- an endpoint has the line of a refusal for an exchange that failed
-abbrev pub IsFailureLine : Query → EndpointParts → List ℕ → Type 0
-IsFailureLine asked e line = (line ≡ member_failed e.name) ⊎ (IsPlain asked e.iri × (line ≡ service_failed e.iri))
+abbrev pub IsFailureLine : WiresSeen → List EndpointParts → Query → EndpointParts → List ℕ → Type 0
+IsFailureLine w es asked e line = (line ≡ member_failed e.name) ⊎ (IsFirstFailed w es asked e.iri × (line ≡ service_failed e.iri))
 
 -- the endpoint that a refusal names, and its line
 abbrev FailedAt : WiresSeen → List EndpointParts → (EndpointParts → List ℕ → Type 0) → List ℕ → Type 0
 FailedAt w es IsLine text = (e : EndpointParts) × Contains es e × (faults_at w.before e.iri < faults_at w.after e.iri) × IsLine e text
 
 -- an occurrence that was invoked is one of the query's
-pub of_query : (asked : Query) (calls : List Call) (c : Call) → AreFirst calls (occurrences asked) → Contains calls c → Contains (occurrences asked) c.of
-of_query asked calls c first among =
-    let mine : Contains (map (λ (x : Call). x.of) calls ++ first.others) c.of = Contains-append_left (map (λ (x : Call). x.of) calls) first.others c.of (contains_from (map (λ (x : Call). x.of) calls) c.of (among_map (λ (x : Call). x.of) c calls (among_from calls c among))) in
-    subst (λ (l : List Occurrence). Contains l c.of) first.are mine
+pub of_query : (asked : Query) (calls : List Call) (c : Call) → AreAllOrNone calls (occurrences asked) → Contains calls c → Contains (occurrences asked) c.of
+of_query asked calls c (inl none) among = absurd (among_from [] c (subst (λ (l : List Call). Contains l c) none among))
+of_query asked calls c (inr are) among = subst (λ (l : List Occurrence). Contains l c.of) are (contains_from (map (λ (x : Call). x.of) calls) c.of (among_map (λ (x : Call). x.of) c calls (among_from calls c among)))
 
-plain_at : (asked : Query) (calls : List Call) (why : DownCause) (iri address : List ℕ) → AreFirst calls (occurrences asked) → HasPlain calls why (λ i. i ≡ iri) → address ≡ iri → IsPlain asked address
-plain_at asked calls why iri address first h same = (h.0.of, of_query asked calls h.0 first h.1, h.2, h.4 ∙ sym same)
+failed_at : (w : WiresSeen) (es others : List EndpointParts) (asked other : Query) (entries : List Entry) (block : ℕ) (iri address : List ℕ) → others ≡ es → other ≡ asked → address ≡ iri
+    → Federated w.tells w.alone w.before w.after others other [] entries block (Err (fed.Service iri)) → IsFirstFailed w es asked address
+failed_at w es others asked other entries block iri address a b c given =
+    subst (IsFirstFailed w es asked) (sym c)
+    (subst (λ (v : Query). IsFirstFailed w es v iri) b (subst (λ (l : List EndpointParts). IsFirstFailed w l other iri) a (first_failed w others other entries block iri given)))
 
 query_failed : (w : WiresSeen) (r q : FileRead) (block : ℕ) (text : List ℕ) (es : List EndpointParts) (asked : Query) → Holds r registry_limit (λ content. read_registry content ≡ Ok es) → Holds q query_limit (λ content. Accepted content asked)
-    → IsQueryReported w r q block status.EndpointFault text → FailedAt w es (IsFailureLine asked) text
+    → IsQueryReported w r q block status.EndpointFault text → FailedAt w es (IsFailureLine w es asked) text
 query_failed w r q block text es asked h k (inl (none, before)) = absurd before
 query_failed w r q block text es asked h k (inr (Ok outcome, federated, end)) = absurd end
 query_failed w r q block text es asked h k (inr (Err (fed.Member name), federated, end)) =
@@ -96,11 +97,11 @@ query_failed w r q block text es asked h k (inr (Err (fed.Member name), federate
 query_failed w r q block text es asked h k (inr (Err (fed.Service iri), federated, end)) =
     let cause = federated.federated.cause in
     let e = cause.1.0 in
-    let plain : IsPlain federated.asked e.iri = plain_at federated.asked federated.federated.calls _ iri e.iri federated.federated.first cause.0 cause.1.2 in (
+    let same = registry_told r es federated.endpoints h federated.registered in (
       e,
-      subst (λ (l : List EndpointParts). Contains l e) (registry_told r es federated.endpoints h federated.registered) cause.1.1,
+      subst (λ (l : List EndpointParts). Contains l e) same cause.1.1,
       subst (λ (a : List ℕ). faults_at w.before a < faults_at w.after a) (sym cause.1.2) cause.2,
-      inr (subst (λ (v : Query). IsPlain v e.iri) (query_told q asked federated.asked k federated.accepted) plain, end.1 ∙ ap service_failed (sym cause.1.2)),
+      inr (failed_at w es federated.endpoints asked federated.asked federated.entries block iri e.iri same (query_told q asked federated.asked k federated.accepted) cause.1.2 federated.federated, end.1 ∙ ap service_failed (sym cause.1.2)),
     )
 query_failed w r q block text es asked h k (inr (Err (fed.BadReply name bad), federated, end)) = absurd (other end.0)
   where
@@ -142,7 +143,7 @@ query_answered w r q es others asked other graphs graph_at block entries outcome
 
 pub query_headline : (w : WiresSeen) (r q : FileRead) (block : ℕ) (s : Status) (text : List ℕ) (out err : SinkWritten) → IsQueryReported w r q block s text → (IsTrue err.tells → Gains err.old err.new err.before err.after text) → (s ≡ status.Done → IsQueryDone w r q block out err)
     → (es : List EndpointParts) (asked : Query) (graphs : List (List Triple)) (graph_at : List ℕ → List Triple) → IsTold w r q es asked graphs → Serve graph_at es graphs
-    → (s ≡ status.Done → IsAnswerOver w es asked graphs graph_at out err) × NamesFailed w es (IsFailureLine asked) s err
+    → (s ≡ status.Done → IsAnswerOver w es asked graphs graph_at out err) × NamesFailed w es (IsFailureLine w es asked) s err
 query_headline w r q block s text out err reported gains given es asked graphs graph_at told serve = (
   λ is.
       let done = given is in

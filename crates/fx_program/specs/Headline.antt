@@ -26,7 +26,7 @@ use Rattle.fx_commands.specs.Generator.{summary}
 use Rattle.fx_local.specs.Lines.{Gains}
 use Rattle.fx_commands.specs.MemberLines.{down_lines, member_failed, service_failed}
 use Rattle.fx_local.specs.Services.{all_numbers, silent_lines}
-use Rattle.fx_commands.specs.Silent.{AreLicensed, IsPlain}
+use Rattle.fx_commands.specs.Silent.{AreLicensed, IsFirstFailed}
 use Rattle.fx_local.specs.Sinks.{SinkWritten}
 
 -- the registry has these endpoints, the query is this, and each wire tells the graph of each endpoint
@@ -51,7 +51,7 @@ abbrev pub Headline : (List ℕ → FileRead) → WiresSeen → Option Asked →
 Headline read w (Some (over_members r q workers block)) s out err =
     (endpoints : List EndpointParts) (asked : Query) (graphs : List (List Triple)) (graph_at : List ℕ → List Triple) → IsTold w (read r) (read q) endpoints asked graphs → Serve graph_at endpoints graphs
     → (s ≡ status.Done → (noted : List Down) × AreLicensed w endpoints asked noted × AreWritten (document (answer asked (union graphs) graph_at (map (λ d. d.place) noted))) (down_lines noted) out err)
-    × NamesFailed w endpoints (λ e line. (line ≡ member_failed e.name) ⊎ (IsPlain asked e.iri × (line ≡ service_failed e.iri))) s err
+    × NamesFailed w endpoints (λ e line. (line ≡ member_failed e.name) ⊎ (IsFirstFailed w endpoints asked e.iri × (line ≡ service_failed e.iri))) s err
 Headline read w (Some (planned r q)) s out err =
     (endpoints : List EndpointParts) (asked : Query) (graphs : List (List Triple)) → IsTold w (read r) (read q) endpoints asked graphs
     → (s ≡ status.Done → AreWritten (explained (parts_with (sources graphs) asked) endpoints) [] out err) × NamesFailed w endpoints (λ e line. line ≡ member_failed e.name) s err
