@@ -4,14 +4,12 @@ ghost use Rattle.std.specs.List.{flat_map};
 ghost use Rattle.fx_algebra.specs.Evaluation.{rows_from};
 ghost use Rattle.fx_member.specs.Optionals as spec;
 
+use crate::estimates::ROWS_FOR_A_TRIPLE;
 use fx_algebra::{Element, Expr, Group, Solution};
 use fx_solutions::{filter, or_itself};
 use fx_store::Store;
 use fx_terms::{Memory, Pattern};
 use std::alloc::Global;
-
-// How many rows are looked up in the time in which one triple of a pattern is found and joined, as it was measured.
-const ROWS_FOR_A_TRIPLE: u64 = 4;
 
 /// The patterns of a group that holds triple patterns and filters alone, in text order, where they are to be looked up under so many rows; else
 /// nothing. They aren't where the rows are too many for the triples of each: there the group's rows are found at once, and joined.

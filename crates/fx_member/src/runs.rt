@@ -1,15 +1,27 @@
 //! Runs of triple patterns, in an order that looks few triples up.
-ghost use Rattle.std.specs.Prelude.{◌≡◌, ◌<◌, IfOk, IsPermutation, length};
+ghost use Rattle.std.specs.Prelude.{◌≡◌, ◌<◌, ◌∷◌, [], IfOk, IsPermutation, length};
 ghost use Rattle.fx_algebra.specs.Evaluation.{extended, rows_from};
+ghost use Rattle.fx_member.specs.Runs as spec;
 
+use crate::estimates::{Choice, growth, is_scanned, next};
 use fx_algebra::Solution;
+use fx_solutions::join_with;
 use fx_solutions::known_rows::known_to_rise;
 use fx_store::Store;
-use fx_terms::{Memory, Pattern, PatternTerm};
+use fx_terms::{Memory, Pattern};
 use std::alloc::Global;
 
-/// The rows that patterns give from rows. The pattern that is taken next is one that has a variable that the first row binds, if any has,
-/// and of these the one with the fewest triples under that row.
+/// Rows, and the patterns that they are still to be joined with.
+#[derive(Drop)]
+pub(crate) struct Run {
+    pub rows: Vec<Solution>,
+    pub left: Vec<Pattern>,
+}
+
+/// The rows that patterns give from rows, in an order that `next` chooses pattern by pattern.
+///
+/// A pattern that shares no variable with the rows can start a part of its own, to which others are added until it shares one; then the two are
+/// joined. So rows are multiplied only where nothing connects them.
 pub(crate) fn with_run(
     alloc: Global,
     store: &Store,
@@ -18,19 +30,118 @@ pub(crate) fn with_run(
 ) -> Result<Vec<Solution>, Memory>
     ensures { IfOk result (λ rows. IsPermutation (rows_from store.now before.items patterns.items) rows.items) }
 {
+    let mut run = Run {
+        rows: before,
+        left: patterns,
+    };
+    while !run.left.is_empty() {
+        run = with_next(alloc, store, run)?;
+    }
+    Ok(run.rows)
+}
+
+// A run with one pattern more, or with a part more.
+fn with_next(alloc: Global, store: &Store, run: Run) -> Result<Run, Memory>
+    requires { 0 < length run.left.items }
+    ensures same { IfOk result (λ more. IsPermutation (rows_from store.now run.rows.items run.left.items) (rows_from store.now more.rows.items more.left.items)) }
+    ensures fewer { IfOk result (λ more. length more.left.items < length run.left.items) }
+{
     // The order changes no row, since the triples of a graph rise.
     store.known();
-    let mut left = patterns;
-    let mut rows = before;
-    while !left.is_empty() {
-        known_to_rise(rows.as_slice());
-        let pattern = left.remove(next_for(alloc, store, left.as_slice(), rows.as_slice()));
-        rows = with_pattern(alloc, store, pattern, rows.as_slice())?;
+    known_to_rise(run.rows.as_slice());
+    match next(store, run.left.as_slice(), run.rows.as_slice()) {
+        Choice::Beside(place) => {
+            let more = with_one(alloc, store, run, place)?;
+            Ok(more)
+        }
+        Choice::Apart(place) => with_part(alloc, store, run, place),
     }
+}
+
+// A run with the pattern at a place looked up.
+fn with_one(alloc: Global, store: &Store, run: Run, place: usize) -> Result<Run, Memory>
+    requires { place < length run.left.items }
+    ensures more { IfOk result (λ more. spec.IsOneMore store.now run.rows.items run.left.items more.rows.items more.left.items) }
+    ensures fewer { IfOk result (λ more. length more.left.items < length run.left.items) }
+{
+    let mut left = run.left;
+    let pattern = left.remove(place);
+    let rows = with_pattern(alloc, store, pattern, run.rows)?;
+    Ok(Run { rows, left })
+}
+
+// A run joined with the part that the pattern at a place starts.
+fn with_part(alloc: Global, store: &Store, run: Run, place: usize) -> Result<Run, Memory>
+    requires { place < length run.left.items }
+    ensures same { IfOk result (λ more. IsPermutation (rows_from store.now run.rows.items run.left.items) (rows_from store.now more.rows.items more.left.items)) }
+    ensures fewer { IfOk result (λ more. length more.left.items < length run.left.items) }
+{
+    store.known();
+    known_to_rise(run.rows.as_slice());
+    let part = part_at(alloc, store, run.left, place, run.rows.as_slice())?;
+    let rows = join_with(alloc, run.rows.as_slice(), part.rows)?;
+    Ok(Run {
+        rows,
+        left: part.left,
+    })
+}
+
+// The rows of the pattern at a place, and of others with which it comes to share a variable with rows, and the patterns that are left.
+fn part_at(
+    alloc: Global,
+    store: &Store,
+    patterns: Vec<Pattern>,
+    place: usize,
+    rows: &[Solution],
+) -> Result<Run, Memory>
+    requires { place < length patterns.items }
+    ensures part { IfOk result (λ part. spec.IsPart store.now patterns.items part.rows.items part.left.items) }
+    ensures fewer { IfOk result (λ part. length part.left.items < length patterns.items) }
+{
+    let mut start = Vec::new(alloc);
+    start.push(Solution::empty(alloc))?;
+    let whole = Run {
+        rows: start,
+        left: patterns,
+    };
+    let mut part = with_one(alloc, store, whole, place)?;
+    while let Some(place) = growth(store, part.left.as_slice(), part.rows.as_slice(), rows) {
+        known_to_rise(part.rows.as_slice());
+        part = with_one(alloc, store, part, place)?;
+    }
+    Ok(part)
+}
+
+// The rows of a pattern by itself.
+fn rows_of(alloc: Global, store: &Store, pattern: Pattern) -> Result<Vec<Solution>, Memory>
+    ensures { IfOk result (λ rows. rows.items ≡ rows_from store.now ([] ∷ []) (pattern ∷ [])) }
+{
+    let nothing = Solution::empty(alloc);
+    let rows = store.matches(alloc, &pattern, &nothing)?;
     Ok(rows)
 }
 
-/// Patterns in the order in which they are looked up under rows like the first of these.
+/// Rows with each triple that fits a pattern under them, in some order. Where the rows are many and the pattern has few triples, these are found at once, and
+/// joined.
+pub(crate) fn with_pattern(
+    alloc: Global,
+    store: &Store,
+    pattern: Pattern,
+    rows: Vec<Solution>,
+) -> Result<Vec<Solution>, Memory>
+    ensures { IfOk result (λ more. IsPermutation (extended store.now pattern rows.items) more.items) }
+{
+    if is_scanned(alloc, store, &pattern, rows.as_slice()) {
+        known_to_rise(rows.as_slice());
+        let found = rows_of(alloc, store, pattern)?;
+        let more = join_with(alloc, rows.as_slice(), found)?;
+        return Ok(more);
+    }
+    let more = store.extend(alloc, &pattern, rows.as_slice())?;
+    Ok(more)
+}
+
+/// Patterns in the order in which they are taken under some of the rows, and under what these give.
 pub(crate) fn in_order(
     alloc: Global,
     store: &Store,
@@ -41,83 +152,39 @@ pub(crate) fn in_order(
 {
     let mut left = patterns;
     let mut ordered = Vec::new(alloc);
-    while !left.is_empty() {
-        let pattern = left.remove(next_for(alloc, store, left.as_slice(), rows));
-        ordered.push(pattern)?;
+    let mut seen = some_of(alloc, rows)?;
+    while left.len() > 1 {
+        let place = next(store, left.as_slice(), seen.as_slice()).place();
+        seen = seen_with(alloc, store, &left[place], seen)?;
+        ordered.push(left.remove(place))?;
     }
+    ordered.append(&mut left)?;
     Ok(ordered)
 }
 
-fn with_pattern(
+// Some of the rows that a pattern gives of rows, or these, where it gives none.
+fn seen_with(
     alloc: Global,
     store: &Store,
-    pattern: Pattern,
-    rows: &[Solution],
-) -> Result<Vec<Solution>, Memory>
-    ensures { IfOk result (λ more. more.items ≡ extended store.now pattern rows.now) }
-{
-    store.extend(alloc, &pattern, rows)
-}
-
-// Where the pattern stands that is taken next, from rows.
-fn next_for(alloc: Global, store: &Store, left: &[Pattern], rows: &[Solution]) -> usize
-    requires { 0 < length left.now }
-    ensures { result < length left.now }
-{
-    match rows.first() {
-        Some(row) => next(store, left, row),
-        None => next(store, left, &Solution::empty(alloc)),
-    }
-}
-
-// The same under a row.
-fn next(store: &Store, left: &[Pattern], row: &Solution) -> usize
-    requires { 0 < length left.now }
-    ensures { result < length left.now }
-{
-    let mut at = left.len() - 1;
-    let mut best = at;
-    while at > 0 {
-        at -= 1;
-        best = better(store, left, row, best, at);
-    }
-    best
-}
-
-fn better(store: &Store, left: &[Pattern], row: &Solution, best: usize, at: usize) -> usize
-    requires best { best < length left.now }
-    requires at { at < length left.now }
-    ensures { result < length left.now }
-{
-    if is_sooner(store, &left[best], &left[at], row) {
-        best
+    pattern: &Pattern,
+    rows: Vec<Solution>,
+) -> Result<Vec<Solution>, Memory> {
+    let more = store.extend(alloc, pattern, rows.as_slice())?;
+    if more.is_empty() {
+        Ok(rows)
     } else {
-        at
+        some_of(alloc, more.as_slice())
     }
 }
 
-fn is_sooner(store: &Store, one: &Pattern, earlier: &Pattern, row: &Solution) -> bool {
-    let (here, there) = (is_apart(one, row), is_apart(earlier, row));
-    if here == there {
-        store.count(one, row) < store.count(earlier, row)
-    } else {
-        there
+// The first of the rows, the last and one between.
+fn some_of(alloc: Global, rows: &[Solution]) -> Result<Vec<Solution>, Memory> {
+    let mut some = Vec::new(alloc);
+    let count = rows.len();
+    for place in [0, count / 2, count.saturating_sub(1)] {
+        if let Some(row) = rows.get(place) {
+            some.push(row.copy(alloc)?)?;
+        }
     }
-}
-
-// Whether a pattern has a variable, and none that the row binds.
-fn is_apart(pattern: &Pattern, row: &Solution) -> bool {
-    let parts = [&pattern.subject, &pattern.predicate, &pattern.object];
-    parts.iter().any(|part| is_variable(part)) && !parts.iter().any(|part| is_bound(part, row))
-}
-
-fn is_variable(part: &PatternTerm) -> bool {
-    matches!(part, PatternTerm::Variable(_))
-}
-
-fn is_bound(part: &PatternTerm, row: &Solution) -> bool {
-    match part {
-        PatternTerm::Variable(name) => row.get(name).is_some(),
-        PatternTerm::Constant(_) => false,
-    }
+    Ok(some)
 }

@@ -1,0 +1,222 @@
+//! Which triple pattern is looked up next: estimates, on which no row hangs.
+ghost use Rattle.std.specs.Prelude.{◌≡◌, ◌<◌, IfSome, length};
+ghost use Rattle.fx_member.specs.Runs as spec;
+
+use fx_algebra::Solution;
+use fx_store::Store;
+use fx_terms::{Pattern, PatternTerm};
+use std::alloc::Global;
+
+/// How many rows are looked up in the time in which one triple of a pattern is found and joined, as it was measured.
+pub(crate) const ROWS_FOR_A_TRIPLE: u64 = 4;
+
+// How many times fewer triples a pattern has to have by itself than another gives rows beside those that are there, to start a part of its own.
+const TIMES_FEWER: u64 = 8;
+
+/// The place of the pattern that is taken next.
+#[derive(Clone, Copy)]
+pub(crate) enum Choice {
+    /// It is looked up under the rows.
+    Beside(usize),
+    /// It starts a part of its own.
+    Apart(usize),
+}
+
+impl Choice {
+    /// The place.
+    pub(crate) fn place(self) -> usize
+        ensures { result ≡ spec.place_of self }
+    {
+        match self {
+            Choice::Beside(place) => place,
+            Choice::Apart(place) => place,
+        }
+    }
+}
+
+// A pattern by its place, and how many rows it is likely to give.
+#[derive(Clone, Copy)]
+struct Outlook {
+    place: usize,
+    rows: u64,
+}
+
+/// Which of the patterns that are left is taken next, beside rows.
+///
+/// Of those that have a variable that the first row binds it is the one that is likely to give the fewest rows, by the triples that it has under some of
+/// the rows. A pattern that has none starts a part of its own where there is more than one row, and no other pattern gives nearly as few.
+pub(crate) fn next(store: &Store, left: &[Pattern], rows: &[Solution]) -> Choice
+    requires { 0 < length left.now }
+    ensures { spec.place_of result < length left.now }
+{
+    match fewest(store, left, rows, false) {
+        None => first_apart(store, left, rows),
+        Some(beside) => beside_or_apart(store, left, rows, beside),
+    }
+}
+
+// The same where no pattern has a variable of the rows.
+fn first_apart(store: &Store, left: &[Pattern], rows: &[Solution]) -> Choice
+    requires { 0 < length left.now }
+    ensures { spec.place_of result < length left.now }
+{
+    match fewest(store, left, rows, true) {
+        None => Choice::Beside(0),
+        Some(apart) => {
+            if rows.len() > 1 {
+                Choice::Apart(apart.place)
+            } else {
+                Choice::Beside(apart.place)
+            }
+        }
+    }
+}
+
+// The same where one has, and gives the fewest rows of those that have.
+fn beside_or_apart(store: &Store, left: &[Pattern], rows: &[Solution], beside: Outlook) -> Choice
+    requires { beside.place < length left.now }
+    ensures { spec.place_of result < length left.now }
+{
+    if beside.rows < TIMES_FEWER {
+        return Choice::Beside(beside.place);
+    }
+    match fewest(store, left, rows, true) {
+        None => Choice::Beside(beside.place),
+        Some(apart) => {
+            if apart.rows < beside.rows / TIMES_FEWER {
+                Choice::Apart(apart.place)
+            } else {
+                Choice::Beside(beside.place)
+            }
+        }
+    }
+}
+
+/// The place of the pattern that a part grows by that is to be joined with rows: it has a variable of the part, and gives the fewest rows. Nothing where part and rows
+/// share a variable, or where no pattern gives fewer rows than the two multiplied.
+pub(crate) fn growth(
+    store: &Store,
+    left: &[Pattern],
+    part: &[Solution],
+    rows: &[Solution],
+) -> Option<usize>
+    ensures { IfSome result (λ place. place < length left.now) }
+{
+    if is_shared(part, rows) {
+        return None;
+    }
+    match fewest(store, left, part, false) {
+        None => None,
+        Some(more) => {
+            if more.rows < (part.len() as u64).saturating_mul(rows.len() as u64) {
+                Some(more.place)
+            } else {
+                None
+            }
+        }
+    }
+}
+
+// Whether the first rows of both share a variable, or there is none.
+fn is_shared(part: &[Solution], rows: &[Solution]) -> bool {
+    match (part.first(), rows.first()) {
+        (Some(one), Some(other)) => one.pairs().iter().any(|pair| other.get(&pair.0).is_some()),
+        _ => true,
+    }
+}
+
+// Of the patterns that have a variable and none that the first row binds, or of the others, the one that gives the fewest rows.
+fn fewest(store: &Store, left: &[Pattern], rows: &[Solution], apart: bool) -> Option<Outlook>
+    ensures { IfSome result (λ outlook. outlook.place < length left.now) }
+{
+    let mut best: Option<Outlook> = None;
+    for place in 0..left.len() {
+        if is_apart(&left[place], rows) == apart {
+            let outlook = Outlook {
+                place,
+                rows: rows_with(store, &left[place], rows),
+            };
+            best = Some(fewer(best, outlook));
+        }
+    }
+    best
+}
+
+// The one with fewer rows, or the first.
+fn fewer(best: Option<Outlook>, other: Outlook) -> Outlook
+    ensures { spec.IsOneOf best other result }
+{
+    match best {
+        None => other,
+        Some(outlook) => {
+            if other.rows < outlook.rows {
+                other
+            } else {
+                outlook
+            }
+        }
+    }
+}
+
+// How many rows a pattern is likely to give of rows, by its triples under the first, the last and one between.
+fn rows_with(store: &Store, pattern: &Pattern, rows: &[Solution]) -> u64 {
+    match rows {
+        [] => 0,
+        [row] => store.count(pattern, row),
+        [first, .., last] => {
+            let found = store
+                .count(pattern, first)
+                .saturating_add(store.count(pattern, &rows[rows.len() / 2]))
+                .saturating_add(store.count(pattern, last));
+            found.saturating_mul(rows.len() as u64) / 3
+        }
+    }
+}
+
+// Whether a pattern has a variable, and none that the first row binds.
+fn is_apart(pattern: &Pattern, rows: &[Solution]) -> bool {
+    match rows.first() {
+        None => false,
+        Some(row) => {
+            let parts = [&pattern.subject, &pattern.predicate, &pattern.object];
+            parts.iter().any(|part| is_variable(part))
+                && !parts.iter().any(|part| is_bound(part, row))
+        }
+    }
+}
+
+fn is_variable(part: &PatternTerm) -> bool {
+    matches!(part, PatternTerm::Variable(_))
+}
+
+fn is_bound(part: &PatternTerm, row: &Solution) -> bool {
+    match part {
+        PatternTerm::Variable(name) => row.get(name).is_some(),
+        PatternTerm::Constant(_) => false,
+    }
+}
+
+/// Whether a pattern has so few triples for so many rows that these are found at once, and joined by a variable that each row binds.
+pub(crate) fn is_scanned(
+    alloc: Global,
+    store: &Store,
+    pattern: &Pattern,
+    rows: &[Solution],
+) -> bool {
+    let count = rows.len() as u64;
+    if count <= ROWS_FOR_A_TRIPLE {
+        return false;
+    }
+    let triples = store.count(pattern, &Solution::empty(alloc));
+    triples.saturating_mul(ROWS_FOR_A_TRIPLE) < count && has_shared(pattern, rows)
+}
+
+// Whether a pattern has a variable that each row binds.
+fn has_shared(pattern: &Pattern, rows: &[Solution]) -> bool {
+    let parts = [&pattern.subject, &pattern.predicate, &pattern.object];
+    parts.iter().any(|part| is_bound_in(part, rows))
+}
+
+fn is_bound_in(part: &PatternTerm, rows: &[Solution]) -> bool {
+    rows.iter().all(|row| is_bound(part, row))
+}
