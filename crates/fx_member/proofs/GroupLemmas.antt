@@ -70,10 +70,10 @@ after_pattern graph number p (apply o ∷ steps) rows up = ap (λ v. after graph
 
 -- ---- one element more
 
-plus_none : (n : ℕ) → n + 0 ≡ n
+pub plus_none : (n : ℕ) → n + 0 ≡ n
 plus_none n = omega arith
 
-part_step : (graph : List Triple) (number : ℕ) (part : Part) (steps : List Step) (rows : List Bindings) → AllRise rows → after graph number rows (with_part part steps) ≡ after graph (number + part_services part) (after_part graph number rows part) steps
+pub part_step : (graph : List Triple) (number : ℕ) (part : Part) (steps : List Step) (rows : List Bindings) → AllRise rows → after graph number rows (with_part part steps) ≡ after graph (number + part_services part) (after_part graph number rows part) steps
 part_step graph number (pattern p) steps rows up = after_pattern graph number p steps rows up ∙ ap (λ n. after graph n (extended graph p rows) steps) (sym (plus_none number))
 part_step graph number (condition e) steps rows up = ap (λ n. after graph n rows steps) (sym (plus_none number))
 part_step graph number (operator o) steps rows up = refl
@@ -81,7 +81,7 @@ part_step graph number (operator o) steps rows up = refl
 abbrev pub services_of : (List ℕ → List Triple) → List ℕ → List Element → ℕ
 services_of graphs down elements = parts_services (map (part_of graphs down) elements)
 
-services_append : (graphs : List ℕ → List Triple) (down : List ℕ) (xs ys : List Element) → services_of graphs down (xs ++ ys) ≡ services_of graphs down xs + services_of graphs down ys
+pub services_append : (graphs : List ℕ → List Triple) (down : List ℕ) (xs ys : List Element) → services_of graphs down (xs ++ ys) ≡ services_of graphs down xs + services_of graphs down ys
 services_append graphs down [] ys = omega arith
 services_append graphs down (x ∷ xs) ys =
     let rest : services_of graphs down (xs ++ ys) ≡ services_of graphs down xs + services_of graphs down ys = services_append graphs down xs ys in
@@ -129,7 +129,7 @@ pub all_rise : (rows : List Bindings) → AllByRecursion (λ s. IsTrue (rises s)
 all_rise [] h = tt
 all_rise (s ∷ rows) h = (to_T (rises s) h.0, all_rise rows h.1)
 
-taken : {X : Type 0} (xs : List X) (i : ℕ) (x : X) → i < length xs → x ≡ get_or xs i x → take i xs ++ x ∷ [] ≡ take (i + 1) xs
+pub taken : {X : Type 0} (xs : List X) (i : ℕ) (x : X) → i < length xs → x ≡ get_or xs i x → take i xs ++ x ∷ [] ≡ take (i + 1) xs
 taken xs i x b e = ap (λ v. take i xs ++ v ∷ []) e ∙ sym (take_more xs i x b)
 
 pub so_far_at : (all : List Element) (i : ℕ) (e : Element) (graph : List Triple) (before rows : List Bindings) → i < length all → e ≡ get_or all i e
@@ -143,7 +143,7 @@ pub so_far_next : (all : List Element) (i : ℕ) (e : Element) (graph : List Tri
     → IsSoFar all (take i all) (drop i all) graph before → All (λ s. IsTrue (rises s)) before → AreAfter e graph before rows → IsSoFar all (take (i + 1) all) (drop (i + 1) all) graph rows
 so_far_next all i e graph before rows b is so up = so_far_at all i e graph before rows b is so (all_rise before (recursion_from_All (λ s. IsTrue (rises s)) before up))
 
-meaning_is : (graphs : List ℕ → List Triple) (down : List ℕ) (g : Group) → meaning graphs down g ≡ group_meaning (record { elements = map (part_of graphs down) g.elements })
+pub meaning_is : (graphs : List ℕ → List Triple) (down : List ℕ) (g : Group) → meaning graphs down g ≡ group_meaning (record { elements = map (part_of graphs down) g.elements })
 meaning_is graphs down g = fold_out-Group Part Meaning (element_meaning graphs down) group_meaning g
 
 pub so_far_all : (g : Group) (done : List Element) (graph : List Triple) (rows : List Bindings) → IsSoFar g.elements done [] graph rows → AreUnfiltered g graph rows
@@ -190,7 +190,7 @@ module _ (graphs : List ℕ → List Triple) (down : List ℕ) where
 
 module _ (graph : List Triple) (before rows : List Bindings) where
   -- where a part is known, the rows after it are
-  by_part : (e : Element) (known : (List ℕ → List Triple) → List ℕ → Part) → ((graphs : List ℕ → List Triple) (down : List ℕ) → part_of graphs down e ≡ known graphs down)
+  pub by_part : (e : Element) (known : (List ℕ → List Triple) → List ℕ → Part) → ((graphs : List ℕ → List Triple) (down : List ℕ) → part_of graphs down e ≡ known graphs down)
       → ((graphs : List ℕ → List Triple) (down : List ℕ) (number : ℕ) → AreDown down number (part_services (known graphs down)) → IsPermutation (after_part graph number before (known graphs down)) rows) → AreAfter e graph before rows
   by_part e known same f = record {
     same = λ graphs down number h.

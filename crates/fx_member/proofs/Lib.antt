@@ -1,5 +1,6 @@
 pub mod GroupLemmas
 pub mod OptionalLemmas
+pub mod ConditionLemmas
 pub mod RunLemmas
 pub mod WalkLemmas
 pub mod CountLemmas

@@ -16,6 +16,11 @@ use Rattle.fx_algebra.proofs.BgpLemmas.{rows_from-bgp}
 use Rattle.fx_algebra.proofs.JoinLemmas.{join_extends, join_run, same_join}
 use Rattle.fx_algebra.proofs.RunLemmas.{all_T, bgp_moves, runs_move}
 use Rattle.fx_algebra.proofs.JoinOrderLemmas.{rise_join, run_past}
+use Rattle.fx_algebra.specs.declared.expressions.Expr.{Expr}
+use Rattle.fx_algebra.proofs.OperatorLemmas.{filtered_by_none}
+use Rattle.fx_steps.specs.Fewer.{AreFewer}
+use Rattle.fx_steps.specs.Groups.{IsPushed, IsRunOut}
+use Rattle.fx_steps.proofs.FewerLemmas.{fewer_laws}
 use Rattle.fx_member.specs.Runs.{IsOneMore, IsPart}
 
 -- rows that rise do so in another order, and with a pattern more
@@ -109,6 +114,23 @@ part_joined graph rows found more all rest sorted up part moved =
     IsPermutation-trans (rows_from graph rows all) (rows_from graph rows (taken ++ rest)) (rows_from graph more rest) (runs_move graph rows all (taken ++ rest) sorted up part.split)
     (subst (λ (v : List Bindings). IsPermutation v (rows_from graph more rest)) (ap (λ (v : List Bindings). rows_from graph v rest) both ∙ sym (rows_from_append graph rows taken rest))
     (rows_from_moves graph (join rows own) more rest up_own (rise_moved (join rows own) more up_own joined) joined))
+
+-- ---- rows that are gone before a run are gone behind it
+
+pub run_of_fewer : (conditions : List Expr) (graph : List Triple) (found rows : List Bindings) (ps : List Pattern) → All (λ s. IsTrue (rises s)) found → All (λ s. IsTrue (rises s)) rows → AreFewer conditions found rows
+    → AreFewer conditions (rows_from graph found ps) (rows_from graph rows ps)
+run_of_fewer conditions graph found rows ps up also fewer =
+    let next = join found (bgp graph ps) in
+    let out : IsRunOut conditions graph found ps next = record {
+      filters = [];
+      pushed = All-from_recursion (IsPushed conditions ps) [] tt;
+      rows_are = subst (λ (v : List Bindings). IsPermutation next v) (sym (filtered_by_none next)) (IsPermutation-refl next);
+    } in
+    subst (λ (v : List Bindings). AreFewer conditions v (rows_from graph rows ps)) (join_run graph ps found (all_T found (recursion_from_All (λ s. IsTrue (rises s)) found up)))
+    (subst (λ (v : List Bindings). AreFewer conditions next v) (join_run graph ps rows (all_T rows (recursion_from_All (λ s. IsTrue (rises s)) rows also))) (fewer_laws.run conditions graph ps found rows next fewer out))
+
+pub same_again : (conditions : List Expr) (found rows : List Bindings) → IsPermutation rows found → AreFewer conditions found rows
+same_again conditions found rows moved = fewer_laws.none conditions found rows (IsPermutation-sym rows found moved)
 
 -- a table that rows are joined with goes before a run that is held back
 pub table_first : (graph : List Triple) (rows table next : List Bindings) (ps : List Pattern) → All (λ s. IsTrue (rises s)) rows → IsPermutation (join rows table) next

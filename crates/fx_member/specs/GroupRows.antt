@@ -4,6 +4,7 @@ use Rattle.std.specs.Prelude.{◌≡◌, ℕ, ◌+◌, ◌<◌, ◌≤◌, true,
 use Rattle.fx_terms.specs.declared.patterns.Pattern.{Pattern}
 use Rattle.fx_terms.specs.declared.triples.Triple.{Triple}
 use Rattle.fx_algebra.specs.Answers.{answer}
+use Rattle.fx_algebra.specs.Conditions.{holds}
 use Rattle.fx_algebra.specs.Evaluation.{extended}
 use Rattle.fx_algebra.specs.Groups.{Part, pattern, condition, operator, Meaning, meaning, element_meaning, group_meaning, conditions_of, part_services, groups_services, group_rows, alternatives, is_down}
 use Rattle.fx_algebra.specs.Occurrences.{services}
@@ -15,6 +16,7 @@ use Rattle.fx_algebra.specs.declared.queries.Element.TheVariants.{Triple as Trip
 use Rattle.fx_algebra.specs.declared.queries.Form.TheVariants.{Ask}
 use Rattle.fx_algebra.specs.declared.queries.Group.{Group}
 use Rattle.fx_algebra.specs.declared.queries.Query.{Query}
+use Rattle.fx_steps.specs.Fewer.{AreFewer}
 
 -- as many occurrences of SERVICE, from a number on, are down
 pub record AreDown (down : List ℕ) (number count : ℕ) : Type 0 where
@@ -37,6 +39,14 @@ pub record AreRowsOf (group : Group) (graph : List Triple) (rows : List Bindings
 -- they are those before the group's filters
 pub record AreUnfiltered (group : Group) (graph : List Triple) (rows : List Bindings) : Type 0 where
   pub same : (graphs : List ℕ → List Triple) (down : List ℕ) (number : ℕ) → AreDown down number (meaning graphs down group).services → IsPermutation ((meaning graphs down group).rows graph number) rows
+
+-- they are those before the group's filters, without some that these conditions refuse
+pub record AreNearly (group : Group) (graph : List Triple) (conditions : List Expr) (rows : List Bindings) : Type 0 where
+  pub same : (graphs : List ℕ → List Triple) (down : List ℕ) (number : ℕ) → AreDown down number (meaning graphs down group).services → AreFewer conditions rows ((meaning graphs down group).rows graph number)
+
+-- the conditions hold where a group's own filters do
+pub record AreConditions (group : Group) (conditions : List Expr) : Type 0 where
+  pub same : (graphs : List ℕ → List Triple) (down : List ℕ) (s : Bindings) → holds conditions s ≡ holds (meaning graphs down group).filters s
 
 -- the expressions are a group's own filters
 pub record AreFilters (group : Group) (filters : List Expr) : Type 0 where

@@ -1,4 +1,5 @@
 pub mod GroupRows
+pub mod Conditions
 pub mod Runs
 pub mod Optionals
 pub mod FirstHere

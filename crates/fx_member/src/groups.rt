@@ -23,16 +23,21 @@ use std::alloc::Global;
 pub fn group_rows(alloc: Global, store: &Store, group: &Group) -> Result<Vec<Solution>, Memory>
     ensures { IfOk result (λ rows. spec.AreRowsOf group.now store.now rows.items) }
 {
-    let found = unfiltered(alloc, store, group)?;
-    let filters = filters_of(alloc, group)?;
-    let rows = filter(alloc, found, filters.as_slice())?;
+    let conditions = conditions_of(alloc, group)?;
+    let found = nearly(alloc, store, group, conditions.as_slice())?;
+    let rows = filter(alloc, found, conditions.as_slice())?;
     Ok(rows)
 }
 
-// The rows of a group without its filters.
+// The rows of a group before its filters, without some that its conditions refuse.
 #[cycle(rows)]
-fn unfiltered(alloc: Global, store: &Store, group: &Group) -> Result<Vec<Solution>, Memory>
-    ensures { IfOk result (λ rows. spec.AreUnfiltered group.now store.now rows.items) }
+fn nearly(
+    alloc: Global,
+    store: &Store,
+    group: &Group,
+    conditions: &[Expr],
+) -> Result<Vec<Solution>, Memory>
+    ensures { IfOk result (λ rows. spec.AreNearly group.now store.now conditions.now rows.items) }
 {
     let mut rows = Vec::new(alloc);
     rows.push(Solution::empty(alloc))?;
@@ -48,14 +53,14 @@ fn unfiltered(alloc: Global, store: &Store, group: &Group) -> Result<Vec<Solutio
                 rows = join_with(alloc, rows.as_slice(), found)?;
             }
             _ => {
-                let found = with_run(alloc, store, run, rows)?;
+                let found = with_run(alloc, store, run, rows, conditions, false)?;
                 known_to_rise(found.as_slice());
                 rows = after_element(alloc, store, element, found)?;
                 run = Vec::new(alloc);
             }
         }
     }
-    let found = with_run(alloc, store, run, rows)?;
+    let found = with_run(alloc, store, run, rows, conditions, true)?;
     Ok(found)
 }
 
@@ -126,16 +131,22 @@ fn after_optional(
 ) -> Result<Vec<Solution>, Memory>
     ensures { IfOk result (λ rows. spec.AreAfter (element.Optional group.now) store.now before.items rows.items) }
 {
-    let filters = filters_of(alloc, group)?;
+    let conditions = conditions_of(alloc, group)?;
     if let Some(patterns) = run_under(alloc, store, group, before.len())? {
         known_to_rise(before.as_slice());
         store.known();
         let ordered = in_order(alloc, store, patterns, before.as_slice())?;
-        let rows = with_matches(alloc, store, before, ordered.as_slice(), filters.as_slice())?;
+        let rows = with_matches(
+            alloc,
+            store,
+            before,
+            ordered.as_slice(),
+            conditions.as_slice(),
+        )?;
         return Ok(rows);
     }
-    let found = unfiltered(alloc, store, group)?;
-    let rows = left_join_with(alloc, before, found, filters.as_slice())?;
+    let found = nearly(alloc, store, group, conditions.as_slice())?;
+    let rows = left_join_with(alloc, before, found, conditions.as_slice())?;
     Ok(rows)
 }
 
@@ -150,6 +161,14 @@ fn alternatives(alloc: Global, store: &Store, groups: &[Group]) -> Result<Vec<So
         rows.append(&mut found)?;
     }
     Ok(rows)
+}
+
+// What holds where a group's own filters do.
+fn conditions_of(alloc: Global, group: &Group) -> Result<Vec<Expr>, Memory>
+    ensures { IfOk result (λ conditions. spec.AreConditions group.now conditions.items) }
+{
+    let filters = filters_of(alloc, group)?;
+    Ok(filters)
 }
 
 // A group's own filters.

@@ -2,6 +2,7 @@
 #![tactic(auto)]
 
 pub mod answering;
+mod conditions;
 mod estimates;
 pub mod fault_wires;
 pub mod graph_wires;

@@ -2,9 +2,11 @@
 ghost use Rattle.std.specs.Prelude.{◌≡◌, ◌<◌, ◌∷◌, [], IfOk, IsPermutation, length};
 ghost use Rattle.fx_algebra.specs.Evaluation.{extended, rows_from};
 ghost use Rattle.fx_member.specs.Runs as spec;
+ghost use Rattle.fx_steps.specs.Fewer.{AreFewer};
 
+use crate::conditions::early;
 use crate::estimates::{Choice, growth, is_scanned, next};
-use fx_algebra::Solution;
+use fx_algebra::{Expr, Solution};
 use fx_solutions::join_with;
 use fx_solutions::known_rows::known_to_rise;
 use fx_store::Store;
@@ -18,26 +20,64 @@ pub(crate) struct Run {
     pub left: Vec<Pattern>,
 }
 
-/// The rows that patterns give from rows, in an order that `next` chooses pattern by pattern.
+/// The rows that patterns give from rows, without some that bind all variables of a condition that doesn't hold on them, in an order that `next` chooses
+/// pattern by pattern.
 ///
 /// A pattern that shares no variable with the rows can start a part of its own, to which others are added until it shares one; then the two are
-/// joined. So rows are multiplied only where nothing connects them.
+/// joined. So rows are multiplied only where nothing connects them. A condition is applied as soon as the first row binds its variables, but not behind the last pattern
+/// of a group, since there all are.
 pub(crate) fn with_run(
     alloc: Global,
     store: &Store,
     patterns: Vec<Pattern>,
     before: Vec<Solution>,
+    conditions: &[Expr],
+    is_last: bool,
 ) -> Result<Vec<Solution>, Memory>
-    ensures { IfOk result (λ rows. IsPermutation (rows_from store.now before.items patterns.items) rows.items) }
+    ensures { IfOk result (λ rows. AreFewer conditions.now rows.items (rows_from store.now before.items patterns.items)) }
 {
     let mut run = Run {
         rows: before,
         left: patterns,
     };
     while !run.left.is_empty() {
-        run = with_next(alloc, store, run)?;
+        run = with_next_of(alloc, store, run, conditions, is_last)?;
     }
     Ok(run.rows)
+}
+
+// A run with one pattern more, or with a part more, and the conditions whose variables this binds.
+fn with_next_of(
+    alloc: Global,
+    store: &Store,
+    run: Run,
+    conditions: &[Expr],
+    is_last: bool,
+) -> Result<Run, Memory>
+    requires { 0 < length run.left.items }
+    ensures rows { IfOk result (λ more. AreFewer conditions.now (rows_from store.now more.rows.items more.left.items) (rows_from store.now run.rows.items run.left.items)) }
+    ensures fewer { IfOk result (λ more. length more.left.items < length run.left.items) }
+{
+    let first = first_of(alloc, run.rows.as_slice())?;
+    let more = with_next(alloc, store, run)?;
+    if conditions.is_empty() || (is_last && more.left.is_empty()) {
+        return Ok(more);
+    }
+    known_to_rise(more.rows.as_slice());
+    let rows = early(alloc, more.rows, conditions, &first)?;
+    known_to_rise(rows.as_slice());
+    Ok(Run {
+        rows,
+        left: more.left,
+    })
+}
+
+// The first row, or one that binds nothing where there is none.
+fn first_of(alloc: Global, rows: &[Solution]) -> Result<Solution, Memory> {
+    match rows.first() {
+        Some(row) => row.copy(alloc),
+        None => Ok(Solution::empty(alloc)),
+    }
 }
 
 // A run with one pattern more, or with a part more.

@@ -6,10 +6,10 @@ use Rattle.fx_algebra.specs.declared.queries.Element.{Element}
 use Rattle.fx_algebra.specs.declared.queries.Group.{Group}
 use Rattle.fx_member.specs.GroupRows.{AreAfter, AreAlternatives}
 use Rattle.std.specs.Prelude.{IfOk}
-use Rattle.fx_member.proofs.GroupLemmas.{after_optional, after_union, after_minus, after_service, rows_filtered, alternatives_next}
-use Rattle.fx_member.proofs.WalkLemmas.{after_run_moved, held_end, held_filter, held_other, held_triple, held_union, held_values}
+use Rattle.fx_member.proofs.GroupLemmas.{after_union, after_minus, after_service, alternatives_next}
+use Rattle.fx_member.proofs.WalkLemmas.{after_run_moved, nearly_filtered, nearly_optional, held_end, held_filter, held_other, held_triple, held_union, held_values}
 use Rattle.fx_member.proofs.groups.+rows.Goals as goal
-use Rattle.fx_member.proofs.groups.+rows.Goals.{unfiltered-in-Triple+in_ok-copy-in-Triple+in_ok-push-in-Triple, unfiltered-in-Filter, unfiltered-in-Values+in_ok-rows-in-Values, unfiltered-in-Union+in_ok-found-in-Union+in_ok-rows-in-Union, unfiltered-in_default+in_ok-found-in_default+in_ok-rows-in_default}
+use Rattle.fx_member.proofs.groups.+rows.Goals.{nearly-in-Triple+in_ok-copy-in-Triple+in_ok-push-in-Triple, nearly-in-Filter, nearly-in-Values+in_ok-rows-in-Values, nearly-in-Union+in_ok-found-in-Union+in_ok-rows-in-Union, nearly-in_default+in_ok-found-in_default+in_ok-rows-in_default}
 
 pub after_element-returns-in-Optional : goal.after_element-returns-in-Optional
 after_element-returns-in-Optional t c =
@@ -18,18 +18,18 @@ after_element-returns-in-Optional t c =
 pub after_optional-returns-in-Some : goal.after_optional-returns-in-Some
 after_optional-returns-in-Some t c =
     let before = c.args.before.items in
-    after_run_moved c.args.group.now c.args.store.now before c.in_ok-rows.rows.items c.in-Some.patterns.items c.in_ok-ordered.ordered.items c.in_ok-filters.filters.items c.known.ensures.rises
-    (rw c.in-Some.is at c.in_ok-patterns.ensures) c.in_ok-ordered.ensures c.in_ok-filters.ensures
+    after_run_moved c.args.group.now c.args.store.now before c.in_ok-rows.rows.items c.in-Some.patterns.items c.in_ok-ordered.ordered.items c.in_ok-conditions.conditions.items c.known.ensures.rises
+    (rw c.in-Some.is at c.in_ok-patterns.ensures) c.in_ok-ordered.ensures c.in_ok-conditions.ensures
     (rw c.as_slice.ensures.value at c.known_to_rise.ensures) (rw (c.as_slice-in-Some-2.ensures.value, c.as_slice-in-Some-3.ensures.value) at c.in_ok-rows.ensures)
 
 pub after_optional-returns : goal.after_optional-returns
 after_optional-returns t c =
     let before = c.args.before.items in
     let found = c.in_ok-found.found.items in
-    let filters = c.in_ok-filters.filters.items in
+    let conditions = c.in_ok-conditions.conditions.items in
     let rows = c.in_ok-rows-2.rows.items in
-    let joined : IsPermutation (left_join before found filters) rows = subst (λ (es : List Expr). IsPermutation (left_join before found es) rows) c.as_slice-2.ensures.value c.in_ok-rows-2.ensures in
-    after_optional c.args.store.now before rows c.args.group.now found filters c.in_ok-found.ensures c.in_ok-filters.ensures joined
+    let joined : IsPermutation (left_join before found conditions) rows = subst (λ (es : List Expr). IsPermutation (left_join before found es) rows) c.as_slice-3.ensures.value c.in_ok-rows-2.ensures in
+    nearly_optional c.args.store.now before rows c.args.group.now found conditions (rw c.as_slice-2.ensures.value at c.in_ok-found.ensures) c.in_ok-conditions.ensures joined
 
 pub after_element-returns-in_ok-rows-in-Union : goal.after_element-returns-in_ok-rows-in-Union
 after_element-returns-in_ok-rows-in-Union t c =
@@ -61,16 +61,16 @@ alternatives-loop-group-preserved t c =
 pub group_rows-returns : goal.group_rows-returns
 group_rows-returns t c =
     let found = c.in_ok-found.found.items in
-    rows_filtered c.args.group.now c.args.store.now found c.in_ok-rows.rows.items c.in_ok-filters.filters.items c.in_ok-found.ensures c.in_ok-filters.ensures
-    (c.in_ok-rows.ensures ∙ ap (λ (es : List Expr). filtered es found) c.as_slice.ensures.value)
+    nearly_filtered c.args.group.now c.args.store.now found c.in_ok-rows.rows.items c.in_ok-conditions.conditions.items (rw c.as_slice.ensures.value at c.in_ok-found.ensures) c.in_ok-conditions.ensures
+    (c.in_ok-rows.ensures ∙ ap (λ (es : List Expr). filtered es found) c.as_slice-2.ensures.value)
 
-pub unfiltered-returns : goal.unfiltered-returns
-unfiltered-returns t c =
-    held_end c.args.group.now c.as_slice-element-items.result.now c.loop-element.element-index c.args.store.now c.loop-element.rows.items c.in_ok-found.found.items c.loop-element.run.items c.as_slice-element-items.ensures
+pub nearly-returns : goal.nearly-returns
+nearly-returns t c =
+    held_end c.args.conditions.now c.args.group.now c.as_slice-element-items.result.now c.loop-element.element-index c.args.store.now c.loop-element.rows.items c.in_ok-found.found.items c.loop-element.run.items c.as_slice-element-items.ensures
     c.loop-element-test.false c.loop-element.invariant c.in_ok-found.ensures
 
-pub unfiltered-loop-element-preserved : goal.unfiltered-loop-element-preserved
-unfiltered-loop-element-preserved t c =
+pub nearly-loop-element-preserved : goal.nearly-loop-element-preserved
+nearly-loop-element-preserved t c =
     let all = c.as_slice-element-items.result.now in
     let i = c.loop-element.element-index in
     let e = c.element-item.result in
@@ -82,12 +82,12 @@ unfiltered-loop-element-preserved t c =
     let so = c.loop-element.invariant in
     let up = rw c.as_slice.ensures.value at c.known_to_rise.ensures in
     elim c.match-element.branch [
-      | unfiltered-in-Triple+in_ok-copy-in-Triple+in_ok-push-in-Triple w ↦ rw (w.rows-is, w.run-is) (held_triple all i e graph rows run b is so w.in-Triple.pattern _ _ up w.in-Triple.is w.in_ok-copy-in-Triple.ensures w.in_ok-push-in-Triple.ensures.items)
-      | unfiltered-in-Filter w ↦ rw (w.rows-is, w.run-is) (held_filter all i e graph rows run b is so w.in-Filter.field-0 up w.in-Filter.is)
-      | unfiltered-in-Values+in_ok-rows-in-Values w ↦ rw (w.rows-is, w.run-is) (held_values all i e graph rows run b is so w.in-Values.inline _ up w.in-Values.is w.in_ok-rows-in-Values.ensures)
-      | unfiltered-in-Union+in_ok-found-in-Union+in_ok-rows-in-Union w ↦ rw (w.rows-is, w.run-is) (held_union all i e graph rows run b is so w.in-Union.groups w.in_ok-found-in-Union.found.items _ up w.in-Union.is
+      | nearly-in-Triple+in_ok-copy-in-Triple+in_ok-push-in-Triple w ↦ rw (w.rows-is, w.run-is) (held_triple c.args.conditions.now all i e graph rows run b is so w.in-Triple.pattern _ _ up w.in-Triple.is w.in_ok-copy-in-Triple.ensures w.in_ok-push-in-Triple.ensures.items)
+      | nearly-in-Filter w ↦ rw (w.rows-is, w.run-is) (held_filter c.args.conditions.now all i e graph rows run b is so w.in-Filter.field-0 up w.in-Filter.is)
+      | nearly-in-Values+in_ok-rows-in-Values w ↦ rw (w.rows-is, w.run-is) (held_values c.args.conditions.now all i e graph rows run b is so w.in-Values.inline _ up w.in-Values.is w.in_ok-rows-in-Values.ensures)
+      | nearly-in-Union+in_ok-found-in-Union+in_ok-rows-in-Union w ↦ rw (w.rows-is, w.run-is) (held_union c.args.conditions.now all i e graph rows run b is so w.in-Union.groups w.in_ok-found-in-Union.found.items _ up w.in-Union.is
           (rw w.as_slice-in-Union.ensures at w.in_ok-found-in-Union.ensures) (rw w.as_slice-in-Union-2.ensures.value at w.in_ok-rows-in-Union.ensures))
-      | unfiltered-in_default+in_ok-found-in_default+in_ok-rows-in_default w ↦
-          rw (w.rows-is, w.run-is) (held_other all i e graph rows run b is so w.in_ok-found-in_default.found.items _ _ w.in_ok-found-in_default.ensures (rw w.as_slice-in_default.ensures.value at w.known_to_rise-in_default.ensures)
+      | nearly-in_default+in_ok-found-in_default+in_ok-rows-in_default w ↦
+          rw (w.rows-is, w.run-is) (held_other c.args.conditions.now all i e graph rows run b is so w.in_ok-found-in_default.found.items _ _ w.in_ok-found-in_default.ensures (rw w.as_slice-in_default.ensures.value at w.known_to_rise-in_default.ensures)
           w.in_ok-rows-in_default.ensures w.new-run-in_default.ensures.items)
     ]

@@ -3,8 +3,8 @@ use Rattle.fx_member.specs.GroupRows.{AreAlternatives}
 use Rattle.fx_member.proofs.WalkLemmas.{IsHeld}
 use Rattle.fx_member.proofs.groups.+rows.Given as goal
 
-abbrev pub invariant-unfiltered-loop-element : goal.invariant-unfiltered-loop-element
-invariant-unfiltered-loop-element l = IsHeld l.element-items l.element-index l.store l.rows.items l.run.items
+abbrev pub invariant-nearly-loop-element : goal.invariant-nearly-loop-element
+invariant-nearly-loop-element l = IsHeld l.conditions l.element-items l.element-index l.store l.rows.items l.run.items
 
 abbrev pub invariant-alternatives-loop-group : goal.invariant-alternatives-loop-group
 invariant-alternatives-loop-group l = AreAlternatives (take l.group-index l.groups) l.store l.rows.items
