@@ -1,6 +1,6 @@
 -- Filters before the end of their group: whether a row binds their variables, and which rows may go.
-use Rattle.std.proofs.Common.{◌≡◌, ◌∙◌, ap, sym, subst, refl, inl, inr, ℕ, ◌<◌, Bool, true, false, not, ◌&&◌, ◌||◌, cond, List, [], ◌∷◌, ◌++◌, map, filter, length, get_or, is_some, IsTrue, IsPermutation}
-use Rattle.std.specs.Prelude.{All, Contains}
+use Rattle.std.proofs.Common.{◌≡◌, ◌∙◌, ap, sym, subst, refl, inl, inr, ℕ, ◌<◌, Bool, true, false, not, ◌&&◌, ◌||◌, List, [], ◌∷◌, ◌++◌, map, filter, length, get_or, is_some, IsTrue, IsPermutation}
+use Rattle.std.specs.Prelude.{Contains}
 use Rattle.std.specs.List.{AllByRecursion, list_all, flat_map}
 use Rattle.std.proofs.lemmas.List.Folds.{list_all-append}
 use Rattle.std.proofs.lemmas.List.Elements.{All-from_recursion}
@@ -98,7 +98,7 @@ kept_are_fewer conditions e rows kept own is =
       are_gone = All-from_recursion (IsGone conditions) others (all_among (IsGone conditions) others (λ s m. gone_of conditions e s own (in_filter (λ s. not (stays e s)) s rows m).1));
     }
 
-contained_at : (es : List Expr) (e : Expr) (i : ℕ) → i < length es → e ≡ get_or es i e → Contains es e
+pub contained_at : (es : List Expr) (e : Expr) (i : ℕ) → i < length es → e ≡ get_or es i e → Contains es e
 contained_at es e i b is = (i, b, sym is)
 
 pub kept_at : (conditions : List Expr) (e : Expr) (i : ℕ) (rows kept : List Bindings) → i < length conditions → e ≡ get_or conditions i e → kept ≡ filter (stays e) rows → AreFewer conditions kept rows

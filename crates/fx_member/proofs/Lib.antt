@@ -2,6 +2,7 @@ pub mod GroupLemmas
 pub mod OptionalLemmas
 pub mod ConditionLemmas
 pub mod RunLemmas
+pub mod KnownLemmas
 pub mod WalkLemmas
 pub mod CountLemmas
 pub mod PlaceLemmas

@@ -1,5 +1,6 @@
 pub mod GroupRows
 pub mod Conditions
+pub mod Known
 pub mod Runs
 pub mod Optionals
 pub mod FirstHere

@@ -7,6 +7,7 @@ mod estimates;
 pub mod fault_wires;
 pub mod graph_wires;
 pub mod groups;
+mod known;
 mod optionals;
 mod places;
 mod runs;

@@ -6,6 +6,7 @@ ghost use Rattle.fx_steps.specs.Fewer.{AreFewer};
 
 use crate::conditions::early;
 use crate::estimates::{Choice, growth, is_scanned, next};
+use crate::known::with_known;
 use fx_algebra::{Expr, Solution};
 use fx_solutions::join_with;
 use fx_solutions::known_rows::known_to_rise;
@@ -36,8 +37,9 @@ pub(crate) fn with_run(
 ) -> Result<Vec<Solution>, Memory>
     ensures { IfOk result (λ rows. AreFewer conditions.now rows.items (rows_from store.now before.items patterns.items)) }
 {
+    let rows = with_known(alloc, before, patterns.as_slice(), conditions)?;
     let mut run = Run {
-        rows: before,
+        rows,
         left: patterns,
     };
     while !run.left.is_empty() {

@@ -1,4 +1,3 @@
-use Rattle.std.proofs.Common.{get_or}
 use Rattle.fx_member.proofs.ConditionLemmas.{kept_at}
 use Rattle.fx_member.proofs.conditions.without_refused.Goals as goal
 

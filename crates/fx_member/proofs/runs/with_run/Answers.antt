@@ -1,10 +1,12 @@
+use Rattle.std.proofs.Common.{List, subst}
+use Rattle.fx_terms.specs.declared.patterns.Pattern.{Pattern}
+use Rattle.fx_steps.specs.Fewer.{AreFewer}
 use Rattle.fx_algebra.specs.Evaluation.{rows_from}
 use Rattle.fx_steps.proofs.FewerLemmas.{fewer_laws}
-use Rattle.fx_member.proofs.ConditionLemmas.{all_of_them}
 use Rattle.fx_member.proofs.runs.with_run.Goals as goal
 
 pub loop-alloc-init : goal.loop-alloc-init
-loop-alloc-init c = all_of_them c.args.conditions.now (rows_from c.args.store.now c.args.before.items c.args.patterns.items)
+loop-alloc-init c = subst (λ (ps : List Pattern). AreFewer c.args.conditions.now (rows_from c.args.store.now c.in_ok-rows.rows.items ps) (rows_from c.args.store.now c.args.before.items ps)) c.as_slice.ensures.value (c.in_ok-rows.ensures.same c.args.store.now)
 
 pub loop-alloc-preserved : goal.loop-alloc-preserved
 loop-alloc-preserved c =
