@@ -1,6 +1,7 @@
 pub mod GroupLemmas
 pub mod OptionalLemmas
 pub mod ConditionLemmas
+pub mod ConjunctLemmas
 pub mod RunLemmas
 pub mod KnownLemmas
 pub mod WalkLemmas

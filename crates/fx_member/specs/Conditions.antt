@@ -1,7 +1,7 @@
 -- Which rows a condition leaves before the end of its group: those on which it holds, and those that don't bind all its variables.
-use Rattle.std.specs.Prelude.{ℕ, Bool, not, ◌||◌, List, is_some}
+use Rattle.std.specs.Prelude.{◌≡◌, ℕ, Bool, not, ◌&&◌, ◌||◌, List, is_some}
 use Rattle.std.specs.List.{list_all}
-use Rattle.fx_algebra.specs.Conditions.{is_so}
+use Rattle.fx_algebra.specs.Conditions.{holds, is_so}
 use Rattle.fx_algebra.specs.Solutions.{Bindings, term_of}
 use Rattle.fx_algebra.specs.Units.{expr_names}
 use Rattle.fx_algebra.specs.declared.expressions.Expr.{Expr}
@@ -23,3 +23,11 @@ binds_signed s parts = list_all (λ (part : Sign × Expr). binds s part.1) parts
 -- it lacks one of them, or the condition holds
 abbrev pub stays : Expr → Bindings → Bool
 stays e s = not (binds s e) || is_so s e
+
+-- the parts hold where the filters do
+pub record AreAsStrict (parts filters : List Expr) : Type 0 where
+  pub same : (s : Bindings) → holds parts s ≡ holds filters s
+
+-- they hold where those before and the filters do
+pub record AreStricter (parts before filters : List Expr) : Type 0 where
+  pub same : (s : Bindings) → holds parts s ≡ (holds before s && holds filters s)

@@ -1,5 +1,5 @@
 //! Filters that are applied before the end of their group, to rows that bind all their variables.
-ghost use Rattle.std.specs.Prelude.{◌≡◌, ◌<◌, IfOk, filter, length};
+ghost use Rattle.std.specs.Prelude.{◌≡◌, ◌<◌, [], ◌∷◌, ◌++◌, IfOk, OnOk, filter, length};
 ghost use Rattle.fx_algebra.specs.Conditions.{is_so as is_so_on};
 ghost use Rattle.fx_member.specs.Conditions as spec;
 ghost use Rattle.fx_steps.specs.Fewer.{AreFewer};
@@ -8,6 +8,41 @@ use fx_algebra::{Expr, Sign, Solution};
 use fx_expr::{truth, value};
 use fx_terms::Memory;
 use std::alloc::Global;
+
+/// Conditions that hold together where the filters do: of a conjunction its parts, and any other as it is.
+pub(crate) fn conjuncts(alloc: Global, filters: &[Expr]) -> Result<Vec<Expr>, Memory>
+    ensures { IfOk result (λ parts. spec.AreAsStrict parts.items filters.now) }
+{
+    let mut parts = Vec::new(alloc);
+    for filter in filters {
+        add_conjuncts(alloc, &mut parts, filter)?;
+    }
+    Ok(parts)
+}
+
+fn add_conjuncts(alloc: Global, parts: &mut Vec<Expr>, filter: &Expr) -> Result<(), Memory>
+    ensures { OnOk result (spec.AreStricter parts.new.items parts.old.items (filter.now ∷ [])) }
+{
+    match filter {
+        Expr::And(conjuncts) => {
+            add_all(alloc, parts, conjuncts.as_slice())?;
+            Ok(())
+        }
+        _ => {
+            parts.push(filter.copy(alloc)?)?;
+            Ok(())
+        }
+    }
+}
+
+fn add_all(alloc: Global, parts: &mut Vec<Expr>, more: &[Expr]) -> Result<(), Memory>
+    ensures { OnOk result (parts.new.items ≡ parts.old.items ++ more.now) }
+{
+    for part in more {
+        parts.push(part.copy(alloc)?)?;
+    }
+    Ok(())
+}
 
 /// Rows without those that bind all variables of a condition that doesn't hold on them, for each condition of which the first row
 /// binds all variables, and a row before it didn't.

@@ -4,6 +4,7 @@ ghost use Rattle.fx_algebra.specs.Operators.{inline_rows as inline_rows_of, join
 ghost use Rattle.fx_algebra.specs.declared.queries.Element.TheVariants as element;
 ghost use Rattle.fx_member.specs.GroupRows as spec;
 
+use crate::conditions::conjuncts;
 use crate::optionals::{run_under, with_matches};
 use crate::runs::{in_order, with_run};
 use fx_algebra::{Element, Expr, Group, Inline, Solution};
@@ -163,12 +164,13 @@ fn alternatives(alloc: Global, store: &Store, groups: &[Group]) -> Result<Vec<So
     Ok(rows)
 }
 
-// What holds where a group's own filters do.
+// What holds where a group's own filters do, conjunct by conjunct.
 fn conditions_of(alloc: Global, group: &Group) -> Result<Vec<Expr>, Memory>
     ensures { IfOk result (λ conditions. spec.AreConditions group.now conditions.items) }
 {
     let filters = filters_of(alloc, group)?;
-    Ok(filters)
+    let conditions = conjuncts(alloc, filters.as_slice())?;
+    Ok(conditions)
 }
 
 // A group's own filters.
