@@ -17,9 +17,11 @@ use std::alloc::Global;
 /// The rows of a group over a store's graph, in some order, where every occurrence of SERVICE in the group is down: none is asked, and
 /// each leaves the rows before it as they are.
 ///
-/// The group is gone through from left to right. A run of triple patterns is joined pattern by pattern, so the rows before it
-/// are known to the look-ups, as are those before an OPTIONAL whose group holds triple patterns and filters alone, unless they are many and the triples of these
-/// patterns few. A nested group, a UNION, any other OPTIONAL and a MINUS begin with the one empty solution. The filters of the group are applied at its end.
+/// The group is gone through from left to right. The triple patterns of a run are held back, and a VALUES or a UNION that stands among or behind them is joined with the
+/// rows before them; they are looked up where an element comes that isn't one of these, nor a filter, and at the end, in an order that gives few rows. So the rows before
+/// a run are known to its look-ups, as are those before an OPTIONAL whose group holds triple patterns and filters alone, unless they are many and the triples of these
+/// patterns few. A nested group, a UNION, any other OPTIONAL and a MINUS begin with the one empty solution. The filters of the group are applied at its end; a row that binds
+/// all variables of one, or of a part of a conjunction, that doesn't hold on it goes before.
 #[cycle(rows)]
 pub fn group_rows(alloc: Global, store: &Store, group: &Group) -> Result<Vec<Solution>, Memory>
     ensures { IfOk result (λ rows. spec.AreRowsOf group.now store.now rows.items) }
