@@ -163,7 +163,7 @@ def took_last():
         with open(TOOK, encoding="utf-8") as handle:
             return f"it took {int(handle.read())} minutes here last"
     except (OSError, ValueError):
-        return "it takes some 25 minutes the first time on four processors, and longer on fewer"
+        return "it takes 20 to 50 minutes the first time on four processors, and longer on fewer"
 
 
 def begin(shop, order, done, running):
