@@ -30,11 +30,11 @@ use Rattle.fx_flows.proofs.FlowLemmas.{behind, has_wider, in_front, no_rows}
 
 -- ---- rows
 
-stepped_all : (graph : List Triple) (us vs : List unit.Unit) (rows : List Row) → stepped graph (us ++ vs) rows ≡ stepped graph vs (stepped graph us rows)
+pub stepped_all : (graph : List Triple) (us vs : List unit.Unit) (rows : List Row) → stepped graph (us ++ vs) rows ≡ stepped graph vs (stepped graph us rows)
 stepped_all graph [] vs rows = refl
 stepped_all graph (u ∷ us) vs rows = stepped_all graph us vs (step graph u rows)
 
-stepped_moves : (graph : List Triple) (us : List unit.Unit) (rows others : List Row) → IsPermutation rows others → IsPermutation (stepped graph us rows) (stepped graph us others)
+pub stepped_moves : (graph : List Triple) (us : List unit.Unit) (rows others : List Row) → IsPermutation rows others → IsPermutation (stepped graph us rows) (stepped graph us others)
 stepped_moves graph [] rows others h = h
 stepped_moves graph (u ∷ us) rows others h = stepped_moves graph us (step graph u rows) (step graph u others) (batch_laws.any_order graph u rows others h)
 
@@ -65,11 +65,11 @@ sent_in_turn es graph block most (u ∷ us) vs rows wanted more some h k =
 
 -- ---- of some of the units, and of all
 
-of_more : (es : List EndpointParts) (block : ℕ) (us vs : List unit.Unit) → ((u : unit.Unit) → Contains us u → Contains vs u) → (wanted : List Sent) → All (IsBatchText es block (Contains us)) wanted → All (IsBatchText es block (Contains vs)) wanted
+pub of_more : (es : List EndpointParts) (block : ℕ) (us vs : List unit.Unit) → ((u : unit.Unit) → Contains us u → Contains vs u) → (wanted : List Sent) → All (IsBatchText es block (Contains us)) wanted → All (IsBatchText es block (Contains vs)) wanted
 of_more es block us vs wider wanted h =
     All-weaker (IsBatchText es block (Contains us)) (IsBatchText es block (Contains vs)) (λ x b. record { unit = b.unit; of_these = wider b.unit b.of_these; batch = b.batch; sized = b.sized; sent = b.sent }) wanted h
 
-read_of_more : (us vs : List unit.Unit) → ((u : unit.Unit) → Contains us u → Contains vs u) → (xs : List Exchange) → All (IsBatchRead (Contains us)) xs → All (IsBatchRead (Contains vs)) xs
+pub read_of_more : (us vs : List unit.Unit) → ((u : unit.Unit) → Contains us u → Contains vs u) → (xs : List Exchange) → All (IsBatchRead (Contains us)) xs → All (IsBatchRead (Contains vs)) xs
 read_of_more us vs wider xs h = All-weaker (IsBatchRead (Contains us)) (IsBatchRead (Contains vs)) (λ x b. record { unit = b.unit; of_these = wider b.unit b.of_these; batch = b.batch; read = b.read }) xs h
 
 module _ (s t : List Seen) (es : List EndpointParts) (us vs : List unit.Unit) (block : ℕ) (wanted : List Sent) (xs : List Exchange) (wider : (u : unit.Unit) → Contains us u → Contains vs u) where
@@ -88,7 +88,7 @@ module _ (s t : List Seen) (es : List EndpointParts) (us vs : List unit.Unit) (b
     cause = k.cause;
   }
 
-  cause_of_more : (why : FlowError) → HasFlowCause s t es us block wanted xs why → HasFlowCause s t es vs block wanted xs why
+  pub cause_of_more : (why : FlowError) → HasFlowCause s t es us block wanted xs why → HasFlowCause s t es vs block wanted xs why
   cause_of_more (flow.Member at) k = its_cause (flow.Member at) k
   cause_of_more (flow.BadReply at bad) k = its_cause (flow.BadReply at bad) k
   cause_of_more (flow.RequestTooLong at size) k = its_cause (flow.RequestTooLong at size) k

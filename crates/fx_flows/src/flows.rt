@@ -83,8 +83,9 @@ pub fn run_flow<R: Threads + Wait + Sync, W: Wire + Send>(
     run_rows(rt, alloc, endpoints, units, first, block as u64, wires)
 }
 
-// The rows behind units which these rows enter, unit by unit: the rows of a step are cut together, and each step is asked for in the way that waits least.
-fn run_rows<R: Threads + Wait + Sync, W: Wire + Send>(
+/// The rows behind units which these rows enter, unit by unit, with all that `run_flow` says of a run from its begin: the rows of a step are cut together, and each step is asked for in the way
+/// that waits least. Without units they are these rows.
+pub fn run_rows<R: Threads + Wait + Sync, W: Wire + Send>(
     rt: &R,
     alloc: Global,
     endpoints: &[Endpoint],

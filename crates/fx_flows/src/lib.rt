@@ -12,7 +12,7 @@ pub mod parcels;
 pub mod steps;
 mod teams;
 
-pub use flows::{FlowError, run_flow};
+pub use flows::{FlowError, run_flow, run_rows};
 use fx_terms::shareable;
 use parcels::{Parcel, RunShape};
 
