@@ -1,6 +1,5 @@
 -- Several runs, asked for over wires some of them and then the others.
-use Rattle.std.proofs.Common.{◌≡◌, ◌∙◌, ap, sym, subst, refl, ℕ, ◌+◌, ◌<◌, List, [], ◌∷◌, ◌++◌, Bool, map, Result, Ok, Err, Some, arith, drop, get_or, length, take, take-append-drop}
-use Rattle.std.proofs.lemmas.List.{take_more}
+use Rattle.std.proofs.Common.{◌≡◌, refl, ℕ, ◌<◌, List, [], ◌∷◌, ◌++◌, Bool, Result, Err, arith}
 use Rattle.fx_terms.specs.declared.triples.Triple.{Triple}
 use Rattle.fx_outside.specs.Endpoints.{EndpointParts}
 use Rattle.fx_algebra.specs.Groups.{one_empty}
@@ -10,14 +9,13 @@ use Rattle.fx_steps.specs.Steps.{numbered}
 use Rattle.fx_traffic.specs.Gains.{Tell, faults_at}
 use Rattle.fx_traffic.proofs.GainLemmas.{gain_laws}
 use Rattle.fx_wire.specs.Exchanges.{Seen}
-use Rattle.fx_pool.proofs.WiresLemmas.{AllTell, all_tell, still_tell}
-use Rattle.fx_flows.specs.RunFlows.{RunFlowed}
+use Rattle.fx_pool.proofs.WiresLemmas.{AllTell, still_tell}
 use Rattle.fx_flows.specs.declared.flows.FlowError.{FlowError}
 use Rattle.fx_flows.specs.declared.flows.FlowError.TheVariants as flow
 use Rattle.fx_side_by_side.specs.SideBySide.{AreShared, RunsFlowed, Share}
 use Rattle.fx_side_by_side.specs.Steps.{FallsIntoShares, nothing_shared}
-use Rattle.fx_side_by_side.proofs.GainedLemmas.{exchanged, falls_in_turn, falls_to_one, nothing_falls}
-use Rattle.fx_side_by_side.proofs.ShareLemmas.{share_of, shared_alone, shared_wider, unasked}
+use Rattle.fx_side_by_side.proofs.GainedLemmas.{exchanged, falls_in_turn, nothing_falls}
+use Rattle.fx_side_by_side.proofs.ShareLemmas.{shared_wider, unasked}
 
 abbrev pub Results : Type 0
 Results = List (Result (List Row) FlowError)
@@ -77,22 +75,17 @@ runs_in_turn tells alone s t v es block runs others rs qs s_tells t_tells h k =
     runs h.shares rs
     (all_wider s t s v (λ address rose. omega (arith, rose, gain_laws.never_fall t v address k.after_all)) (λ address g tell. tell) es block runs h.shares rs h.each))
 
-pub one_run : (tells alone : Bool) (s t : List Seen) (es : List EndpointParts) (block : ℕ) (us : List unit.Unit) (r : Result (List Row) FlowError) → RunFlowed tells alone s t es us block (numbered 0 one_empty) r → RunsFlowed tells alone s t es (us ∷ []) block (r ∷ [])
-one_run tells alone s t es block us r h =
-    runs_from tells alone s t es block (us ∷ []) (share_of tells alone s t es us block (numbered 0 one_empty) r h ∷ []) (r ∷ [])
-    (falls_to_one tells alone s t es us block (numbered 0 one_empty) r h) (shared_alone tells alone s t es us block (numbered 0 one_empty) r h, tt)
-
 -- ---- runs that weren't come to
 
 abbrev pub unasked_all : List (List unit.Unit) → Results
 unasked_all [] = []
 unasked_all (us ∷ runs) = Err flow.Memory ∷ unasked_all runs
 
-abbrev nothings : List (List unit.Unit) → List Share
+abbrev pub nothings : List (List unit.Unit) → List Share
 nothings [] = []
 nothings (us ∷ runs) = nothing_shared ∷ nothings runs
 
-none_exchanged : (runs : List (List unit.Unit)) → exchanged (nothings runs) ≡ []
+pub none_exchanged : (runs : List (List unit.Unit)) → exchanged (nothings runs) ≡ []
 none_exchanged [] = refl
 none_exchanged (us ∷ runs) = none_exchanged runs
 
@@ -102,21 +95,3 @@ each_unasked s t es block (us ∷ runs) = (unasked s t es us block (numbered 0 o
 
 pub runs_unasked : (tells alone : Bool) (wires : List Seen) (es : List EndpointParts) (block : ℕ) (runs : List (List unit.Unit)) → RunsFlowed tells alone wires wires es runs block (unasked_all runs)
 runs_unasked tells alone wires es block runs = runs_from tells alone wires wires es block runs (nothings runs) (unasked_all runs) (nothing_falls tells alone wires (nothings runs) (none_exchanged runs)) (each_unasked wires wires es block runs)
-
--- ---- of those that were gone through, and of all
-
-module _ {W : Type 0} (see : W → Seen) (tells alone : Bool) (told : (w : W) → (see w).tells_log ≡ tells) (es : List EndpointParts) (block : ℕ) (s t v : List W) (runs : List (List unit.Unit)) (n : ℕ) (us : List unit.Unit) (among : n < length runs) (is : us ≡ get_or runs n us) (rs : Results) (r : Result (List Row) FlowError) (h : RunsFlowed tells alone (map see s) (map see t) es (take n runs) block rs) (k : RunFlowed tells alone (map see t) (map see v) es us block (numbered 0 one_empty) r) where
-  more : take (n + 1) runs ≡ take n runs ++ us ∷ []
-  more = take_more runs n us among ∙ ap (λ (x : List unit.Unit). take n runs ++ x ∷ []) (sym is)
-
-  -- one more
-  pub gone_on : RunsFlowed tells alone (map see s) (map see v) es (take (n + 1) runs) block (rs ++ r ∷ [])
-  gone_on =
-      subst (λ (l : List (List unit.Unit)). RunsFlowed tells alone (map see s) (map see v) es l block (rs ++ r ∷ [])) (sym more)
-      (runs_in_turn tells alone (map see s) (map see t) (map see v) es block (take n runs) (us ∷ []) rs (r ∷ []) (all_tell see tells told s) (all_tell see tells told t) h (one_run tells alone (map see t) (map see v) es block us r k))
-
-  -- no more, for want of memory
-  pub stopped : RunsFlowed tells alone (map see s) (map see v) es runs block ((rs ++ r ∷ []) ++ unasked_all (drop (n + 1) runs))
-  stopped =
-      subst (λ (l : List (List unit.Unit)). RunsFlowed tells alone (map see s) (map see v) es l block ((rs ++ r ∷ []) ++ unasked_all (drop (n + 1) runs))) (take-append-drop (n + 1) runs)
-      (runs_in_turn tells alone (map see s) (map see v) (map see v) es block (take (n + 1) runs) (drop (n + 1) runs) (rs ++ r ∷ []) (unasked_all (drop (n + 1) runs)) (all_tell see tells told s) (all_tell see tells told v) gone_on (runs_unasked tells alone (map see v) es block (drop (n + 1) runs)))

@@ -1,5 +1,5 @@
 -- The share of one of several runs in what was asked for.
-use Rattle.std.proofs.Common.{◌≡◌, refl, ℕ, ◌<◌, List, [], ◌∷◌, Bool, IfErr, IfOk, Result, Ok, Err, All, Contains, Some, IsPermutation}
+use Rattle.std.proofs.Common.{refl, ℕ, ◌<◌, List, [], ◌∷◌, Bool, IfErr, IfOk, Result, Ok, Err, All, Contains, IsPermutation}
 use Rattle.std.proofs.lemmas.List.Elements.{All-nil}
 use Rattle.std.proofs.lemmas.List.Sorted.{IsPermutation-refl}
 use Rattle.fx_terms.specs.declared.triples.Triple.{Triple}
@@ -11,9 +11,8 @@ use Rattle.fx_spelling.specs.Units.{IsSound}
 use Rattle.fx_steps.specs.Steps.{stepped}
 use Rattle.fx_traffic.specs.Batches.{IsBatchText}
 use Rattle.fx_traffic.specs.Gains.{Tell, TellAll, faults_at}
-use Rattle.fx_traffic.specs.Sent.{Sent}
 use Rattle.fx_traffic.proofs.CutLemmas.{batch_laws}
-use Rattle.fx_wire.specs.Exchanges.{Exchange, Seen}
+use Rattle.fx_wire.specs.Exchanges.{Seen}
 use Rattle.fx_flows.specs.Flows.{IsBatchRead, IsShort}
 use Rattle.fx_flows.specs.RunFlows.{HasFlowCause, RunFlowed}
 use Rattle.fx_flows.specs.declared.flows.FlowError.{FlowError}
@@ -53,6 +52,20 @@ unasked s t es us block rows = record {
   faultless = tt;
   of_run = λ graphs told sound. batch_laws.nothing es (union graphs) block 1 us rows;
   done = tt;
+  cause = tt;
+}
+
+-- no units make of rows these rows
+pub shared_of_none : (s t : List Seen) (es : List EndpointParts) (block : ℕ) (rows : List Row) → RunShared s t es [] block rows nothing_shared (Ok rows)
+shared_of_none s t es block rows = record {
+  unfailed = refl;
+  sent = IsPermutation-refl [];
+  of_batches = All-nil (IsBatchText es block (Contains []));
+  whole = refl;
+  short = All-nil IsShort;
+  faultless = All-nil (IsBatchRead (Contains []));
+  of_run = λ graphs told sound. refl;
+  done = λ graphs told sound. IsPermutation-refl rows;
   cause = tt;
 }
 

@@ -1,5 +1,7 @@
 -- The next step of several runs: of some of them and then of the others, or of both beside each other.
-use Rattle.std.proofs.Common.{◌≡◌, ◌∙◌, ap, sym, subst, refl, ℕ, ◌+◌, ◌<◌, ◌≤◌, List, [], ◌∷◌, ◌++◌, Bool, All, map, Result, Ok, Err, Some, arith, append-nil, sum_by, IsPermutation}
+use Rattle.std.proofs.Common.{◌≡◌, ◌∙◌, ap, sym, subst, refl, ℕ, ◌+◌, ◌<◌, ◌≤◌, List, [], ◌∷◌, ◌++◌, Bool, map, Result, Ok, Err, Some, arith, IsPermutation}
+use Rattle.std.specs.declared.alloc.Global.{Global}
+use Rattle.std.specs.declared.vec.Vec.{Vec}
 use Rattle.std.proofs.lemmas.Grind.{flat_map-append}
 use Rattle.std.proofs.lemmas.List.{map-append}
 use Rattle.std.proofs.lemmas.List.Elements.{All-append, All-weaker}
@@ -15,6 +17,7 @@ use Rattle.fx_wire.specs.Exchanges.{Exchange, Seen}
 use Rattle.fx_pool.specs.Runs.{IsHonestOver}
 use Rattle.fx_pool.proofs.BesideLemmas.{after_beside, back_all, front_all}
 use Rattle.fx_pool.proofs.WiresLemmas.{AllTell, all_tell, still_tell}
+use Rattle.fx_flows.specs.Flows.{rows_in}
 use Rattle.fx_flows.specs.RunFlows.{RunFlowed}
 use Rattle.fx_flows.specs.declared.flows.FlowError.{FlowError}
 use Rattle.fx_side_by_side.specs.SideBySide.{Share}
@@ -137,3 +140,32 @@ step_of_refused tells alone wires es step block us why = record {
   exchanged = nothing_falls tells alone wires (nothing_shared ∷ []) refl;
   each = ((refl, refl), tt);
 }
+
+-- ---- two halves of the runs, as they lie in memory
+
+abbrev Found : Type 0
+Found = Result (Vec Row Global) FlowError
+
+module _ {W : Type 0} (see : W → Seen) (tells alone : Bool) (es : List EndpointParts) (step block : ℕ) (runs first others : List (List unit.Unit)) (found xs ys later more : List Found) (cut : runs ≡ first ++ others) (parts : found ≡ xs ++ ys) where
+  as_whole : (s t : List Seen) → StepsFlowed tells alone s t es step block (first ++ others) (map rows_in xs ++ map rows_in ys) (map rows_in later ++ map rows_in more)
+      → StepsFlowed tells alone s t es step block runs (map rows_in found) (map rows_in (later ++ more))
+  as_whole s t h =
+      subst (λ (l : Results). StepsFlowed tells alone s t es step block runs (map rows_in found) l) (sym (map-append rows_in later more))
+      (subst (λ (l : Results). StepsFlowed tells alone s t es step block runs l (map rows_in later ++ map rows_in more)) (sym (ap (map rows_in) parts ∙ map-append rows_in xs ys))
+      (subst (λ (l : List (List unit.Unit)). StepsFlowed tells alone s t es step block l (map rows_in xs ++ map rows_in ys) (map rows_in later ++ map rows_in more)) (sym cut) h))
+
+  pub halves_in_turn : ((w : W) → (see w).tells_log ≡ tells) → (s t v : List W)
+      → StepsFlowed tells alone (map see s) (map see t) es step block first (map rows_in xs) (map rows_in later) → StepsFlowed tells alone (map see t) (map see v) es step block others (map rows_in ys) (map rows_in more)
+      → StepsFlowed tells alone (map see s) (map see v) es step block runs (map rows_in found) (map rows_in (later ++ more))
+  halves_in_turn told s t v h k =
+      as_whole (map see s) (map see v)
+      (steps_in_turn tells alone (map see s) (map see t) (map see v) es step block first others (map rows_in xs) (map rows_in later) (map rows_in ys) (map rows_in more) (all_tell see tells told s) (all_tell see tells told t) h k)
+
+  pub halves_beside : (wires ws us vs ts : List W) → wires ≡ ws ++ vs
+      → StepsFlowed tells alone (map see ws) (map see us) es step block first (map rows_in xs) (map rows_in later) → StepsFlowed tells alone (map see vs) (map see ts) es step block others (map rows_in ys) (map rows_in more)
+      → StepsFlowed tells alone (map see wires) (map see (us ++ ts)) es step block runs (map rows_in found) (map rows_in (later ++ more))
+  halves_beside wires ws us vs ts whole h k =
+      subst (λ (l : List Seen). StepsFlowed tells alone l (map see (us ++ ts)) es step block runs (map rows_in found) (map rows_in (later ++ more))) (sym (ap (map see) whole ∙ map-append see ws vs))
+      (subst (λ (l : List Seen). StepsFlowed tells alone (map see ws ++ map see vs) l es step block runs (map rows_in found) (map rows_in (later ++ more))) (sym (map-append see us ts))
+      (as_whole (map see ws ++ map see vs) (map see us ++ map see ts)
+      (steps_beside tells alone (map see ws) (map see us) (map see vs) (map see ts) es step block first others (map rows_in xs) (map rows_in later) (map rows_in ys) (map rows_in more) h k)))

@@ -1,8 +1,12 @@
 -- Several runs, asked for step by step.
-use Rattle.std.proofs.Common.{◌≡◌, ◌∙◌, ap, sym, subst, refl, ℕ, ◌+◌, ◌<◌, ◌≤◌, List, [], ◌∷◌, ◌++◌, Bool, All, Contains, IfErr, IfOk, map, take, Result, Ok, Err, Some, arith, append-nil, append_assoc, sum_by, IsPermutation}
+use Rattle.std.proofs.Common.{◌≡◌, ◌∙◌, ap, sym, subst, refl, ℕ, ◌+◌, ◌≤◌, List, [], ◌∷◌, ◌++◌, Bool, All, Contains, IfErr, IfOk, length, map, take, Result, Ok, Err, arith, append-nil, append_assoc, IsPermutation}
+use Rattle.std.specs.List.{AllByRecursion}
+use Rattle.std.specs.declared.alloc.Global.{Global}
+use Rattle.std.specs.declared.vec.Vec.{Vec}
 use Rattle.std.proofs.Math.Seq.{take-add}
 use Rattle.std.proofs.lemmas.Grind.{flat_map-append}
-use Rattle.std.proofs.lemmas.List.Elements.{All-append}
+use Rattle.std.proofs.lemmas.List.{length-map, take_all}
+use Rattle.std.proofs.lemmas.List.Elements.{All-append, All-weaker, recursion_from_All}
 use Rattle.std.proofs.lemmas.List.Sorted.{IsPermutation-append_right, IsPermutation-refl, IsPermutation-trans}
 use Rattle.std.proofs.lemmas.List.Sums.{sum_by-append, sum_by-cons}
 use Rattle.fx_terms.specs.declared.triples.Triple.{Triple}
@@ -14,23 +18,24 @@ use Rattle.fx_algebra.specs.declared.units.Unit as unit
 use Rattle.fx_spelling.specs.Units.{IsSound}
 use Rattle.fx_steps.specs.Steps.{numbered, stepped}
 use Rattle.fx_traffic.specs.Batches.{IsBatchText, IsRunSent}
-use Rattle.fx_traffic.specs.Gains.{TellAll, faults_at}
+use Rattle.fx_traffic.specs.Gains.{TellAll}
 use Rattle.fx_traffic.specs.Sent.{Sent}
 use Rattle.fx_traffic.proofs.CutLemmas.{batch_laws}
 use Rattle.fx_traffic.proofs.GainLemmas.{gain_laws}
 use Rattle.fx_traffic.proofs.SentLemmas.{middle_changes, sent_laws}
-use Rattle.fx_wire.specs.Exchanges.{Exchange, Seen}
-use Rattle.fx_pool.proofs.WiresLemmas.{AllTell, still_tell}
-use Rattle.fx_flows.specs.Flows.{IsBatchRead, IsShort}
+use Rattle.fx_wire.specs.Exchanges.{Seen}
+use Rattle.fx_pool.proofs.WiresLemmas.{AllTell, all_tell, still_tell}
+use Rattle.fx_flows.specs.Flows.{IsBatchRead, IsShort, rows_in}
 use Rattle.fx_flows.specs.RunFlows.{HasFlowCause}
 use Rattle.fx_flows.specs.declared.flows.FlowError.{FlowError}
 use Rattle.fx_pool.proofs.BesideLemmas.{back_all, front_all}
 use Rattle.fx_flows.proofs.FlowLemmas.{behind, has_wider, in_front}
 use Rattle.fx_flows.proofs.TurnLemmas.{cause_of_more, of_more, read_of_more, sent_in_turn, stepped_all, stepped_moves}
 use Rattle.fx_side_by_side.specs.SideBySide.{AreShared, RunShared, RunsFlowed, Share}
-use Rattle.fx_side_by_side.specs.Steps.{AreBehind, FallsIntoShares, IsBehind, StepsFlowed, nothing_shared, unit_at}
-use Rattle.fx_side_by_side.proofs.GainedLemmas.{exchanged, failures, falls_in_turn, falls_into}
-use Rattle.fx_side_by_side.proofs.RunsLemmas.{Results, all_wider, falls_of_runs, runs_from}
+use Rattle.fx_side_by_side.specs.Steps.{AreBehind, IsBehind, StepsFlowed, begins, nothing_shared, unit_at}
+use Rattle.fx_side_by_side.proofs.GainedLemmas.{exchanged, failures, falls_in_turn, falls_into, nothing_falls}
+use Rattle.fx_side_by_side.proofs.RunsLemmas.{Results, all_wider, falls_of_runs, none_exchanged, nothings, runs_from}
+use Rattle.fx_side_by_side.proofs.ShareLemmas.{shared_of_none}
 use Rattle.fx_side_by_side.proofs.StepLemmas.{behind_wider}
 
 -- ---- one run
@@ -205,3 +210,34 @@ step_on tells alone s t v es step block runs rs qs s_tells t_tells h k =
     all = joined s v es step block runs h.shares rs k.shares qs
         (all_wider s t s v (λ address rose. omega (arith, rose, gain_laws.never_fall t v address k.exchanged.after_all)) (λ address g tell. tell) es block (up_to step runs) h.shares rs h.each)
         (behind_wider t v s v (λ address rose. omega (arith, rose, gain_laws.never_fall s t address h.after_all)) (λ address g tell. still_tell s t address g h.after_all tell) es step block runs rs k.shares qs k.each)
+
+-- ---- before the first step
+
+each_begun : (s t : List Seen) (es : List EndpointParts) (block : ℕ) (runs : List (List unit.Unit)) → AreShared s t es block (up_to 0 runs) (nothings runs) (begins runs)
+each_begun s t es block [] = tt
+each_begun s t es block (us ∷ runs) = (shared_of_none s t es block (numbered 0 one_empty), each_begun s t es block runs)
+
+pub runs_begun : (tells alone : Bool) (wires : List Seen) (es : List EndpointParts) (block : ℕ) (runs : List (List unit.Unit)) → RunsFlowed tells alone wires wires es (up_to 0 runs) block (begins runs)
+runs_begun tells alone wires es block runs =
+    runs_from tells alone wires wires es block (up_to 0 runs) (nothings runs) (begins runs) (nothing_falls tells alone wires (nothings runs) (none_exchanged runs)) (each_begun wires wires es block runs)
+
+-- ---- behind the last
+
+all_of_each : (step : ℕ) (runs : List (List unit.Unit)) → AllByRecursion (λ (us : List unit.Unit). length us ≤ step) runs → up_to step runs ≡ runs
+all_of_each step [] h = refl
+all_of_each step (us ∷ runs) h = ap (λ (l : List unit.Unit). l ∷ up_to step runs) (take_all step us h.0) ∙ ap (λ (l : List (List unit.Unit)). us ∷ l) (all_of_each step runs h.1)
+
+pub steps_done : (step longest : ℕ) (runs : List (List unit.Unit)) → longest ≤ step → All (λ (us : List unit.Unit). length us ≤ longest) runs → up_to step runs ≡ runs
+steps_done step longest runs le h =
+    all_of_each step runs
+    (recursion_from_All (λ (us : List unit.Unit). length us ≤ step) runs
+    (All-weaker (λ (us : List unit.Unit). length us ≤ longest) (λ (us : List unit.Unit). length us ≤ step) (λ us low. omega (arith, low, le)) runs h))
+
+-- ---- as runs lie in memory
+
+pub as_many_begun : (found : List (Result (Vec Row Global) FlowError)) (runs : List (List unit.Unit)) → map rows_in found ≡ begins runs → length found ≡ length runs
+as_many_begun found runs is = sym (length-map found rows_in) ∙ ap length is ∙ length-map runs (λ (us : List unit.Unit). Ok (numbered 0 one_empty))
+
+pub next_step : {W : Type 0} (see : W → Seen) (tells alone : Bool) → ((w : W) → (see w).tells_log ≡ tells) → (es : List EndpointParts) (step block : ℕ) (runs : List (List unit.Unit)) (s t v : List W) (rs qs : Results)
+    → RunsFlowed tells alone (map see s) (map see t) es (up_to step runs) block rs → StepsFlowed tells alone (map see t) (map see v) es step block runs rs qs → RunsFlowed tells alone (map see s) (map see v) es (up_to (step + 1) runs) block qs
+next_step see tells alone told es step block runs s t v rs qs h k = step_on tells alone (map see s) (map see t) (map see v) es step block runs rs qs (all_tell see tells told s) (all_tell see tells told t) h k

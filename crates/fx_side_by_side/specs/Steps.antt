@@ -1,9 +1,11 @@
 -- A step of each of several runs, asked for over wires side by side.
-use Rattle.std.specs.Prelude.{◌≡◌, ◌≤◌, ◌+◌, ℕ, Bool, List, [], ◌∷◌, All, IsPermutation, IsTrue, Result, Ok, Err, drop, sum_by, take}
+use Rattle.std.specs.Prelude.{◌≡◌, ◌≤◌, ◌+◌, ℕ, Bool, List, [], ◌∷◌, All, IsPermutation, IsTrue, Result, Ok, Err, drop, map, sum_by, take}
 use Rattle.std.specs.List.{flat_map}
 use Rattle.fx_outside.specs.Endpoints.{EndpointParts}
+use Rattle.fx_algebra.specs.Groups.{one_empty}
 use Rattle.fx_algebra.specs.declared.units.Row.{Row}
 use Rattle.fx_algebra.specs.declared.units.Unit as unit
+use Rattle.fx_steps.specs.Steps.{numbered}
 use Rattle.fx_traffic.specs.Gains.{AreAfter, HaveGained, faults_at}
 use Rattle.fx_wire.specs.Exchanges.{Exchange, Seen}
 use Rattle.fx_pool.specs.Runs.{IsHonestOver}
@@ -27,6 +29,10 @@ nothing_shared = record { exchanges = []; failed = 0; wanted = []; left = [] }
 abbrev pub IsBehind : List Seen → List Seen → List EndpointParts → ℕ → List unit.Unit → Result (List Row) FlowError → Share → Result (List Row) FlowError → Type 0
 IsBehind before after endpoints block us (Ok rows) share next = RunShared before after endpoints us block rows share next
 IsBehind before after endpoints block us (Err why) share next = (share ≡ nothing_shared) × (next ≡ Err why)
+
+-- what runs begin with: the row of the one empty solution
+abbrev pub begins : List (List unit.Unit) → List (Result (List Row) FlowError)
+begins runs = map (λ us. Ok (numbered 0 one_empty)) runs
 
 -- the unit behind so many, where there is one
 abbrev pub unit_at : ℕ → List unit.Unit → List unit.Unit

@@ -1,6 +1,8 @@
-//! Several runs asked for over wires side by side.
+//! Several runs asked for over wires side by side, step by step.
 #![tactic(auto)]
 
+mod choices;
 pub mod runs;
+mod steps;
 
 pub use runs::run_side_by_side;
