@@ -1,5 +1,5 @@
 -- Several runs, asked for over wires some of them and then the others.
-use Rattle.std.proofs.Common.{◌≡◌, refl, ℕ, ◌<◌, List, [], ◌∷◌, ◌++◌, Bool, Result, Err, arith}
+use Rattle.std.proofs.Common.{◌≡◌, refl, ℕ, ◌<◌, List, [], ◌∷◌, ◌++◌, Bool, Result, Err, arith, ◌≤◌, length}
 use Rattle.fx_terms.specs.declared.triples.Triple.{Triple}
 use Rattle.fx_outside.specs.Endpoints.{EndpointParts}
 use Rattle.fx_algebra.specs.Groups.{one_empty}
@@ -9,7 +9,7 @@ use Rattle.fx_steps.specs.Steps.{numbered}
 use Rattle.fx_traffic.specs.Gains.{Tell, faults_at}
 use Rattle.fx_traffic.proofs.GainLemmas.{gain_laws}
 use Rattle.fx_wire.specs.Exchanges.{Seen}
-use Rattle.fx_pool.proofs.WiresLemmas.{AllTell, still_tell}
+use Rattle.fx_pool.proofs.WiresLemmas.{AllTell, as_many, still_tell}
 use Rattle.fx_flows.specs.declared.flows.FlowError.{FlowError}
 use Rattle.fx_flows.specs.declared.flows.FlowError.TheVariants as flow
 use Rattle.fx_side_by_side.specs.SideBySide.{AreShared, RunsFlowed, Share}
@@ -25,6 +25,7 @@ Results = List (Result (List Row) FlowError)
 module _ (s t u v : List Seen)
     (rises : (address : List ℕ) → faults_at s address < faults_at t address → faults_at u address < faults_at v address)
     (tells : (address : List ℕ) (g : List Triple) → Tell u address g → Tell s address g)
+    (fits : length s ≤ length u)
     (es : List EndpointParts) (block : ℕ) where
   pub all_wider : (runs : List (List unit.Unit)) (shares : List Share) (results : Results) → AreShared s t es block runs shares results → AreShared u v es block runs shares results
   all_wider [] [] [] h = tt
@@ -34,7 +35,7 @@ module _ (s t u v : List Seen)
   all_wider (us ∷ runs) [] [] h = absurd h
   all_wider (us ∷ runs) [] (r ∷ rs) h = absurd h
   all_wider (us ∷ runs) (sh ∷ shares) [] h = absurd h
-  all_wider (us ∷ runs) (sh ∷ shares) (r ∷ rs) h = (shared_wider s t u v rises tells es us block (numbered 0 one_empty) sh r h.0, all_wider runs shares rs h.1)
+  all_wider (us ∷ runs) (sh ∷ shares) (r ∷ rs) h = (shared_wider s t u v rises tells fits es us block (numbered 0 one_empty) sh r h.0, all_wider runs shares rs h.1)
 
 module _ (s t : List Seen) (es : List EndpointParts) (block : ℕ) (others : List (List unit.Unit)) (more : List Share) (qs : Results) (k : AreShared s t es block others more qs) where
   pub all_behind : (runs : List (List unit.Unit)) (shares : List Share) (results : Results) → AreShared s t es block runs shares results → AreShared s t es block (runs ++ others) (shares ++ more) (results ++ qs)
@@ -71,9 +72,9 @@ runs_in_turn tells alone s t v es block runs others rs qs s_tells t_tells h k =
     runs_from tells alone s v es block (runs ++ others) (h.shares ++ k.shares) (rs ++ qs)
     (falls_in_turn tells alone s t v h.shares k.shares s_tells t_tells (falls_of_runs tells alone s t es block runs rs h) (falls_of_runs tells alone t v es block others qs k))
     (all_behind s v es block others k.shares qs
-    (all_wider t v s v (λ address rose. omega (arith, rose, gain_laws.never_fall s t address h.after_all)) (λ address g tell. still_tell s t address g h.after_all tell) es block others k.shares qs k.each)
+    (all_wider t v s v (λ address rose. omega (arith, rose, gain_laws.never_fall s t address h.after_all)) (λ address g tell. still_tell s t address g h.after_all tell) (omega (arith, as_many s t h.after_all)) es block others k.shares qs k.each)
     runs h.shares rs
-    (all_wider s t s v (λ address rose. omega (arith, rose, gain_laws.never_fall t v address k.after_all)) (λ address g tell. tell) es block runs h.shares rs h.each))
+    (all_wider s t s v (λ address rose. omega (arith, rose, gain_laws.never_fall t v address k.after_all)) (λ address g tell. tell) (omega arith) es block runs h.shares rs h.each))
 
 -- ---- runs that weren't come to
 

@@ -1,5 +1,5 @@
 -- The share of one of several runs in what was asked for.
-use Rattle.std.proofs.Common.{refl, ℕ, ◌<◌, List, [], ◌∷◌, Bool, IfErr, IfOk, Result, Ok, Err, All, Contains, IsPermutation}
+use Rattle.std.proofs.Common.{refl, ℕ, ◌<◌, List, [], ◌∷◌, Bool, IfErr, IfOk, Result, Ok, Err, All, Contains, IsPermutation, ◌≤◌, length, arith, zero-le}
 use Rattle.std.proofs.lemmas.List.Elements.{All-nil}
 use Rattle.std.proofs.lemmas.List.Sorted.{IsPermutation-refl}
 use Rattle.fx_terms.specs.declared.triples.Triple.{Triple}
@@ -29,6 +29,7 @@ share_of tells alone s t es us block rows r h = record { exchanges = h.exchanges
 pub shared_alone : (tells alone : Bool) (s t : List Seen) (es : List EndpointParts) (us : List unit.Unit) (block : ℕ) (rows : List Row) (r : Result (List Row) FlowError) (h : RunFlowed tells alone s t es us block rows r)
     → RunShared s t es us block rows (share_of tells alone s t es us block rows r h) r
 shared_alone tells alone s t es us block rows r h = record {
+  few = h.few;
   unfailed = h.unfailed;
   sent = h.sent;
   of_batches = h.of_batches;
@@ -44,6 +45,7 @@ shared_alone tells alone s t es us block rows r h = record {
 
 pub unasked : (s t : List Seen) (es : List EndpointParts) (us : List unit.Unit) (block : ℕ) (rows : List Row) → RunShared s t es us block rows nothing_shared (Err flow.Memory)
 unasked s t es us block rows = record {
+  few = zero-le;
   unfailed = tt;
   sent = IsPermutation-refl [];
   of_batches = All-nil (IsBatchText es block (Contains us));
@@ -58,6 +60,7 @@ unasked s t es us block rows = record {
 -- no units make of rows these rows
 pub shared_of_none : (s t : List Seen) (es : List EndpointParts) (block : ℕ) (rows : List Row) → RunShared s t es [] block rows nothing_shared (Ok rows)
 shared_of_none s t es block rows = record {
+  few = zero-le;
   unfailed = refl;
   sent = IsPermutation-refl [];
   of_batches = All-nil (IsBatchText es block (Contains []));
@@ -73,7 +76,8 @@ shared_of_none s t es block rows = record {
 
 module _ (s t u v : List Seen)
     (rises : (address : List ℕ) → faults_at s address < faults_at t address → faults_at u address < faults_at v address)
-    (tells : (address : List ℕ) (g : List Triple) → Tell u address g → Tell s address g) where
+    (tells : (address : List ℕ) (g : List Triple) → Tell u address g → Tell s address g)
+    (fits : length s ≤ length u) where
   all_told : (es : List EndpointParts) (graphs : List (List Triple)) → TellAll u es graphs → TellAll s es graphs
   all_told [] [] h = tt
   all_told [] (g ∷ graphs) h = absurd h
@@ -82,6 +86,7 @@ module _ (s t u v : List Seen)
 
   pub shared_wider : (es : List EndpointParts) (us : List unit.Unit) (block : ℕ) (rows : List Row) (share : Share) (r : Result (List Row) FlowError) → RunShared s t es us block rows share r → RunShared u v es us block rows share r
   shared_wider es us block rows share r h = record {
+    few = (let few : share.failed ≤ length s = h.few in omega (arith, few, fits));
     unfailed = h.unfailed;
     sent = h.sent;
     of_batches = h.of_batches;

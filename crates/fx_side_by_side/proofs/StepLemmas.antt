@@ -1,5 +1,5 @@
 -- The next step of several runs: of some of them and then of the others, or of both beside each other.
-use Rattle.std.proofs.Common.{◌≡◌, ◌∙◌, ap, sym, subst, refl, ℕ, ◌+◌, ◌<◌, ◌≤◌, List, [], ◌∷◌, ◌++◌, Bool, map, Result, Ok, Err, Some, arith, IsPermutation}
+use Rattle.std.proofs.Common.{◌≡◌, ◌∙◌, ap, sym, subst, refl, ℕ, ◌+◌, ◌<◌, ◌≤◌, List, [], ◌∷◌, ◌++◌, Bool, map, Result, Ok, Err, Some, arith, IsPermutation, length, length-append}
 use Rattle.std.specs.declared.alloc.Global.{Global}
 use Rattle.std.specs.declared.vec.Vec.{Vec}
 use Rattle.std.proofs.lemmas.Grind.{flat_map-append}
@@ -16,7 +16,7 @@ use Rattle.fx_traffic.proofs.GainLemmas.{gain_laws}
 use Rattle.fx_wire.specs.Exchanges.{Exchange, Seen}
 use Rattle.fx_pool.specs.Runs.{IsHonestOver}
 use Rattle.fx_pool.proofs.BesideLemmas.{after_beside, back_all, front_all}
-use Rattle.fx_pool.proofs.WiresLemmas.{AllTell, all_tell, still_tell}
+use Rattle.fx_pool.proofs.WiresLemmas.{AllTell, all_tell, as_many, still_tell}
 use Rattle.fx_flows.specs.Flows.{rows_in}
 use Rattle.fx_flows.specs.RunFlows.{RunFlowed}
 use Rattle.fx_flows.specs.declared.flows.FlowError.{FlowError}
@@ -31,9 +31,10 @@ use Rattle.fx_side_by_side.proofs.ShareLemmas.{share_of, shared_alone, shared_wi
 module _ (s t u v : List Seen)
     (rises : (address : List ℕ) → faults_at s address < faults_at t address → faults_at u address < faults_at v address)
     (tells : (address : List ℕ) (g : List Triple) → Tell u address g → Tell s address g)
+    (fits : length s ≤ length u)
     (es : List EndpointParts) (step block : ℕ) where
   one_wider : (us : List unit.Unit) (r : Result (List Row) FlowError) (sh : Share) (q : Result (List Row) FlowError) → IsBehind s t es block us r sh q → IsBehind u v es block us r sh q
-  one_wider us (Ok rows) sh q h = shared_wider s t u v rises tells es us block rows sh q h
+  one_wider us (Ok rows) sh q h = shared_wider s t u v rises tells fits es us block rows sh q h
   one_wider us (Err why) sh q h = h
 
   pub behind_wider : (runs : List (List unit.Unit)) (rs : Results) (shares : List Share) (qs : Results) → AreBehind s t es step block runs rs shares qs → AreBehind u v es step block runs rs shares qs
@@ -82,9 +83,9 @@ steps_in_turn tells alone s t v es step block runs others rs qs os later s_tells
   exchanged = falls_in_turn tells alone s t v h.shares k.shares s_tells t_tells h.exchanged k.exchanged;
   each =
       behind_more s v es step block others os k.shares later
-      (behind_wider t v s v (λ address rose. omega (arith, rose, gain_laws.never_fall s t address h.exchanged.after_all)) (λ address g tell. still_tell s t address g h.exchanged.after_all tell) es step block others os k.shares later k.each)
+      (behind_wider t v s v (λ address rose. omega (arith, rose, gain_laws.never_fall s t address h.exchanged.after_all)) (λ address g tell. still_tell s t address g h.exchanged.after_all tell) (omega (arith, as_many s t h.exchanged.after_all)) es step block others os k.shares later k.each)
       runs rs h.shares qs
-      (behind_wider s t s v (λ address rose. omega (arith, rose, gain_laws.never_fall t v address k.exchanged.after_all)) (λ address g tell. tell) es step block runs rs h.shares qs h.each);
+      (behind_wider s t s v (λ address rose. omega (arith, rose, gain_laws.never_fall t v address k.exchanged.after_all)) (λ address g tell. tell) (omega arith) es step block runs rs h.shares qs h.each);
 }
 
 -- ---- over two halves of the wires
@@ -117,11 +118,11 @@ steps_beside tells alone s t w v es step block runs others rs qs os later h k = 
       behind_more (s ++ w) (t ++ v) es step block others os k.shares later
       (behind_wider w v (s ++ w) (t ++ v)
       (λ address rose. omega (arith, rose, gain_laws.add_up s w address, gain_laws.add_up t v address, gain_laws.never_fall s t address h.exchanged.after_all))
-      (λ address g tell. back_all (λ (x : Seen). x.graph address ≡ Some g) s w tell) es step block others os k.shares later k.each)
+      (λ address g tell. back_all (λ (x : Seen). x.graph address ≡ Some g) s w tell) (omega (arith, length-append s w)) es step block others os k.shares later k.each)
       runs rs h.shares qs
       (behind_wider s t (s ++ w) (t ++ v)
       (λ address rose. omega (arith, rose, gain_laws.add_up s w address, gain_laws.add_up t v address, gain_laws.never_fall w v address k.exchanged.after_all))
-      (λ address g tell. front_all (λ (x : Seen). x.graph address ≡ Some g) s w tell) es step block runs rs h.shares qs h.each);
+      (λ address g tell. front_all (λ (x : Seen). x.graph address ≡ Some g) s w tell) (omega (arith, length-append s w)) es step block runs rs h.shares qs h.each);
 }
 
 -- ---- one run

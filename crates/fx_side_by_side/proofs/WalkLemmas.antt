@@ -24,7 +24,7 @@ use Rattle.fx_traffic.proofs.CutLemmas.{batch_laws}
 use Rattle.fx_traffic.proofs.GainLemmas.{gain_laws}
 use Rattle.fx_traffic.proofs.SentLemmas.{middle_changes, sent_laws}
 use Rattle.fx_wire.specs.Exchanges.{Seen}
-use Rattle.fx_pool.proofs.WiresLemmas.{AllTell, all_tell, still_tell}
+use Rattle.fx_pool.proofs.WiresLemmas.{AllTell, all_tell, as_many, still_tell}
 use Rattle.fx_flows.specs.Flows.{IsBatchRead, IsShort, rows_in}
 use Rattle.fx_flows.specs.RunFlows.{HasFlowCause}
 use Rattle.fx_flows.specs.declared.flows.FlowError.{FlowError}
@@ -52,6 +52,7 @@ module _ (s v : List Seen) (es : List EndpointParts) (us vs : List unit.Unit) (b
 
   pub shared_in_turn : (a b : Share) (mid : List Row) (r : Result (List Row) FlowError) → RunShared s v es us block rows a (Ok mid) → RunShared s v es vs block mid b r → RunShared s v es (us ++ vs) block rows (both_shares a b) r
   shared_in_turn a b mid r h k = record {
+    few = (let none : a.failed ≡ 0 = h.unfailed in let few : b.failed ≤ length s = k.few in omega (arith, none, few));
     unfailed = unfailed r k.unfailed;
     sent = sent_laws.together a.wanted a.left b.wanted b.left a.exchanges b.exchanges h.sent k.sent;
     of_batches = All-append (IsBatchText es block (Contains (us ++ vs))) a.wanted b.wanted (of_more es block us (us ++ vs) front a.wanted h.of_batches) (of_more es block vs (us ++ vs) back b.wanted k.of_batches);
@@ -97,6 +98,7 @@ module _ (s v : List Seen) (es : List EndpointParts) (us vs : List unit.Unit) (b
   -- it was refused before the others were come to
   pub shared_refused : (a : Share) (why : FlowError) → RunShared s v es us block rows a (Err why) → RunShared s v es (us ++ vs) block rows a (Err why)
   shared_refused a why h = record {
+    few = h.few;
     unfailed = tt;
     sent = h.sent;
     of_batches = of_more es block us (us ++ vs) front a.wanted h.of_batches;
@@ -208,8 +210,8 @@ step_on tells alone s t v es step block runs rs qs s_tells t_tells h k =
   where
     all : Joined s v es step block runs h.shares k.shares qs
     all = joined s v es step block runs h.shares rs k.shares qs
-        (all_wider s t s v (λ address rose. omega (arith, rose, gain_laws.never_fall t v address k.exchanged.after_all)) (λ address g tell. tell) es block (up_to step runs) h.shares rs h.each)
-        (behind_wider t v s v (λ address rose. omega (arith, rose, gain_laws.never_fall s t address h.after_all)) (λ address g tell. still_tell s t address g h.after_all tell) es step block runs rs k.shares qs k.each)
+        (all_wider s t s v (λ address rose. omega (arith, rose, gain_laws.never_fall t v address k.exchanged.after_all)) (λ address g tell. tell) (omega arith) es block (up_to step runs) h.shares rs h.each)
+        (behind_wider t v s v (λ address rose. omega (arith, rose, gain_laws.never_fall s t address h.after_all)) (λ address g tell. still_tell s t address g h.after_all tell) (omega (arith, as_many s t h.after_all)) es step block runs rs k.shares qs k.each)
 
 -- ---- before the first step
 

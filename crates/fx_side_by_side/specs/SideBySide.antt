@@ -35,8 +35,9 @@ pub record Share : Type 0 where
   pub left : List Sent
 
 -- What one of several runs gave from these rows on that were asked for together, with its share, texts of batches of its units: with rows each text was sent, and each reply read, without a
--- fault. No text was sent that is longer than one may be.
+-- fault. No text was sent that is longer than one may be, and no more exchanges failed than there are wires.
 pub record RunShared (before after : List Seen) (endpoints : List EndpointParts) (us : List unit.Unit) (block : ℕ) (rows : List Row) (share : Share) (result : Result (List Row) FlowError) : Type 0 where
+  pub few : share.failed ≤ length before
   pub unfailed : IfOk result (λ _. share.failed ≡ 0)
   pub sent : Sends share.wanted share.left share.exchanges
   pub of_batches : All (IsBatchText endpoints block (Contains us)) share.wanted
