@@ -47,14 +47,14 @@ pub(crate) fn failing<R: Threads + Wait + Sync>(
     rows_behind(rt, alloc, run, rows, block, wires.as_mut_slice())
 }
 
-fn graph_wire(alloc: Global, graph: &str) -> Option<GraphWire> {
+pub(crate) fn graph_wire(alloc: Global, graph: &str) -> Option<GraphWire> {
     let address = Iri::read(alloc, "http://127.0.0.1:8001/sparql").ok()?;
     let graph = notation::graph(alloc, graph)?;
     let graphs = vec![in alloc; (address, graph)].ok()?;
     GraphWire::new(alloc, graphs).ok()
 }
 
-fn fault_wire(alloc: Global, graph: &str, fails: &str) -> Option<FaultWire> {
+pub(crate) fn fault_wire(alloc: Global, graph: &str, fails: &str) -> Option<FaultWire> {
     let address = Iri::read(alloc, "http://127.0.0.1:8001/sparql").ok()?;
     let fails_at = vec![in alloc; (address, fails.parse::<u64>().ok()?)].ok()?;
     FaultWire::new(alloc, graph_wire(alloc, graph)?, Vec::new(alloc), fails_at).ok()
@@ -114,7 +114,7 @@ fn rows_over<R: Threads + Wait + Sync, W: Wire + Send>(
     Some(run_flow(rt, alloc, endpoints, units, rows, block, wires))
 }
 
-fn numbered_text(alloc: Global, rows: &[Row]) -> Option<String> {
+pub(crate) fn numbered_text(alloc: Global, rows: &[Row]) -> Option<String> {
     let mut text = String::new(alloc);
     for row in rows {
         push_numbered(alloc, &mut text, row.origin, &row.solution)?;
@@ -122,7 +122,7 @@ fn numbered_text(alloc: Global, rows: &[Row]) -> Option<String> {
     Some(text)
 }
 
-fn error_text(alloc: Global, error: FlowError) -> Option<String> {
+pub(crate) fn error_text(alloc: Global, error: FlowError) -> Option<String> {
     match error {
         FlowError::Member { at } => format!(in alloc; "Member {at}").ok(),
         FlowError::BadReply { at, bad } => {

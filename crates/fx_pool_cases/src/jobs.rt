@@ -5,7 +5,7 @@
 
 use crate::checks::{are_sendable, are_within};
 use crate::faults::fault_text;
-use crate::flows;
+use crate::{flows, sides};
 use fx_bound_cases::batches::{batch_of, founds_text};
 use fx_notation::{fields, notation, shown};
 use fx_outside::Endpoint;
@@ -33,6 +33,13 @@ pub fn answer<R: Threads + Wait + Sync>(
         ),
         ("run_flow with a failure", [graph, run, rows, block, fails]) => {
             flows::failing(rt, alloc, graph, run, rows, block, fails)
+        }
+        ("run_side_by_side", [graph, runs @ ..]) => sides::together(rt, alloc, graph, runs),
+        ("run_side_by_side over two wires", [graph, runs @ ..]) => {
+            sides::beside(rt, alloc, graph, runs)
+        }
+        ("run_side_by_side with a failure", [graph, fails, runs @ ..]) => {
+            sides::failing(rt, alloc, graph, fails, runs)
         }
         _ => None,
     }
