@@ -1,5 +1,5 @@
 -- What asking for probes leaves of wires: some at once, and some after the other.
-use Rattle.std.proofs.Common.{◌≡◌, ◌∙◌, ap, sym, subst, refl, ℕ, ◌+◌, ◌<◌, ◌≤◌, Bool, List, [], ◌∷◌, ◌++◌, map, Some, None, IfOk, IfErr, Result, Ok, Err, All, Contains, IsPermutation, length, length-append, take, drop, take-append-drop, arith, append-nil, append_assoc}
+use Rattle.std.proofs.Common.{◌≡◌, ◌∙◌, ap, sym, subst, refl, ℕ, ◌+◌, ◌<◌, ◌≤◌, Bool, List, [], ◌∷◌, ◌++◌, map, Some, None, IfOk, IfErr, Result, Ok, Err, All, Contains, IsPermutation, length, length-append, slice_get, take, drop, take-append-drop, arith, append-nil, append_assoc}
 use Rattle.std.specs.List.{AllByRecursion, zip}
 use Rattle.std.proofs.lemmas.List.{length-map}
 use Rattle.std.proofs.lemmas.List.Elements.{All-append, All-contains, All-from_recursion, All-weaker, recursion_from_All, Contains-append_left, Contains-append_right}
@@ -23,10 +23,10 @@ use Rattle.fx_flows.specs.declared.flows.FlowError.TheVariants as flow
 use Rattle.fx_pool.specs.declared.jobs.JobReply.{JobReply}
 use Rattle.fx_pool.specs.declared.jobs.JobReply.TheVariants as reply
 use Rattle.fx_pool.proofs.WireLemmas.{after_itself}
-use Rattle.fx_engine.specs.AskSteps.{AreTruthsOf, IsRefused, job_of}
-use Rattle.fx_engine.specs.Asks.{AskedAll, HasProbeCause, IsAnsweredBy, IsAskCause, IsAskRead, IsProbeCause}
+use Rattle.fx_engine.specs.AskSteps.{AreTruthsOf, IsRefusal, IsRefused, job_of}
+use Rattle.fx_engine.specs.Asks.{AskedAll, HasFailedAsk, HasProbeCause, IsAnsweredBy, IsAskCause, IsAskRead, IsProbeCause}
 use Rattle.fx_pool.proofs.WiresLemmas.{AllTell, all_after, gained_both, still_tell, still_tell_all}
-use Rattle.fx_engine.proofs.ProbeLemmas.{AllAmong, all_answered, all_read, all_told, among_probes, as_many, asks_sent, cause, done_at, failed_counts, no_failures}
+use Rattle.fx_engine.proofs.ProbeLemmas.{AllAmong, SplitAsks, all_answered, all_read, all_told, among_probes, as_many, asks_sent, cause, done_at, failed_counts, no_failures, split_asks}
 
 module _ (tells alone : Bool) (es : List EndpointParts) where
   -- ---- at once
@@ -50,6 +50,7 @@ module _ (tells alone : Bool) (es : List EndpointParts) where
     answered = tt;
     told = tt;
     cause = tt;
+    failed = tt;
   }
 
   -- or there is none to ask for
@@ -71,6 +72,7 @@ module _ (tells alone : Bool) (es : List EndpointParts) where
     answered = All-from_recursion (IsAnsweredBy es []) [] tt;
     told = λ graphs told. All-from_recursion (source.Tells graphs) [] tt;
     cause = tt;
+    failed = tt;
   }
 
   all_of : (ps : List Probe) → IsPermutation (ps ++ []) ps
@@ -96,6 +98,7 @@ module _ (tells alone : Bool) (es : List EndpointParts) where
       answered = tt;
       told = tt;
       cause = tt;
+      failed = tt;
     }
 
     -- the replies are truth values, or one of them is refused
@@ -108,15 +111,16 @@ module _ (tells alone : Bool) (es : List EndpointParts) where
       asked = ps;
       unasked = [];
       split = all_of ps;
-      wanted = h.of_jobs.wanted;
-      left = h.of_jobs.left;
-      texts = asks_sent es ps h.of_jobs.wanted h.of_jobs.of_jobs;
-      sent = h.of_jobs.sent;
+      wanted = parts.wanted;
+      left = parts.left;
+      texts = parts.texts;
+      sent = sent_laws.any_order parts.wanted parts.left ordered h.exchanges h.done.2 parts.sent;
       many = many r k;
       faultless = faultless r k;
       answered = answered r k;
       told = told r k;
       cause = cause_in r k;
+      failed = failed_in r k;
     }
       where
         quiet : (o : Result (List Bool) FlowError) → AreTruthsOf ps rs o → ((address : List ℕ) → faults_at t address ≡ faults_at s address + failures_at es address (map job_of ps) rs)
@@ -130,6 +134,9 @@ module _ (tells alone : Bool) (es : List EndpointParts) where
         -- the exchanges in the order of the probes
         ordered : List Exchange
         ordered = h.done.0
+
+        parts : SplitAsks es ps rs ordered
+        parts = split_asks es ps rs ordered h.done.1
 
         among_all : AllAmong ordered h.exchanges
         among_all x m = Contains-permutation ordered h.exchanges x h.done.2 m
@@ -174,6 +181,36 @@ module _ (tells alone : Bool) (es : List EndpointParts) where
         cause_in (Err (flow.RequestTooLong at size)) are = refused (flow.RequestTooLong at size) are
         cause_in (Err flow.Memory) are = tt
 
+        failed_one : (at : ℕ) (p : Probe) (r : JobReply) → Among (p, r) (zip ps rs) → IsRefusal p.at r (flow.Member at) → HasFailedAsk s t es ps parts.left (flow.Member at)
+        failed_one at p (reply.Truth truth) m is = absurd is
+        failed_one at p (reply.Found founds) m is = absurd is
+        failed_one at p (reply.Table rows) m is = absurd is
+        failed_one at p (reply.Bad bad) m is = absurd (no_bad is)
+          where
+            no_bad : flow.Member at ≡ flow.BadReply p.at bad → ⊥
+            no_bad e = cc
+        failed_one at p (reply.TooLong size) m is = absurd (not_long is)
+          where
+            not_long : flow.Member at ≡ flow.RequestTooLong p.at size → ⊥
+            not_long e = cc
+        failed_one at p reply.Failed m is =
+            let d = (done_at es ps rs ordered p reply.Failed h.done.1 m).done in
+            let one : 1 ≤ failures_at es d.endpoint.iri (map job_of ps) rs = failed_counts es d.endpoint p d.found ps rs m in
+            let more : faults_at s d.endpoint.iri + failures_at es d.endpoint.iri (map job_of ps) rs ≤ faults_at t d.endpoint.iri = h.counted d.endpoint.iri in
+            let same : at ≡ p.at = cc in (
+              d.endpoint,
+              ap (slice_get es) same ∙ d.found,
+              omega (arith, one, more),
+              record { probe = p; among = contains_from ps p (among_probes es ps rs p reply.Failed m); found = d.found; unsent = parts.unsent p d.endpoint m d.found },
+            )
+
+        failed_in : (o : Result (List Bool) FlowError) → AreTruthsOf ps rs o → IfErr o (HasFailedAsk s t es ps parts.left)
+        failed_in (Ok truths) are = tt
+        failed_in (Err (flow.Member at)) are = failed_one at are.probe are.reply (among_from (zip ps rs) (are.probe, are.reply) are.among) are.refused
+        failed_in (Err (flow.BadReply at bad)) are = tt
+        failed_in (Err (flow.RequestTooLong at size)) are = tt
+        failed_in (Err flow.Memory) are = tt
+
   -- ---- a cause is one of more that was asked for, too
 
   module _ (s t u : List Seen) (after : AreAfter s t) (ps more : List Probe) (of : (p : Probe) → Contains ps p → Contains more p) (xs all : List Exchange) (among : AllAmong xs all) where
@@ -200,6 +237,17 @@ module _ (tells alone : Bool) (es : List EndpointParts) where
     cause_behind (flow.BadReply at bad) k = probe_cause (flow.BadReply at bad) k
     cause_behind (flow.RequestTooLong at size) k = probe_cause (flow.RequestTooLong at size) k
     cause_behind flow.Memory k = tt
+
+  -- an ASK that failed is left of more that was wanted
+  failed_behind : (s t u : List Seen) → AreAfter s t → (ps more : List Probe) → ((p : Probe) → Contains ps p → Contains more p) → (left all : List Sent) → ((x : Sent) → Contains left x → Contains all x)
+      → (why : FlowError) → HasFailedAsk t u es ps left why → HasFailedAsk s u es more all why
+  failed_behind s t u after ps more of left all among (flow.Member at) k =
+      let low : faults_at s k.0.iri ≤ faults_at t k.0.iri = gain_laws.never_fall s t k.0.iri after in
+      let rose : faults_at t k.0.iri < faults_at u k.0.iri = k.2 in
+      (k.0, k.1, omega (arith, low, rose), record { probe = k.3.probe; among = of k.3.probe k.3.among; found = k.3.found; unsent = among _ k.3.unsent })
+  failed_behind s t u after ps more of left all among (flow.BadReply at bad) k = tt
+  failed_behind s t u after ps more of left all among (flow.RequestTooLong at size) k = tt
+  failed_behind s t u after ps more of left all among flow.Memory k = tt
 
   -- ---- some after the other
 
@@ -252,6 +300,7 @@ module _ (tells alone : Bool) (es : List EndpointParts) where
           answered = answered both.all front k.exchanges back r k.answered;
           told = told r k.told;
           cause = cause_of both.all k.exchanges back r k.cause;
+          failed = failed r k.failed;
         }
       where
         quiet : (o : Result (List Bool) FlowError) → ((address : List ℕ) → faults_at t address ≡ faults_at s address) → IfOk o (λ _. (address : List ℕ) → faults_at u address ≡ faults_at t address)
@@ -294,6 +343,10 @@ module _ (tells alone : Bool) (es : List EndpointParts) where
         cause_of all xs back (Ok more) g = tt
         cause_of all xs back (Err e) g = cause_behind s t u h.after_all qs (ps ++ qs) (λ p m. Contains-append_right ps qs p m) xs all back e g
 
+        failed : (o : Result (List Bool) FlowError) → IfErr o (HasFailedAsk t u es qs k.left) → IfErr (behind truths o) (HasFailedAsk s u es (ps ++ qs) (h.left ++ k.left))
+        failed (Ok more) g = tt
+        failed (Err e) g = failed_behind s t u h.after_all qs (ps ++ qs) (λ p m. Contains-append_right ps qs p m) k.left (h.left ++ k.left) (λ x m. Contains-append_right h.left k.left x m) e g
+
   -- ---- the turns of a loop
 
   -- a refusal leaves the rest
@@ -315,6 +368,7 @@ module _ (tells alone : Bool) (es : List EndpointParts) where
     answered = tt;
     told = tt;
     cause = cause_behind s s t (after_itself s) ps (ps ++ rest) (λ p m. Contains-append_left ps rest p m) h.exchanges h.exchanges (λ x m. m) e h.cause;
+    failed = failed_behind s s t (after_itself s) ps (ps ++ rest) (λ p m. Contains-append_left ps rest p m) h.left h.left (λ x m. m) e h.failed;
   }
 
   -- the truths are lost
@@ -336,6 +390,7 @@ module _ (tells alone : Bool) (es : List EndpointParts) where
     answered = tt;
     told = tt;
     cause = tt;
+    failed = tt;
   }
 
   module _ (s t u : List Seen) (a : AllTell tells s) (b : AllTell tells t) (probes : List Probe) (k m : ℕ) (some : List Probe) (front : take m probes ≡ take k probes ++ some) (truths : List Bool) (h : AskedAll tells alone s t es (take k probes) (Ok truths)) where

@@ -1,5 +1,7 @@
 -- What invoking occurrences of SERVICE side by side leaves of wires, call by call.
-use Rattle.std.proofs.Common.{◌≡◌, ◌∙◌, ap, subst, refl, inl, inr, ℕ, suc, ◌+◌, ◌≤◌, Bool, true, false, cond, List, [], ◌∷◌, ◌++◌, map, length, None, Some, IfErr, IsTrue, Result, Ok, Err, append-nil, arith, bytes_eq}
+use Rattle.std.proofs.Common.{◌≡◌, ◌∙◌, ap, subst, refl, inl, inr, ℕ, suc, ◌+◌, ◌≤◌, Bool, true, false, cond, List, [], ◌∷◌, ◌++◌, map, length, None, Some, All, IfErr, IsTrue, Result, Ok, Err, append-nil, arith, bytes_eq}
+use Rattle.std.specs.List.{AllByRecursion}
+use Rattle.std.proofs.lemmas.List.Elements.{All-weaker}
 use Rattle.std.proofs.lemmas.List.Sorted.{IsPermutation-refl}
 use Rattle.fx_outside.specs.Endpoints.{EndpointParts}
 use Rattle.fx_algebra.specs.Solutions.{Bindings}
@@ -15,7 +17,7 @@ use Rattle.fx_services.specs.declared.noted.DownCause.TheVariants as cause
 use Rattle.fx_services.specs.declared.services.ServiceError.{ServiceError}
 use Rattle.fx_services.specs.declared.services.ServiceError.TheVariants as error
 use Rattle.fx_services.proofs.WentLemmas.{found_here}
-use Rattle.fx_engine.specs.Calls.{AreAllOrNone, AreCalls, Call, Came, HasComeTo, failed, failure_of, failures_at, lost, told}
+use Rattle.fx_engine.specs.Calls.{AreAllOrNone, AreCalls, Call, Came, HasComeTo, HasEnded, IsKnown, IsPassed, Passes, failed, failure_of, failures_at, lost, told}
 use Rattle.fx_engine.specs.Invocations.{AreLost, Calling, IsAt}
 
 -- ---- none
@@ -99,6 +101,15 @@ module _ (before after : List Seen) (es : List EndpointParts) where
   calls_so (o ∷ os) [] xs h = absurd h
   calls_so (o ∷ os) (c ∷ cs) xs h = (h.0, h.1, h.2, came_so o h.0 c h.3, h.3.sent_so, calls_so os cs h.1 h.4)
 
+  pub known_so : (os : List Occurrence) (cs : List Reached) → AllByRecursion IsKnown (calls_of os cs)
+  known_so [] cs = tt
+  known_so (o ∷ os) [] = tt
+  known_so (o ∷ os) (c ∷ cs) = (ended c, known_so os cs)
+    where
+      ended : (r : Reached) → HasEnded (came_by r)
+      ended (Ok rows) = tt
+      ended (Err why) = tt
+
   failures_so : (address : List ℕ) (os : List Occurrence) (cs : List Reached) → failures_in address os cs ≡ failures_at address (calls_of os cs)
   failures_so address [] cs = refl
   failures_so address (o ∷ os) [] = refl
@@ -119,6 +130,15 @@ module _ (before after : List Seen) (es : List EndpointParts) where
 
   pub counted_so : (tells alone : Bool) (os : List Occurrence) (cs : List Reached) → AllInvoked tells alone before after es os (Some cs) → IsTrue alone → (address : List ℕ) → faults_at after address ≡ faults_at before address + failures_at address (calls_of os cs)
   counted_so tells alone os cs h is address = h.exact is address ∙ ap (λ (n : ℕ). faults_at before address + n) (failures_so address os cs)
+
+-- of what passed it is known what it came to
+pub passed_known : (calls : List Call) → All IsPassed calls → All IsKnown calls
+passed_known calls h = All-weaker IsPassed IsKnown (λ c p. ended c.of.silent c.came p) calls h
+  where
+    ended : (silent : Bool) (came : Came) → Passes silent came → HasEnded came
+    ended silent (told rows) p = tt
+    ended silent (failed why) p = tt
+    ended silent lost p = absurd p
 
 -- ---- memory ran out
 

@@ -49,6 +49,7 @@ truths_lost tells alone s t es ps truths h = record {
   answered = tt;
   told = tt;
   cause = tt;
+  failed = tt;
 }
 
 -- ---- the parts, where graphs are told

@@ -16,6 +16,7 @@ use Rattle.fx_algebra.proofs.CutLemmas.{seeds_for_each}
 use Rattle.fx_plan.specs.declared.parts.Part.{Part}
 use Rattle.fx_flows.specs.Flows.{IsBatchRead}
 use Rattle.fx_flows.specs.declared.flows.FlowError.{FlowError}
+use Rattle.fx_flows.specs.declared.flows.FlowError.TheVariants as flow
 use Rattle.fx_pool.proofs.WireLemmas.{after_itself}
 use Rattle.fx_keys.specs.declared.probes.Probe.{Probe}
 use Rattle.fx_sources.specs.Probes.{Entry, chosen, learned, missing, told}
@@ -27,10 +28,10 @@ use Rattle.fx_traffic.specs.Traffic.{AreAsked, IsServiceSent, IsTraffic}
 use Rattle.fx_traffic.proofs.GainLemmas.{gain_laws}
 use Rattle.fx_traffic.proofs.SentLemmas.{sent_laws}
 use Rattle.fx_wire.specs.Exchanges.{Exchange, Seen}
-use Rattle.fx_engine.specs.Asks.{AskedAll, IsAskRead}
+use Rattle.fx_engine.specs.Asks.{AskedAll, HasFailedAsk, IsAskRead}
 use Rattle.fx_engine.specs.Calls.{AgreesWith, AreCalls, Call, IsPassed, down_in, failures_at, occurrences}
 use Rattle.fx_services.specs.Beside.{Occurrence}
-use Rattle.fx_engine.specs.Mediation.{AreKnown, Federated, HasFedCause, HasPlanCause, HoldsBehind, IsNamed, IsRead, IsUnitBefore, IsUnitOf, KnowsServices, Serve}
+use Rattle.fx_engine.specs.Mediation.{AreKnown, FailedAtAsk, FailedBeside, Federated, HasFedCause, HasPlanCause, HoldsBehind, IsNamed, IsRead, IsUnitBefore, IsUnitOf, KnowsServices, Serve}
 use Rattle.fx_services.specs.Noted.{places}
 use Rattle.fx_engine.specs.GroupsAsked.{CanBeAsked, units_in}
 use Rattle.fx_engine.specs.Order.{AreAnswered, AreGiven}
@@ -45,7 +46,8 @@ use Rattle.fx_engine.specs.declared.mediator.Outcome.{Outcome}
 use Rattle.fx_engine.specs.declared.tasks.Task.{Task}
 use Rattle.fx_engine.proofs.BatchCauseLemmas.{batch_cause_behind, read_of_query, texts_of_query}
 use Rattle.fx_engine.proofs.CallLemmas.{calls_earlier, first_of}
-use Rattle.fx_engine.proofs.ChoiceLemmas.{has_kept, has_learned, parts_are_by_graphs, plan_cause}
+use Rattle.fx_engine.proofs.ChoiceLemmas.{has_kept, has_learned, its_name, parts_are_by_graphs, plan_cause}
+use Rattle.fx_services.proofs.WentLemmas.{found_here}
 use Rattle.fx_engine.proofs.MediationLemmas.{kept_true, known_named, learned_true, stays}
 use Rattle.fx_engine.proofs.RunsSentLemmas.{AreCalled, sent_by_all}
 use Rattle.fx_engine.proofs.StationLemmas.{no_run_sent}
@@ -129,22 +131,56 @@ federated_unasked tells alone wires es q old block e known cause = record {
   answer = tt;
   known = known;
   cause = cause;
+  own_failure = none_rose e cause;
   asks_first = inl (refl, refl);
   in_turn = inl cause;
   held = stays Outcome es q old [] e;
   stays_true = λ graphs is. is.entries_are;
 }
+  where
+    none_rose : (e : FedError) → HasFedCause wires wires es q old [] [] [] [] block e → FailedAtAsk wires wires es q old [] [] e ⊎ FailedBeside wires wires es q [] e
+    none_rose (fed.Member name) k = let rose : faults_at wires k.1.0.iri < faults_at wires k.1.0.iri = k.1.3 in absurd (omega (arith, rose))
+    none_rose (fed.Service iri) k = inl tt
+    none_rose (fed.BadReply name bad) k = inl tt
+    none_rose (fed.RequestTooLong name size) k = inl tt
+    none_rose (fed.UnknownService iri) k = inl tt
+    none_rose fed.Memory k = inl tt
 
 -- ---- by what was asked first
 
 -- with the cause of a plan there is one of an answer
-fed_cause : (s t : List Seen) (es : List EndpointParts) (q : Query) (old : List Entry) (block : ℕ) (calls plain : List Call) (xs : List Exchange) (texts : List Sent) (e : FedError) → HasPlanCause s t es q old xs e → HasFedCause s t es q old calls plain texts xs block e
-fed_cause s t es q old block calls plain xs texts (fed.Member name) k = k
-fed_cause s t es q old block calls plain xs texts (fed.Service iri) k = absurd k
-fed_cause s t es q old block calls plain xs texts (fed.BadReply name bad) k = (k.0, k.1, k.2, inl k.3)
-fed_cause s t es q old block calls plain xs texts (fed.RequestTooLong name size) k = (k.0, k.1, k.2, inl k.3)
-fed_cause s t es q old block calls plain xs texts (fed.UnknownService iri) k = k
-fed_cause s t es q old block calls plain xs texts fed.Memory k = tt
+fed_cause : (s t : List Seen) (es : List EndpointParts) (q : Query) (old : List Entry) (block : ℕ) (xs : List Exchange) (e : FedError) → HasPlanCause s t es q old xs e → HasFedCause s t es q old [] [] [] xs block e
+fed_cause s t es q old block xs (fed.Member name) k = k
+fed_cause s t es q old block xs (fed.Service iri) k = absurd k
+fed_cause s t es q old block xs (fed.BadReply name bad) k = (k.0, k.1, k.2, inl k.3)
+fed_cause s t es q old block xs (fed.RequestTooLong name size) k = (k.0, k.1, k.2, inl k.3)
+fed_cause s t es q old block xs (fed.UnknownService iri) k = (k.0, k.1, refl)
+fed_cause s t es q old block xs fed.Memory k = tt
+
+-- and where an endpoint is named as failed, one of its ASKs is left
+failed_at_ask : (s t : List Seen) (es : List EndpointParts) (q : Query) (old : List Entry) (left : List Sent) (why : FlowError) (e : FedError) → HasFailedAsk s t es (missing q (length es) old) left why → IsNamed es why e → FailedAtAsk s t es q old [] left e
+failed_at_ask s t es q old left (flow.Member at) (fed.Member name) k n = (refl, (k.0, found_here es at k.0 k.1, its_name es at at k.0 name refl k.1 n, (k.2, k.3)))
+failed_at_ask s t es q old left (flow.BadReply at bad) (fed.Member name) k n = absurd n
+failed_at_ask s t es q old left (flow.RequestTooLong at size) (fed.Member name) k n = absurd n
+failed_at_ask s t es q old left flow.Memory (fed.Member name) k n = absurd n
+failed_at_ask s t es q old left why (fed.Service iri) k n = tt
+failed_at_ask s t es q old left why (fed.BadReply name bad) k n = tt
+failed_at_ask s t es q old left why (fed.RequestTooLong name size) k n = tt
+failed_at_ask s t es q old left why (fed.UnknownService iri) k n = tt
+failed_at_ask s t es q old left why fed.Memory k n = tt
+
+-- behind ASKs it failed beside the occurrences, too
+beside_behind : (s t u : List Seen) → AreAfter s t → (es : List EndpointParts) (q : Query) (calls : List Call) (e : FedError) → FailedBeside t u es q calls e → FailedBeside s u es q calls e
+beside_behind s t u after es q calls (fed.Member name) k =
+    let at = k.1.0 in
+    let low : faults_at s at.iri ≤ faults_at t at.iri = gain_laws.never_fall s t at.iri after in
+    let rose : faults_at t at.iri + failures_at at.iri calls < faults_at u at.iri = k.1.3 in
+    (k.0, (at, k.1.1, k.1.2, omega (arith, low, rose)))
+beside_behind s t u after es q calls (fed.Service iri) k = tt
+beside_behind s t u after es q calls (fed.BadReply name bad) k = tt
+beside_behind s t u after es q calls (fed.RequestTooLong name size) k = tt
+beside_behind s t u after es q calls (fed.UnknownService iri) k = tt
+beside_behind s t u after es q calls fed.Memory k = tt
 
 -- and so there is with that of an occurrence
 pub refusal_cause : (s t u : List Seen) → AreAfter s t → (es : List EndpointParts) (q : Query) (old : List Entry) (block : ℕ) (calls : List Call) (xs : List Exchange) (texts : List Sent) (e : FedError) → HasRefusal t u es calls e
@@ -199,9 +235,10 @@ module _ (tells alone : Bool) (s t : List Seen) (es : List EndpointParts) (q : Q
             (subst (λ (v : List Exchange). IsPermutation v h.exchanges) (sym own) (IsPermutation-refl h.exchanges));
         answer = tt;
         known = known_named Outcome es q why e n known;
-        cause = fed_cause s t es q old block [] [] h.exchanges [] e (plan_cause es q old s t h.exchanges why e h.cause n);
+        cause = fed_cause s t es q old block h.exchanges e (plan_cause es q old s t h.exchanges why e h.cause n);
+        own_failure = inl (failed_at_ask s t es q old h.left why e h.failed n);
         asks_first = inl (refl, refl);
-        in_turn = inl (fed_cause s t es q old block [] [] h.exchanges [] e (plan_cause es q old s t h.exchanges why e h.cause n));
+        in_turn = inl (fed_cause s t es q old block h.exchanges e (plan_cause es q old s t h.exchanges why e h.cause n));
         held = stays Outcome es q old h.exchanges e;
         stays_true = λ graphs is. is.entries_are;
       }
@@ -251,12 +288,16 @@ module _ (tells alone : Bool) (s t : List Seen) (es : List EndpointParts) (q : Q
         let its = has_learned es q old h.exchanges all among truths h.many h.answered (learned old probes truths) refl in
         record { truths = its.truths; many = its.many; answered = its.answered }
 
+    own_failure : (o : Result Outcome FedError) → IfErr o (FailedBeside t u es q k.calls) → IfErr o (λ e. FailedAtAsk s u es q old k.calls (h.left ++ k.left) e ⊎ FailedBeside s u es q k.calls e)
+    own_failure (Ok outcome) f = tt
+    own_failure (Err e) f = inr (beside_behind s t u h.after_all es q k.calls e f)
+
     pub federated : (o : Result Outcome FedError) (new : List Entry) → IfOk o (λ _. map (λ c. c.of) k.calls ≡ occurrences q) → IfOk o (λ _. All IsPassed k.calls) → IfOk o (λ outcome. outcome.down ≡ down_in k.calls)
         → (IsTrue alone → IfOk o (λ _. (address : List ℕ) → faults_at u address ≡ faults_at t address + failures_at address k.calls)) → Answered o
-        → ((all : List Exchange) → Among k.exchanges all → IfErr o (HasFedCause s u es q old k.calls k.calls k.texts all block)) → ((all : List Exchange) → Among h.exchanges all → HoldsBehind es q old new all o)
-        → ((all : List Exchange) → Among k.exchanges all → IfErr o (λ e. HasFedCause s u es q old k.calls [] k.texts all block e ⊎ AreGiven alone s u k.calls (IsRead es q old) (h.exchanges ++ k.of_runs)))
+        → ((all : List Exchange) → Among k.of_runs all → IfErr o (HasFedCause s u es q old k.calls k.calls k.texts all block)) → IfErr o (FailedBeside t u es q k.calls) → ((all : List Exchange) → Among h.exchanges all → HoldsBehind es q old new all o)
+        → ((all : List Exchange) → Among k.of_runs all → IfErr o (λ e. HasFedCause s u es q old k.calls [] k.texts all block e ⊎ AreGiven alone s u k.calls (IsRead es q old) (h.exchanges ++ k.of_runs)))
         → All (IsBatchText es block (IsUnitBefore q k.calls)) k.texts → IfOk o (λ _. All (IsBatchRead (IsUnitOf q)) k.of_runs) → KnowsServices es q o → StaysTrue new → Federated tells alone s u es q old new block o
-    federated o new all_called passed down exact answer cause held in_turn of_batches read knows still =
+    federated o new all_called passed down exact answer cause beside held in_turn of_batches read knows still =
         let both = gained_both tells s t u h.exchanges k.exchanges h.gained k.gained in
         let asked : AreAsked es q old h.wanted = record { probes = h.asked; unasked = h.unasked; lacked = h.split; texts = h.texts } in
         let sent : Sends (h.wanted ++ k.texts) (h.left ++ k.left) (h.exchanges ++ k.of_runs) = sent_laws.together h.wanted h.left k.texts k.left h.exchanges k.of_runs h.sent k.sent in
@@ -294,9 +335,10 @@ module _ (tells alone : Bool) (s t : List Seen) (es : List EndpointParts) (q : Q
               traffic_of es graphs block services down q old s h.wanted k.texts (h.left ++ k.left) k.calls (first_of k.calls (occurrences q) k.called).others (h.exchanges ++ k.of_runs) k.of_calls both.all asked (runs_sent graphs known services serve down agrees) sent (first_of k.calls (occurrences q) k.called).are called parted;
           answer = answer;
           known = knows;
-          cause = cause both.all (λ x m. Contains-permutation (h.exchanges ++ k.exchanges) both.all x both.same (Contains-append_right h.exchanges k.exchanges x m));
+          cause = cause (h.exchanges ++ k.of_runs) (λ x m. Contains-append_right h.exchanges k.of_runs x m);
+          own_failure = own_failure o beside;
           asks_first = inr (answered both.all (λ x m. Contains-permutation (h.exchanges ++ k.exchanges) both.all x both.same (Contains-append_left h.exchanges k.exchanges x m)));
-          in_turn = in_turn both.all (λ x m. Contains-permutation (h.exchanges ++ k.exchanges) both.all x both.same (Contains-append_right h.exchanges k.exchanges x m));
+          in_turn = in_turn (h.exchanges ++ k.of_runs) (λ x m. Contains-append_right h.exchanges k.of_runs x m);
           held = held both.all (λ x m. Contains-permutation (h.exchanges ++ k.exchanges) both.all x both.same (Contains-append_left h.exchanges k.exchanges x m));
           stays_true = still;
         }
@@ -316,8 +358,8 @@ module _ (tells alone : Bool) (s t : List Seen) (es : List EndpointParts) (q : Q
       its_texts : All (IsBatchText es block (IsUnitBefore q k.calls)) k.texts
       its_texts = texts_of_query es q (length es) entries k.found tasks tasks_are (can k.found) k.calls k.behind block k.texts k.of_batches
 
-      cause_so : (e : FedError) → HasOutcomeCause t u es parts k.found block k.calls k.texts k.exchanges e → (all : List Exchange) → Among k.exchanges all → HasFedCause s u es q old k.calls k.calls k.texts all block e
-      cause_so e (inl c) all among = batch_cause_behind es q old (length es) entries k.found tasks tasks_are (can k.found) block s t u h.after_all k.exchanges all among k.calls k.calls k.behind k.texts c.0 e c.1 c.2
+      cause_so : (e : FedError) → HasOutcomeCause t u es parts k.found block k.calls k.texts k.of_runs e → (all : List Exchange) → Among k.of_runs all → HasFedCause s u es q old k.calls k.calls k.texts all block e
+      cause_so e (inl c) all among = batch_cause_behind es q old (length es) entries k.found tasks tasks_are (can k.found) block s t u h.after_all k.of_runs all among k.calls k.calls k.behind k.texts c.0 e c.1 c.2
       cause_so e (inr c) all among = refusal_cause s t u h.after_all es q old block k.calls all k.texts e c
 
       refusal_known : (e : FedError) → HasRefusal t u es k.calls e → KnowsServices {X = Outcome} es q (Err e)
@@ -329,30 +371,31 @@ module _ (tells alone : Bool) (s t : List Seen) (es : List EndpointParts) (q : Q
       refusal_known fed.Memory c = tt
 
       -- a refusal is of a batch, or all batches were given
-      in_turn_so : (e : FedError) → HasBatchRefusal t u es parts k.found block k.texts k.exchanges e ⊎ AreGiven alone t u k.calls (IsBatchRead (Contains (units_in tasks))) k.of_runs → (all : List Exchange) → Among k.exchanges all
+      in_turn_so : (e : FedError) → HasBatchRefusal t u es parts k.found block k.texts k.of_runs e ⊎ AreGiven alone t u k.calls (IsBatchRead (Contains (units_in tasks))) k.of_runs → (all : List Exchange) → Among k.of_runs all
           → HasFedCause s u es q old k.calls [] k.texts all block e ⊎ AreGiven alone s u k.calls (IsRead es q old) (h.exchanges ++ k.of_runs)
-      in_turn_so e (inl c) all among = inl (batch_cause_behind es q old (length es) entries k.found tasks tasks_are (can k.found) block s t u h.after_all k.exchanges all among k.calls [] k.behind k.texts c.0 e c.1 c.2)
+      in_turn_so e (inl c) all among = inl (batch_cause_behind es q old (length es) entries k.found tasks tasks_are (can k.found) block s t u h.after_all k.of_runs all among k.calls [] k.behind k.texts c.0 e c.1 c.2)
       in_turn_so e (inr g) all among = inr (record { read = each_read (read_of_query es q (length es) entries k.found tasks tasks_are (can k.found) k.of_runs g.read); exact = λ is. counted_so (g.exact is) is })
 
-      knows_so : (e : FedError) → HasOutcomeCause t u es parts k.found block k.calls k.texts k.exchanges e → KnowsServices {X = Outcome} es q (Err e)
+      knows_so : (e : FedError) → HasOutcomeCause t u es parts k.found block k.calls k.texts k.of_runs e → KnowsServices {X = Outcome} es q (Err e)
       knows_so e (inl c) = known_named Outcome es q c.0 e c.2 known
       knows_so e (inr c) = refusal_known e c
 
       pub federated_stopped : (e : FedError) → r ≡ Err e → Federated tells alone s u es q old old block (Err e)
       federated_stopped e same =
-          let why = subst (λ (o : Result Outcome FedError). IfErr o (HasOutcomeCause t u es parts k.found block k.calls k.texts k.exchanges)) same k.cause in
+          let why = subst (λ (o : Result Outcome FedError). IfErr o (HasOutcomeCause t u es parts k.found block k.calls k.texts k.of_runs)) same k.cause in
+          let beside = subst (λ (o : Result Outcome FedError). IfErr o (FailedBeside t u es q k.calls)) same k.own_failure in
           let turn =
-          subst (λ (o : Result Outcome FedError). IfErr o (λ (x : FedError). HasBatchRefusal t u es parts k.found block k.texts k.exchanges x ⊎ AreGiven alone t u k.calls (IsBatchRead (Contains (units_in tasks))) k.of_runs)) same k.in_turn in
-          federated (Err e) old tt tt tt (λ is. tt) tt (cause_so e why) (λ all among. stays Outcome es q old all e) (in_turn_so e turn) its_texts tt (knows_so e why) (λ graphs is. is.entries_are)
+          subst (λ (o : Result Outcome FedError). IfErr o (λ (x : FedError). HasBatchRefusal t u es parts k.found block k.texts k.of_runs x ⊎ AreGiven alone t u k.calls (IsBatchRead (Contains (units_in tasks))) k.of_runs)) same k.in_turn in
+          federated (Err e) old tt tt tt (λ is. tt) tt (cause_so e why) beside (λ all among. stays Outcome es q old all e) (in_turn_so e turn) its_texts tt (knows_so e why) (λ graphs is. is.entries_are)
 
       pub federated_lost : (new : List Entry) → All (λ (x : Entry). Contains old x ⊎ Contains (zip probes truths) x) new → Federated tells alone s u es q old new block (Err fed.Memory)
       federated_lost new kept =
-          federated (Err fed.Memory) new tt tt tt (λ is. tt) tt (λ all among. tt) (λ all among. has_kept es q old h.exchanges all among truths h.answered new kept) (λ all among. inl tt) its_texts tt tt (kept_true tells alone s t es q old known truths h new kept)
+          federated (Err fed.Memory) new tt tt tt (λ is. tt) tt (λ all among. tt) tt (λ all among. has_kept es q old h.exchanges all among truths h.answered new kept) (λ all among. inl tt) its_texts tt tt (kept_true tells alone s t es q old known truths h new kept)
 
       pub federated_given : (outcome : Outcome) → r ≡ Ok outcome → (new : List Entry) → new ≡ learned old probes truths → Federated tells alone s u es q old new block (Ok outcome)
       federated_given outcome same new so =
           let of_ok : (P : Outcome → Type 0) → IfOk r P → P outcome = λ P p. subst (λ (o : Result Outcome FedError). IfOk o P) same p in
           federated (Ok outcome) new (of_ok (λ c. map (λ c. c.of) k.calls ≡ occurrences q) k.all_called) (of_ok (λ c. All IsPassed k.calls) k.passed) (of_ok (λ c. c.down ≡ down_in k.calls) k.down)
-          (λ is. of_ok (λ c. (address : List ℕ) → faults_at u address ≡ faults_at t address + failures_at address k.calls) (k.exact is)) (is_answered outcome same) (λ all among. tt)
+          (λ is. of_ok (λ c. (address : List ℕ) → faults_at u address ≡ faults_at t address + failures_at address k.calls) (k.exact is)) (is_answered outcome same) (λ all among. tt) tt
           (λ all among. has_learned es q old h.exchanges all among truths h.many h.answered new so) (λ all among. tt) its_texts
           (read_of_query es q (length es) entries k.found tasks tasks_are (can k.found) k.of_runs (of_ok (λ c. All (IsBatchRead (Contains (units_in tasks))) k.of_runs) k.faultless)) known (learned_true tells alone s t es q old known truths h new so)

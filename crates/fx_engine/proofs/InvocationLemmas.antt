@@ -1,5 +1,5 @@
 -- What a query goes on with behind its occurrences of SERVICE, by what these came to.
-use Rattle.std.proofs.Common.{◌≡◌, ◌∙◌, ap, sym, subst, refl, inl, ℕ, suc, ◌+◌, Bool, true, false, List, [], ◌∷◌, ◌++◌, map, Option, None, Some, IfErr, IfOk, Result, Ok, Err, append-nil, append_assoc}
+use Rattle.std.proofs.Common.{◌≡◌, ◌∙◌, ap, sym, subst, refl, inl, ℕ, suc, ◌+◌, Bool, true, false, List, [], ◌∷◌, ◌++◌, map, Option, None, Some, All, IfErr, IfOk, Result, Ok, Err, append-nil, append_assoc}
 use Rattle.std.specs.List.{AllByRecursion}
 use Rattle.std.proofs.lemmas.List.Elements.{All-from_recursion}
 use Rattle.fx_terms.specs.declared.allocation.Memory.{Memory}
@@ -13,9 +13,9 @@ use Rattle.fx_services.specs.declared.beside.Settled.{Settled}
 use Rattle.fx_services.specs.declared.noted.Down.{Down}
 use Rattle.fx_services.specs.declared.services.ServiceError.{ServiceError}
 use Rattle.fx_services.proofs.PieceLemmas.{forgotten}
-use Rattle.fx_engine.specs.Calls.{Call, IsPassed, Passes, came_rows, down_from, down_if, failed, failures_at, rows_of}
+use Rattle.fx_engine.specs.Calls.{Call, IsKnown, IsPassed, Passes, came_rows, down_from, down_if, failed, failures_at, rows_of}
 use Rattle.fx_engine.specs.Invocations.{AreLost, Calling, Invoked, InvokedBy, IsAt}
-use Rattle.fx_engine.proofs.CallLemmas.{AreAt, all_called, are_at, are_of, call_of, calls_of, came_by, counted_so, lost_called, none_called}
+use Rattle.fx_engine.proofs.CallLemmas.{AreAt, all_called, are_at, are_of, call_of, calls_of, came_by, counted_so, known_so, lost_called, none_called}
 
 -- ---- one that passes
 
@@ -118,6 +118,7 @@ module _ (tells alone : Bool) (before after : List Seen) (es : List EndpointPart
         plain = one.plain;
         came = one.came;
         at = one.at;
+        known = subst (All IsKnown) one.are (All-from_recursion IsKnown (calls_of os cs) (known_so before after es os cs));
         calling = subst (Calling tells alone before after es) one.are (all_called before after es tells alone os cs h);
         exact = λ is address. subst (λ (v : List Call). faults_at after address ≡ faults_at before address + failures_at address v) one.are (counted_so before after es tells alone os cs h is address);
       }

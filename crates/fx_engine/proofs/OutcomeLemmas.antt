@@ -2,8 +2,8 @@
 use Rattle.std.proofs.Common.{◌≡◌, ◌∙◌, ap, sym, subst, refl, ℕ, zero, suc, ◌+◌, ◌≤◌, zero-le, Bool, true, false, List, [], ◌∷◌, ◌++◌, map, length, take, ◌⊎◌, Some, All, Contains, IfErr, IfOk, IsTrue, Result, Ok, Err, append-nil, append_assoc, arith, slice_get}
 use Rattle.std.specs.List.{AllByRecursion}
 use Rattle.std.proofs.lemmas.List.{length-map, map-append}
-use Rattle.std.proofs.lemmas.List.Elements.{All-from_recursion, Contains-append_right, recursion_from_All}
-use Rattle.std.proofs.lemmas.List.Sorted.{Contains-permutation, IsPermutation-append_comm, IsPermutation-append_right, IsPermutation-trans}
+use Rattle.std.proofs.lemmas.List.Elements.{All-from_recursion, recursion_from_All}
+use Rattle.std.proofs.lemmas.List.Sorted.{IsPermutation-append_comm, IsPermutation-append_right, IsPermutation-trans}
 use Rattle.fx_terms.specs.declared.triples.Triple.{Triple}
 use Rattle.fx_outside.specs.Endpoints.{EndpointParts}
 use Rattle.fx_algebra.specs.Answers.{answer as answer_of}
@@ -29,7 +29,7 @@ use Rattle.fx_services.specs.Beside.{Occurrence}
 use Rattle.fx_engine.specs.GroupsAsked.{HasRows, all_planned, units_in}
 use Rattle.fx_services.specs.Served.{Served}
 use Rattle.fx_engine.specs.Invocations.{Calling}
-use Rattle.fx_engine.specs.Mediation.{Serve}
+use Rattle.fx_engine.specs.Mediation.{FailedBeside, Serve}
 use Rattle.fx_services.specs.Noted.{places}
 use Rattle.fx_engine.specs.Order.{AreGiven}
 use Rattle.fx_engine.specs.Outcomes.{HasBatchRefusal, HasOutcomeCause, Outcomed}
@@ -173,16 +173,13 @@ module _ (tells alone : Bool) (s t u : List Seen) (a : AllTell tells s) (b : All
         let behind : length front ≤ k = behind_passed front rest (recursion_from_All IsPassed front passed) k d there refused in
         omega (arith, many, behind)
 
-    abbrev Among : List Exchange → List Exchange → Type 0
-    Among xs all = (x : Exchange) → Contains xs x → Contains all x
-
     pub outcomed : (o : Result Outcome FedError) → IfOk o (λ _. k.failed ≡ 0) → IfOk o (λ _. AreCounted) → IfOk o (λ _. map (λ c. c.of) calls ≡ occurrences q) → IfOk o (λ _. All IsPassed calls) → IfOk o (λ outcome. outcome.down ≡ down_in calls)
         → IfOk o (λ outcome. (graphs : List (List Triple)) → TellAll s es graphs → plan ≡ parts_with (sources graphs) q → (its : List ℕ → List Triple) → Serve its es graphs → outcome.answer ≡ answer_of q (union graphs) its (places outcome.down))
         → IfOk o (λ _. All (IsBatchRead (Contains (units_in tasks))) k.exchanges)
-        → ((all : List Exchange) → Among k.exchanges all → IfErr o (HasOutcomeCause s u es plan found block calls k.wanted all))
-        → ((all : List Exchange) → Among k.exchanges all → IfErr o (λ e. HasBatchRefusal s u es plan found block k.wanted all e ⊎ AreGiven alone s u calls (IsBatchRead (Contains (units_in tasks))) k.exchanges))
+        → IfErr o (HasOutcomeCause s u es plan found block calls k.wanted k.exchanges) → IfErr o (FailedBeside s u es q calls)
+        → IfErr o (λ e. HasBatchRefusal s u es plan found block k.wanted k.exchanges e ⊎ AreGiven alone s u calls (IsBatchRead (Contains (units_in tasks))) k.exchanges)
         → Outcomed tells alone s u es q plan block o
-    outcomed o none counted all_called all_passed down answer read cause in_turn =
+    outcomed o none counted all_called all_passed down answer read cause own_failure in_turn =
         let both = gained_both tells s t u c.exchanges k.exchanges c.gained k.went.gained in
         record {
           found = found;
@@ -213,8 +210,9 @@ module _ (tells alone : Bool) (s t u : List Seen) (a : AllTell tells s) (b : All
           faultless = read;
           runs = λ graphs tell is its serve down agrees. runs_for r graphs tell is its serve down agrees (behind_them graphs tell);
           answer = answer;
-          cause = cause both.all (λ x m. Contains-permutation (c.exchanges ++ k.exchanges) both.all x both.same (Contains-append_right c.exchanges k.exchanges x m));
-          in_turn = in_turn both.all (λ x m. Contains-permutation (c.exchanges ++ k.exchanges) both.all x both.same (Contains-append_right c.exchanges k.exchanges x m));
+          cause = cause;
+          own_failure = own_failure;
+          in_turn = in_turn;
         }
 
 -- ---- what goes before

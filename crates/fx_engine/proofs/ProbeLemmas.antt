@@ -1,24 +1,28 @@
 -- What one reply to the ASK of a probe tells, or why there is no answer.
-use Rattle.std.proofs.Common.{◌≡◌, ◌∙◌, ap, sym, subst, refl, ℕ, zero, suc, ◌<◌, ◌≤◌, Bool, true, false, List, [], ◌∷◌, ◌++◌, map, Some, All, Contains, cond, length, ltb, slice_get, inl, inr, ◌⊎◌, arith}
+use Rattle.std.proofs.Common.{◌≡◌, ◌∙◌, ap, sym, subst, refl, ℕ, zero, suc, ◌<◌, ◌≤◌, Bool, true, false, List, [], ◌∷◌, ◌++◌, map, Some, All, Contains, IsPermutation, cond, length, ltb, slice_get, inl, inr, ◌⊎◌, arith}
 use Rattle.std.specs.List.{AllByRecursion, zip}
 use Rattle.std.proofs.lemmas.List.Elements.{All-append, All-contains, All-from_recursion, All-nil, Contains-append_left, Contains-append_right}
+use Rattle.std.proofs.lemmas.List.Sorted.{IsPermutation-refl}
 use Rattle.std.proofs.lemmas.Slice.Eq.{bytes_eq-Decides}
 use Rattle.fx_terms.specs.declared.triples.Triple.{Triple}
 use Rattle.fx_terms.proofs.SetLemmas.{Among, contains_from}
 use Rattle.fx_outside.specs.Endpoints.{EndpointParts}
 use Rattle.fx_algebra.specs.Units.{fits, graph_of}
 use Rattle.fx_algebra.specs.declared.answers.Answer.TheVariants.{Truth}
+use Rattle.fx_http.specs.Requests.{request_of}
 use Rattle.fx_http.specs.declared.replies.ReplyError.TheVariants.{TooLong}
 use Rattle.fx_spelling.specs.Printable.{IsTriple}
 use Rattle.fx_keys.specs.declared.probes.Probe.{Probe}
 use Rattle.fx_sources.specs.Sources.{ask_text}
 use Rattle.fx_sources.specs.Sources as source
 use Rattle.fx_traffic.specs.Gains.{Tell, TellAll, faults_at}
-use Rattle.fx_traffic.specs.Sent.{Sent}
+use Rattle.fx_traffic.specs.Sent.{Sent, Sends}
 use Rattle.fx_traffic.specs.Traffic.{AreAsksSent}
+use Rattle.fx_traffic.proofs.SentLemmas.{sent_laws}
 use Rattle.fx_wire.specs.Exchanges.{Exchange, Seen, exchanged}
 use Rattle.fx_wire.specs.Honest.{IsHonest}
-use Rattle.fx_pool.specs.Jobs.{AreDone, AreWanted, IsBadReply, IsDone, failures_at, is_at, is_failure}
+use Rattle.fx_pool.specs.Jobs.{AreDone, AreWanted, IsBadReply, IsDone, IsReplyTo, failures_at, is_at, is_failure}
+use Rattle.fx_pool.specs.Posting.{IsPosted, exchanges_of}
 use Rattle.fx_pool.specs.Reading.{an_ask, HasFault, HasResults}
 use Rattle.fx_pool.specs.Runs.{IsHonestOver}
 use Rattle.fx_pool.specs.declared.faults.ReplyFault.TheVariants.{Http}
@@ -26,6 +30,8 @@ use Rattle.fx_flows.specs.declared.flows.FlowError.{FlowError}
 use Rattle.fx_pool.specs.declared.jobs.BadReply.{BadReply}
 use Rattle.fx_pool.specs.declared.jobs.JobReply.{JobReply}
 use Rattle.fx_pool.specs.declared.jobs.JobReply.TheVariants as reply
+use Rattle.fx_pool.specs.declared.posting.Posted.{Posted}
+use Rattle.fx_pool.specs.declared.posting.Posted.TheVariants as posted
 use Rattle.fx_pool.proofs.AskJobLemmas.{IsReplied, bad_replied, no_table, none_found, too_long, truth_replied}
 use Rattle.fx_pool.proofs.FaultLemmas.{long_truth, truth_faultless}
 use Rattle.fx_engine.specs.AskSteps.{IsForAsk, IsRefusal, job_of}
@@ -176,6 +182,69 @@ module _ (es : List EndpointParts) where
     told es p h.0 all (λ x m. more x (front_among xs h.0 h.1 h.2 x m)) wires honest triples.0 t h.3 graphs tells,
     all_told wires graphs tells ps truths h.1 all (λ x m. more x (back_among xs h.0 h.1 h.2 x m)) honest triples.1 h.4,
   )
+
+  -- ---- what was sent, and what is left
+
+  abbrev pub ask_for : EndpointParts → Probe → Sent
+  ask_for e p = record { at = e; request = request_of e (ask_text p.key.pattern) }
+
+  record SplitOne (e : EndpointParts) (p : Probe) (r : JobReply) (own : List Exchange) : Type 0 where
+    left : List Sent
+    sent : Sends (ask_for e p ∷ []) left own
+    unsent : r ≡ reply.Failed → Contains left (ask_for e p)
+
+  nothing_sent : (e : EndpointParts) (p : Probe) (r : JobReply) (own : List Exchange) → own ≡ [] → SplitOne e p r own
+  nothing_sent e p r own none = record {
+    left = ask_for e p ∷ [];
+    sent = subst (Sends (ask_for e p ∷ []) (ask_for e p ∷ [])) (sym none) (IsPermutation-refl (ask_for e p ∷ []));
+    unsent = λ is. contains_from (ask_for e p ∷ []) (ask_for e p) (inl refl);
+  }
+
+  split_one : (e : EndpointParts) (p : Probe) (r : JobReply) (own : List Exchange) (by : Posted) → IsPosted e (ask_text p.key.pattern) by → IsReplyTo (job_of p).work by r → own ≡ exchanges_of e by → SplitOne e p r own
+  split_one e p r own (posted.Replied request bytes) sent told is = record {
+    left = [];
+    sent =
+        subst (λ (v : List Exchange). Sends (ask_for e p ∷ []) [] v) (sym is)
+        (subst (λ (v : List ℕ). IsPermutation (record { at = e; request = v } ∷ []) (ask_for e p ∷ [])) (sym sent.exact) (IsPermutation-refl (ask_for e p ∷ [])));
+    unsent = λ same. absurd (subst (IsReplyTo (job_of p).work (posted.Replied request bytes)) same told);
+  }
+  split_one e p r own posted.Failed sent told is = nothing_sent e p r own is
+  split_one e p r own (posted.TooLong size) sent told is = nothing_sent e p r own is
+
+  pub record SplitAsks (ps : List Probe) (rs : List JobReply) (xs : List Exchange) : Type 0 where
+    pub wanted : List Sent
+    pub left : List Sent
+    pub texts : AreAsksSent es ps wanted
+    pub sent : Sends wanted left xs
+    pub unsent : (p : Probe) (e : EndpointParts) → Among (p, reply.Failed) (zip ps rs) → slice_get es p.at ≡ Some e → Contains left (ask_for e p)
+
+  -- the ASK of each probe whose exchange failed is left
+  pub split_asks : (ps : List Probe) (rs : List JobReply) (xs : List Exchange) → AreDone es (map job_of ps) rs xs → SplitAsks ps rs xs
+  split_asks [] [] xs h = record { wanted = []; left = []; texts = refl; sent = subst (Sends [] []) (sym h) (IsPermutation-refl []); unsent = λ p e m found. absurd m }
+  split_asks [] (r ∷ rs) xs h = absurd h
+  split_asks (p ∷ ps) [] xs h = absurd h
+  split_asks (p ∷ ps) (r ∷ rs) xs h =
+      let d = h.3 in
+      let one = split_one d.endpoint p r h.0 d.posted d.sent d.told d.exchanged in
+      let rest = split_asks ps rs h.1 h.4 in
+      let all : List Sent = one.left ++ rest.left in
+      record {
+        wanted = ask_for d.endpoint p ∷ rest.wanted;
+        left = all;
+        texts = (record { member = d.found; posted = refl }, rest.texts);
+        sent = subst (Sends (ask_for d.endpoint p ∷ rest.wanted) all) (sym h.2) (sent_laws.together (ask_for d.endpoint p ∷ []) one.left rest.wanted rest.left h.0 h.1 one.sent rest.sent);
+        unsent = λ q e m found. left_of q e m found d one rest.left rest.unsent;
+      }
+    where
+      left_of : (q : Probe) (e : EndpointParts) → Among (q, reply.Failed) (zip (p ∷ ps) (r ∷ rs)) → slice_get es q.at ≡ Some e → (d : IsDone es (job_of p) r h.0) (one : SplitOne d.endpoint p r h.0) (more : List Sent)
+          → ((q : Probe) (e : EndpointParts) → Among (q, reply.Failed) (zip ps rs) → slice_get es q.at ≡ Some e → Contains more (ask_for e q)) → Contains (one.left ++ more) (ask_for e q)
+      left_of q e (inl same) found d one more behind =
+          let probe_is : p ≡ q = ap (λ (z : Probe × JobReply). z.0) same in
+          let both : Some d.endpoint ≡ Some e = sym d.found ∙ ap (λ (z : Probe). slice_get es z.at) probe_is ∙ found in
+          let endpoint_is : d.endpoint ≡ e = cc in
+          let own : Contains (one.left ++ more) (ask_for d.endpoint p) = Contains-append_left one.left more (ask_for d.endpoint p) (one.unsent (ap (λ (z : Probe × JobReply). z.1) same)) in
+          subst (λ (v : Probe). Contains (one.left ++ more) (ask_for e v)) probe_is (subst (λ (v : EndpointParts). Contains (one.left ++ more) (ask_for v p)) endpoint_is own)
+      left_of q e (inr m) found d one more behind = Contains-append_right one.left more (ask_for e q) (behind q e m found)
 
   -- ---- one of them
 

@@ -10,23 +10,26 @@ use Rattle.fx_algebra.specs.Graphs.{union}
 use Rattle.fx_algebra.specs.Solutions.{Bindings}
 use Rattle.fx_algebra.specs.declared.answers.Answer.{Answer}
 use Rattle.fx_algebra.specs.declared.queries.Query.{Query}
+use Rattle.fx_algebra.specs.declared.units.Unit as unit
 use Rattle.fx_algebra.proofs.CutLemmas.{seeds_for_each}
 use Rattle.fx_algebra.proofs.MemberLemmas.{among_map, among_right}
 use Rattle.fx_grammar.specs.Accepted.{Accepted}
 use Rattle.fx_plan.specs.declared.parts.Part.{Part}
 use Rattle.fx_flows.specs.Flows.{IsBatchRead}
+use Rattle.fx_flows.specs.RunFlows.{HasFlowCause}
 use Rattle.fx_flows.specs.declared.flows.FlowError.{FlowError}
 use Rattle.fx_flows.specs.declared.flows.FlowError.TheVariants as flow
 use Rattle.fx_pool.specs.declared.jobs.BadReply.{BadReply}
 use Rattle.fx_traffic.specs.Gains.{faults_at}
+use Rattle.fx_traffic.specs.Sent.{Sent}
 use Rattle.fx_traffic.proofs.GainLemmas.{gain_laws}
 use Rattle.fx_wire.specs.Exchanges.{Exchange, Seen}
 use Rattle.fx_engine.specs.AnswersAsked.{AnswerDue, AnswerGiven}
 use Rattle.fx_engine.specs.Asked.{Asked}
-use Rattle.fx_engine.specs.Calls.{Call, HasFirstRefused, IsPassed, down_in, failed, failure_of, failures_at, occurrences}
+use Rattle.fx_engine.specs.Calls.{AreAllKnown, Call, HasFirstRefused, IsPassed, down_in, failed, failure_of, failures_at, occurrences}
 use Rattle.fx_engine.specs.GroupsAsked.{units_in}
 use Rattle.fx_engine.specs.Invocations.{AreInvoked, AreLost, Calling, IsAt, IsStopped}
-use Rattle.fx_engine.specs.Mediation.{IsNamed}
+use Rattle.fx_engine.specs.Mediation.{FailedBeside, IsNamed}
 use Rattle.fx_services.specs.Noted.{cause_of, places}
 use Rattle.fx_engine.specs.Outcomes.{HasBatchRefusal, HasRefusal, IsPlacedAt, IsTold, Outcomed}
 use Rattle.fx_engine.specs.Tasks.{tasks_with}
@@ -42,8 +45,8 @@ use Rattle.fx_services.specs.declared.services.ServiceError.TheVariants as error
 use Rattle.fx_engine.specs.declared.tasks.RowsError.{RowsError}
 use Rattle.fx_engine.specs.declared.tasks.RowsError.TheVariants as rows_error
 use Rattle.fx_engine.proofs.AskedLemmas.{flow_cause_behind, unasked}
-use Rattle.fx_engine.proofs.CallLemmas.{failures_behind}
-use Rattle.fx_engine.proofs.ChoiceLemmas.{get_below}
+use Rattle.fx_engine.proofs.CallLemmas.{failures_behind, passed_known}
+use Rattle.fx_engine.proofs.ChoiceLemmas.{get_below, its_name}
 use Rattle.fx_services.proofs.WentLemmas.{found_here}
 use Rattle.fx_engine.proofs.KnownLemmas.{plain_is_known}
 use Rattle.fx_engine.proofs.OutcomeLemmas.{its_answer, none_but_theirs, outcomed}
@@ -53,6 +56,24 @@ use Rattle.fx_pool.proofs.WiresLemmas.{AllTell}
 -- what was asked for where it came to a refusal
 abbrev pub refused_as_told : List EndpointParts → Query → List Part → List (List Bindings) → ℕ → Bool → Bool → List Seen → List Seen → RowsError → Type 0
 refused_as_told es q plan found block tells alone before after why = Asked {X = Answer} tells alone before after es (tasks_with plan found) block (AnswerGiven es block (tasks_with plan found) q) (AnswerDue es block (tasks_with plan found) q) (Err why)
+
+-- ---- a batch failed beside the occurrences
+
+-- the faults of its endpoint rose behind those that were counted at the occurrences
+failed_beside : (s t u : List Seen) (es : List EndpointParts) (q : Query) (block : ℕ) (us : List unit.Unit) (wanted : List Sent) (xs : List Exchange) (calls : List Call) → ((address : List ℕ) → faults_at s address + failures_at address calls ≤ faults_at t address)
+    → AreAllKnown calls (occurrences q) → (why : FlowError) (e : FedError) → HasFlowCause t u es us block wanted xs why → IsNamed es why e → FailedBeside s u es q calls e
+failed_beside s t u es q block us wanted xs calls counted known (flow.Member at) (fed.Member name) k n =
+    let low : faults_at s k.endpoint.iri + failures_at k.endpoint.iri calls ≤ faults_at t k.endpoint.iri = counted k.endpoint.iri in
+    let rose : faults_at t k.endpoint.iri < faults_at u k.endpoint.iri = k.cause in
+    (known, (k.endpoint, found_here es k.at k.endpoint k.found, its_name es k.at at k.endpoint name k.named k.found n, omega (arith, low, rose)))
+failed_beside s t u es q block us wanted xs calls counted known (flow.BadReply at bad) (fed.Member name) k n = absurd n
+failed_beside s t u es q block us wanted xs calls counted known (flow.RequestTooLong at size) (fed.Member name) k n = absurd n
+failed_beside s t u es q block us wanted xs calls counted known flow.Memory (fed.Member name) k n = absurd n
+failed_beside s t u es q block us wanted xs calls counted known why (fed.Service iri) k n = tt
+failed_beside s t u es q block us wanted xs calls counted known why (fed.BadReply name bad) k n = tt
+failed_beside s t u es q block us wanted xs calls counted known why (fed.RequestTooLong name size) k n = tt
+failed_beside s t u es q block us wanted xs calls counted known why (fed.UnknownService iri) k n = tt
+failed_beside s t u es q block us wanted xs calls counted known why fed.Memory k n = tt
 
 module _ (tells alone : Bool) (s t u : List Seen) (a : AllTell tells s) (b : AllTell tells t) (es : List EndpointParts) (q : Query) (text : List ℕ) (accepted : Accepted text q) (plan : List Part) (block : ℕ) (found : List (List Bindings)) where
   abbrev Came : Result Answer RowsError → Type 0
@@ -83,13 +104,15 @@ module _ (tells alone : Bool) (s t u : List Seen) (a : AllTell tells s) (b : All
         (λ graphs tell is its serve.
         same
         ∙ its_answer tells alone s t u a b es q text accepted plan block found i.calls [] i.passed i.rows_are its_calling (inr are_all) (Ok answer) k answer refl graphs tell is its serve
-        ∙ ap (λ (v : List Down). answer_of q (union graphs) its (places v)) (sym is_down)) k.faultless (λ all among. tt) (λ all among. tt)
+        ∙ ap (λ (v : List Down). answer_of q (union graphs) its (places v)) (sym is_down)) k.faultless tt tt tt
 
     pub all_refused : (why : FlowError) (e : FedError) (k : Came (Err (rows_error.Flow why))) → IsNamed es why e → Outcomed tells alone s u es q plan block (Err e)
     all_refused why e k n =
-        let refused : (all : List Exchange) → ((x : Exchange) → Contains k.exchanges x → Contains all x) → HasBatchRefusal s u es plan found block k.wanted all e =
-        λ all among. (why, flow_cause_behind s t u i.calling.after_all k.exchanges all among es (units_in (tasks_with plan found)) block [] k.wanted why k.cause, n) in
-        outcomed tells alone s t u a b es q text accepted plan block found i.calls [] i.passed i.rows_are its_calling (inr are_all) (Err (rows_error.Flow why)) k (Err e) tt tt tt tt tt tt tt (λ all among. inl (refused all among)) (λ all among. inl (refused all among))
+        let refused : HasBatchRefusal s u es plan found block k.wanted k.exchanges e =
+        (why, flow_cause_behind s t u i.calling.after_all k.exchanges k.exchanges (λ x m. m) es (units_in (tasks_with plan found)) block [] k.wanted why k.cause, n) in
+        let known : AreAllKnown calls (occurrences q) = record { are = are_all; known = passed_known calls (subst (All IsPassed) (sym same_calls) i.passed) } in
+        outcomed tells alone s t u a b es q text accepted plan block found i.calls [] i.passed i.rows_are its_calling (inr are_all) (Err (rows_error.Flow why)) k (Err e) tt tt tt tt tt tt tt (inl refused)
+        (failed_beside s t u es q block (units_in (tasks_with plan found)) k.wanted k.exchanges calls its_calling.counted known why e k.cause n) (inl refused)
 
   -- ---- one was refused
 
@@ -153,11 +176,26 @@ module _ (tells alone : Bool) (s t u : List Seen) (a : AllTell tells s) (b : All
     refusal_so (error.TooLong at size) (fed.BadReply name other) low same told = absurd told
     refusal_so (error.TooLong at size) (fed.UnknownService iri) low same told = absurd told
 
+    known_all : AreAllKnown their_calls (occurrences q)
+    known_all = record { are = h.are; known = h.known }
+
+    -- so no endpoint is named as failed
+    told_beside : (w : ServiceError) (fe : FedError) → IsTold es w fe → FailedBeside s u es q their_calls fe
+    told_beside (error.Failed at) (fed.Member name) told = absurd told
+    told_beside (error.Bad at bad) (fed.Member name) told = absurd told
+    told_beside (error.TooLong at size) (fed.Member name) told = absurd told
+    told_beside error.Unknown (fed.Member name) told = absurd told
+    told_beside w (fed.Service iri) told = tt
+    told_beside w (fed.BadReply name bad) told = tt
+    told_beside w (fed.RequestTooLong name size) told = tt
+    told_beside w (fed.UnknownService iri) told = tt
+    told_beside w fed.Memory told = tt
+
     told_refused : (v : Result Answer RowsError) (k : Came v) → k.failed ≡ 0 → All (IsBatchRead (Contains (units_in (tasks_with plan found)))) k.exchanges → (fe : FedError) → IsTold es e fe → Outcomed tells alone s u es q plan block (Err fe)
     told_refused v k none read fe told =
         outcomed tells alone s t u a b es q text accepted plan block found h.front (h.refused ∷ h.behind) h.passed h.rows_are h.calling (inr h.are) v k (Err fe) tt tt tt tt tt tt tt
-        (λ all among. inr (refusal_so e fe (λ address. gain_laws.never_fall t u address k.went.after_all) refl told))
-        (λ all among. inr (record { read = read; exact = λ is. none_but_theirs tells alone s t u a b es q text accepted plan block found h.front (h.refused ∷ h.behind) h.passed h.rows_are h.calling (inr h.are) v k none h.exact is }))
+        (inr (refusal_so e fe (λ address. gain_laws.never_fall t u address k.went.after_all) refl told)) (told_beside e fe told)
+        (inr (record { read = read; exact = λ is. none_but_theirs tells alone s t u a b es q text accepted plan block found h.front (h.refused ∷ h.behind) h.passed h.rows_are h.calling (inr h.are) v k none h.exact is }))
 
     -- it was come to behind the runs before it, or these were all of them
     pub told_behind : (k : Came (Err rows_error.Refused)) (fe : FedError) → IsTold es e fe → Outcomed tells alone s u es q plan block (Err fe)
@@ -168,9 +206,10 @@ module _ (tells alone : Bool) (s t u : List Seen) (a : AllTell tells s) (b : All
 
     pub run_refused : (why : FlowError) (fe : FedError) (k : Came (Err (rows_error.Flow why))) → IsNamed es why fe → Outcomed tells alone s u es q plan block (Err fe)
     run_refused why fe k n =
-        let refused : (all : List Exchange) → ((x : Exchange) → Contains k.exchanges x → Contains all x) → HasBatchRefusal s u es plan found block k.wanted all fe =
-        λ all among. (why, flow_cause_behind s t u h.calling.after_all k.exchanges all among es (units_in (tasks_with plan found)) block [] k.wanted why k.cause, n) in
-        outcomed tells alone s t u a b es q text accepted plan block found h.front (h.refused ∷ h.behind) h.passed h.rows_are h.calling (inr h.are) (Err (rows_error.Flow why)) k (Err fe) tt tt tt tt tt tt tt (λ all among. inl (refused all among)) (λ all among. inl (refused all among))
+        let refused : HasBatchRefusal s u es plan found block k.wanted k.exchanges fe =
+        (why, flow_cause_behind s t u h.calling.after_all k.exchanges k.exchanges (λ x m. m) es (units_in (tasks_with plan found)) block [] k.wanted why k.cause, n) in
+        outcomed tells alone s t u a b es q text accepted plan block found h.front (h.refused ∷ h.behind) h.passed h.rows_are h.calling (inr h.are) (Err (rows_error.Flow why)) k (Err fe) tt tt tt tt tt tt tt (inl refused)
+        (failed_beside s t u es q block (units_in (tasks_with plan found)) k.wanted k.exchanges their_calls h.calling.counted known_all why fe k.cause n) (inl refused)
 
 -- ---- memory ran out while they were invoked
 
@@ -181,7 +220,7 @@ lost_outcomed tells alone s t a b es q text accepted plan block h =
     let k : Asked tells alone t t es tasks block (AnswerGiven es block tasks q) (AnswerDue es block tasks q) (Err (rows_error.Flow flow.Memory)) =
     unasked tells alone es tasks block (AnswerGiven es block tasks q) (AnswerDue es block tasks q) t
     (λ graphs served is right. no_run_sent es graphs block (stations q) (seeds q (union graphs) served.graphs served.down) (seeds_for_each q (union graphs) served.graphs served.down)) in
-    outcomed tells alone s t t a b es q text accepted plan block [] [] h.calls (All-nil IsPassed) refl h.calling h.called (Err (rows_error.Flow flow.Memory)) k (Err fed.Memory) tt tt tt tt tt tt tt (λ all among. inr tt) (λ all among. inl (flow.Memory, tt, tt))
+    outcomed tells alone s t t a b es q text accepted plan block [] [] h.calls (All-nil IsPassed) refl h.calling h.called (Err (rows_error.Flow flow.Memory)) k (Err fed.Memory) tt tt tt tt tt tt tt (inr tt) tt (inl (flow.Memory, tt, tt))
 
 -- ---- the number in a reason
 

@@ -71,8 +71,23 @@ abbrev pub HasProbeCause : List Seen → List Seen → List EndpointParts → Li
 HasProbeCause before after endpoints probes xs flow.Memory = Unit {0}
 HasProbeCause before after endpoints probes xs e = IsProbeCause before after endpoints probes xs e
 
+-- the ASK of one of these probes for an endpoint was wanted, and is among what is left
+pub record HasAskLeft (endpoints : List EndpointParts) (probes : List Probe) (left : List Sent) (e : EndpointParts) : Type 0 where
+  pub probe : Probe
+  pub among : Contains probes probe
+  pub found : slice_get endpoints probe.at ≡ Some e
+  pub unsent : Contains left (record { at = e; request = request_of e (ask_text probe.key.pattern) })
+
+-- where a refusal says that an exchange failed, the faults of its endpoint rose, and one of the ASKs for it is left
+abbrev pub HasFailedAsk : List Seen → List Seen → List EndpointParts → List Probe → List Sent → FlowError → Type 0
+HasFailedAsk before after endpoints probes left (flow.Member at) =
+    (e : EndpointParts) × (slice_get endpoints at ≡ Some e) × (faults_at before e.iri < faults_at after e.iri) × HasAskLeft endpoints probes left e
+HasFailedAsk before after endpoints probes left (flow.BadReply at bad) = Unit {0}
+HasFailedAsk before after endpoints probes left (flow.RequestTooLong at size) = Unit {0}
+HasFailedAsk before after endpoints probes left flow.Memory = Unit {0}
+
 -- Probes were asked for over wires: what was exchanged, which of the probes' ASKs that is, each once, and their answers, which tell whether the
--- keys fit where the graphs of the endpoints are told.
+-- keys fit where the graphs of the endpoints are told. Where an exchange failed the ASK is left.
 pub record AskedAll (tells alone : Bool) (before after : List Seen) (endpoints : List EndpointParts) (probes : List Probe) (result : Result (List Bool) FlowError) : Type 0 where
   pub exchanges : List Exchange
   pub gained : IsTrue tells → HaveGained before after exchanges
@@ -90,3 +105,4 @@ pub record AskedAll (tells alone : Bool) (before after : List Seen) (endpoints :
   pub answered : IfOk result (λ truths. All (IsAnsweredBy endpoints exchanges) (zip probes truths))
   pub told : IfOk result (λ truths. (graphs : List (List Triple)) → TellAll before endpoints graphs → All (source.Tells graphs) (zip probes truths))
   pub cause : IfErr result (HasProbeCause before after endpoints probes exchanges)
+  pub failed : IfErr result (HasFailedAsk before after endpoints probes left)

@@ -52,9 +52,19 @@ Passes silent lost = ⊥
 abbrev pub IsPassed : Call → Type 0
 IsPassed c = Passes c.of.silent c.came
 
+-- it has rows, or there is a reason why it has none
+abbrev pub HasEnded : Came → Type 0
+HasEnded (told rows) = Unit {0}
+HasEnded (failed why) = Unit {0}
+HasEnded lost = ⊥
+
 -- it was refused: it isn't silent, and there is a reason why it has no rows
 abbrev pub IsRefused : Call → Type 0
 IsRefused c = (c.of.silent ≡ false) × ((why : DownCause) × (c.came ≡ failed why))
+
+-- what it came to is known: memory didn't run out
+abbrev pub IsKnown : Call → Type 0
+IsKnown c = HasEnded c.came
 
 -- the rows of an occurrence behind which the query goes on: the one empty solution where there is a reason why there are none
 abbrev pub came_rows : Came → List Bindings
@@ -135,6 +145,11 @@ abbrev pub AreCalls : List Seen → List EndpointParts → List Call → List Ex
 AreCalls before endpoints [] xs = xs ≡ []
 AreCalls before endpoints (c ∷ cs) xs =
     (own : List Exchange) × (rest : List Exchange) × (xs ≡ own ++ rest) × HasComeTo before endpoints c.of.iri c.of.group c.came own × IsSentFor endpoints c.of own × AreCalls before endpoints cs rest
+
+-- all of these occurrences were invoked, in their order, and of each it is known what it came to
+pub record AreAllKnown (calls : List Call) (all : List Occurrence) : Type 0 where
+  pub are : map (λ c. c.of) calls ≡ all
+  pub known : All IsKnown calls
 
 -- all of these occurrences were invoked, in their order, or none was
 abbrev pub AreAllOrNone : List Call → List Occurrence → Type 0

@@ -15,7 +15,7 @@ use Rattle.fx_services.specs.declared.beside.Settled.{Settled}
 use Rattle.fx_services.specs.declared.noted.Down.{Down}
 use Rattle.fx_services.specs.declared.services.ServiceError.{ServiceError}
 use Rattle.fx_services.specs.declared.services.ServiceError.TheVariants as error
-use Rattle.fx_engine.specs.Calls.{AreAllOrNone, AreCalls, Call, IsPassed, down_in, failed, failures_at, occurrence_in, rows_of}
+use Rattle.fx_engine.specs.Calls.{AreAllOrNone, AreCalls, Call, IsKnown, IsPassed, down_in, failed, failures_at, occurrence_in, rows_of}
 use Rattle.fx_engine.specs.SectionSteps.{group_of, part_of}
 
 -- ---- the occurrences in a group
@@ -78,6 +78,7 @@ pub record IsStopped (tells alone : Bool) (before after : List Seen) (endpoints 
   pub plain : refused.of.silent ≡ false
   pub came : refused.came ≡ failed (cause_of why)
   pub at : IsAt endpoints refused.of.iri why
+  pub known : All IsKnown (front ++ refused ∷ behind)
   pub calling : Calling tells alone before after endpoints (front ++ refused ∷ behind)
   pub exact : IsTrue alone → (address : List ℕ) → faults_at after address ≡ faults_at before address + failures_at address (front ++ refused ∷ behind)
 

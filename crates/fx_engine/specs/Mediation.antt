@@ -28,8 +28,8 @@ use Rattle.fx_traffic.specs.Gains.{AreAfter, HaveGained, Tell, TellAll, faults_a
 use Rattle.fx_traffic.specs.Sent.{Sent, Sends}
 use Rattle.fx_traffic.specs.Traffic.{AreAsked, IsTraffic}
 use Rattle.fx_wire.specs.Exchanges.{Exchange, Seen}
-use Rattle.fx_engine.specs.Asks.{IsAnsweredBy, IsAskRead, IsBadAsk, IsLongAsk}
-use Rattle.fx_engine.specs.Calls.{AgreesWith, AreAllOrNone, AreCalls, Call, HasFirstRefused, IsPassed, IsRefused, down_in, failures_at, occurrences}
+use Rattle.fx_engine.specs.Asks.{HasAskLeft, IsAnsweredBy, IsAskRead, IsBadAsk, IsLongAsk}
+use Rattle.fx_engine.specs.Calls.{AgreesWith, AreAllKnown, AreAllOrNone, AreCalls, Call, HasFirstRefused, IsPassed, IsRefused, down_in, failures_at, occurrences}
 use Rattle.fx_services.specs.Noted.{places}
 use Rattle.fx_engine.specs.Order.{AreGiven, AsksComeFirst, patterns_before}
 use Rattle.fx_engine.specs.RunsSent.{AreRunsSent}
@@ -102,7 +102,8 @@ HasPlanCause before after endpoints q entries xs (fed.UnknownService iri) = (aft
 HasPlanCause before after endpoints q entries xs fed.Memory = Unit {0}
 
 -- Why there is no answer: such a cause; or so it is of a batch of no more rows than so many, of a run before each occurrence of SERVICE that was refused; or the first of these
--- occurrences that was refused, before which all passed, has no rows for that reason, at the endpoint that has its IRI as its address.
+-- occurrences that was refused, before which all passed, has no rows for that reason, at the endpoint that has its IRI as its address. The exchanges are those
+-- beside the occurrences' own. Where a SERVICE is unknown none was invoked.
 abbrev pub HasFedCause : List Seen → List Seen → List EndpointParts → Query → List Entry → List Call → List Call → List Sent → List Exchange → ℕ → FedError → Type 0
 HasFedCause before after endpoints q entries calls plain texts xs block (fed.Member name) = (0 < length (patterns q)) × AtNamed endpoints name (λ e. faults_at before e.iri < faults_at after e.iri)
 HasFedCause before after endpoints q entries calls plain texts xs block (fed.Service iri) =
@@ -111,8 +112,28 @@ HasFedCause before after endpoints q entries calls plain texts xs block (fed.Bad
     AtNamed endpoints name (λ e. HasBadAsk before endpoints q entries e xs bad ⊎ (HasBadBatch before endpoints q calls block e xs bad ⊎ HasFirstRefused plain (cause.Bad bad) e.iri))
 HasFedCause before after endpoints q entries calls plain texts xs block (fed.RequestTooLong name size) =
     AtNamed endpoints name (λ e. HasLongAsk endpoints q entries e size ⊎ (HasLongBatch endpoints q calls block e texts size ⊎ HasFirstRefused plain (cause.TooLong size) e.iri))
-HasFedCause before after endpoints q entries calls plain texts xs block (fed.UnknownService iri) = (after ≡ before) × (xs ≡ [])
+HasFedCause before after endpoints q entries calls plain texts xs block (fed.UnknownService iri) = (after ≡ before) × (xs ≡ []) × (calls ≡ [])
 HasFedCause before after endpoints q entries calls plain texts xs block fed.Memory = Unit {0}
+
+-- Where an endpoint is named as failed it is not for an occurrence of SERVICE. Either none was invoked, its faults rose, and one of the ASKs for it that the entries lack is
+-- left of what was wanted.
+abbrev pub FailedAtAsk : List Seen → List Seen → List EndpointParts → Query → List Entry → List Call → List Sent → FedError → Type 0
+FailedAtAsk before after endpoints q entries calls left (fed.Member name) =
+    (calls ≡ []) × AtNamed endpoints name (λ e. (faults_at before e.iri < faults_at after e.iri) × HasAskLeft endpoints (missing q (length endpoints) entries) left e)
+FailedAtAsk before after endpoints q entries calls left (fed.Service iri) = Unit {0}
+FailedAtAsk before after endpoints q entries calls left (fed.BadReply name bad) = Unit {0}
+FailedAtAsk before after endpoints q entries calls left (fed.RequestTooLong name size) = Unit {0}
+FailedAtAsk before after endpoints q entries calls left (fed.UnknownService iri) = Unit {0}
+FailedAtAsk before after endpoints q entries calls left fed.Memory = Unit {0}
+
+-- Or all were invoked, of each it is known what it came to, and more faults were counted at its address than occurrences failed there.
+abbrev pub FailedBeside : List Seen → List Seen → List EndpointParts → Query → List Call → FedError → Type 0
+FailedBeside before after endpoints q calls (fed.Member name) = AreAllKnown calls (occurrences q) × AtNamed endpoints name (λ e. faults_at before e.iri + failures_at e.iri calls < faults_at after e.iri)
+FailedBeside before after endpoints q calls (fed.Service iri) = Unit {0}
+FailedBeside before after endpoints q calls (fed.BadReply name bad) = Unit {0}
+FailedBeside before after endpoints q calls (fed.RequestTooLong name size) = Unit {0}
+FailedBeside before after endpoints q calls (fed.UnknownService iri) = Unit {0}
+FailedBeside before after endpoints q calls fed.Memory = Unit {0}
 
 -- the refusal, with the name of the endpoint in place of its number, unless memory ran out
 abbrev pub HasName : List EndpointParts → ℕ → List ℕ → Type 0
@@ -177,7 +198,8 @@ Serve services (e ∷ endpoints) (graph ∷ graphs) = (services e.iri ≡ graph)
 -- occurrences of SERVICE, which were all invoked, each once, or none of them: what each came to, by its own exchanges. The other is ASKs and texts of batches
 -- that were wanted of the query, which where graphs are told are those of its runs; with an answer, each reply there was read without a fault. Together they are the
 -- query's traffic, whichever are down of the occurrences that didn't pass, or stand behind one that didn't. With an answer: all occurrences were invoked, those that have no
--- rows are silent, and are down; and the answer is that over the union of the graphs. Else the cause, which of occurrences is that of the first in text order that was refused. ASKs come first: nothing else was asked for before each had its answer. Batches are wanted of runs before each occurrence that was refused alone, so a batch
+-- rows are silent, and are down; and the answer is that over the union of the graphs. Else the cause, which of occurrences is that of the first in text order that was refused, and of an endpoint is in
+-- the part that isn't for occurrences; one is named as failed for an ASK that is left, or since more exchanges failed there than those with occurrences. ASKs come first: nothing else was asked for before each had its answer. Batches are wanted of runs before each occurrence that was refused alone, so a batch
 -- that is refused is of one of these. And a refusal is that of an occurrence, and of no ASK and no batch, only where all that was asked for beside the occurrences was given. At each address as many faults at least were counted as exchanges with occurrences failed there, and with an answer no other by wires that count each
 -- address alone. And what the cache holds, which stays true of graphs.
 pub record Federated (tells alone : Bool) (before after : List Seen) (endpoints : List EndpointParts) (q : Query) (old new : List Entry) (block : ℕ) (result : Result Outcome FedError) : Type 0 where
@@ -209,9 +231,10 @@ pub record Federated (tells alone : Bool) (before after : List Seen) (endpoints 
   pub answer : IfOk result (λ outcome. (graphs : List (List Triple)) → AreKnown before endpoints old graphs → (services : List ℕ → List Triple) → Serve services endpoints graphs
       → outcome.answer ≡ answer q (union graphs) services (places outcome.down))
   pub known : KnowsServices endpoints q result
-  pub cause : IfErr result (HasFedCause before after endpoints q old calls calls texts exchanges block)
+  pub cause : IfErr result (HasFedCause before after endpoints q old calls calls texts of_others block)
+  pub own_failure : IfErr result (λ e. FailedAtAsk before after endpoints q old calls left e ⊎ FailedBeside before after endpoints q calls e)
   pub asks_first : AsksComeFirst endpoints (missing q (length endpoints) old) calls texts exchanges
-  pub in_turn : IfErr result (λ e. HasFedCause before after endpoints q old calls [] texts exchanges block e ⊎ AreGiven alone before after calls (IsRead endpoints q old) of_others)
+  pub in_turn : IfErr result (λ e. HasFedCause before after endpoints q old calls [] texts of_others block e ⊎ AreGiven alone before after calls (IsRead endpoints q old) of_others)
   pub held : HoldsBehind endpoints q old new exchanges result
   pub stays_true : (graphs : List (List Triple)) → AreKnown before endpoints old graphs → All (source.Tells graphs) new
 

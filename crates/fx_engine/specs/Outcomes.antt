@@ -20,7 +20,7 @@ use Rattle.fx_traffic.specs.Sent.{Sent, Sends}
 use Rattle.fx_wire.specs.Exchanges.{Exchange, Seen}
 use Rattle.fx_engine.specs.Calls.{AgreesWith, AreAllOrNone, AreCalls, Call, HasFirstRefused, IsPassed, IsRefused, down_in, failures_at, occurrences}
 use Rattle.fx_engine.specs.GroupsAsked.{units_in}
-use Rattle.fx_engine.specs.Mediation.{AtNamed, HasName, IsNamed, Serve}
+use Rattle.fx_engine.specs.Mediation.{AtNamed, FailedBeside, HasName, IsNamed, Serve}
 use Rattle.fx_services.specs.Noted.{places}
 use Rattle.fx_engine.specs.Order.{AreGiven}
 use Rattle.fx_engine.specs.RunsSent.{AreRunsSent}
@@ -108,5 +108,6 @@ pub record Outcomed (tells alone : Bool) (before after : List Seen) (endpoints :
       → (down : List ℕ) → AgreesWith down calls → AreRunsSent endpoints graphs block (stations q) (seeds q (union graphs) services down) texts
   pub answer : IfOk result (λ outcome. (graphs : List (List Triple)) → TellAll before endpoints graphs → plan ≡ parts_with (sources graphs) q → (services : List ℕ → List Triple) → Serve services endpoints graphs
       → outcome.answer ≡ answer q (union graphs) services (places outcome.down))
-  pub cause : IfErr result (HasOutcomeCause before after endpoints plan found block calls texts exchanges)
-  pub in_turn : IfErr result (λ e. HasBatchRefusal before after endpoints plan found block texts exchanges e ⊎ AreGiven alone before after calls (IsBatchRead (Contains (units_in (tasks_with plan found)))) of_runs)
+  pub cause : IfErr result (HasOutcomeCause before after endpoints plan found block calls texts of_runs)
+  pub own_failure : IfErr result (FailedBeside before after endpoints q calls)
+  pub in_turn : IfErr result (λ e. HasBatchRefusal before after endpoints plan found block texts of_runs e ⊎ AreGiven alone before after calls (IsBatchRead (Contains (units_in (tasks_with plan found)))) of_runs)

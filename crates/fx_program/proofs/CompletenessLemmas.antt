@@ -1,7 +1,8 @@
 -- That runs come to their ends, from what their commands report.
 use Rattle.std.proofs.Common.{◌≡◌, ◌∙◌, ap, sym, subst, refl, ℕ, zero, suc, ◌≤◌, ◌<◌, ◌⊎◌, List, [], ◌∷◌, All, Option, Some, None, Ok, Err, length, inl, inr, arith}
-use Rattle.std.specs.Prelude.{Contains, slice_get}
-use Rattle.std.proofs.lemmas.List.Elements.{All-contains}
+use Rattle.std.specs.Prelude.{◌++◌, Contains, slice_get}
+use Rattle.std.proofs.lemmas.List.Elements.{All-contains, Contains-append_left}
+use Rattle.std.proofs.lemmas.List.Sorted.{Contains-permutation}
 use Rattle.fx_terms.specs.declared.triples.Triple.{Triple}
 use Rattle.fx_outside.specs.Doors.{DoorSeen}
 use Rattle.fx_outside.specs.Endpoints.{EndpointParts}
@@ -198,21 +199,26 @@ no_long_batch es texts u rows at e size short member found allowed long =
 -- ---- `query`
 
 -- a bad reply to an ASK or to a batch, where the graphs are told, is longer than a reply may be
-no_bad_ask : (w : WiresSeen) (es : List EndpointParts) (asked : Query) (graphs : List (List Triple)) (e : EndpointParts) (xs : List Exchange) (bad : BadReply) → TellAll w.before es graphs → HaveGained w.before w.after xs → AreRepliesShort w → HasBadAsk w.before es asked [] e xs bad → ⊥
-no_bad_ask w es asked graphs e xs bad told gained short (p, lacked, is) =
+no_bad_ask : (w : WiresSeen) (es : List EndpointParts) (asked : Query) (graphs : List (List Triple)) (e : EndpointParts) (xs all : List Exchange) (bad : BadReply) → TellAll w.before es graphs → HaveGained w.before w.after all → ((x : Exchange) → Contains xs x → Contains all x) → AreRepliesShort w
+    → HasBadAsk w.before es asked [] e xs bad → ⊥
+no_bad_ask w es asked graphs e xs all bad told gained among short (p, lacked, is) =
     let g = graph_told w.before es graphs p.at e told lacked.found in
-    no_long_reply w xs (exchanged e bad.request bad.reply) gained short is.exchanged_so (is.long g.0 g.1).1
+    let x = exchanged e bad.request bad.reply in
+    no_long_reply w all x gained short (among x is.exchanged_so) (is.long g.0 g.1).1
 
-no_bad_batch : (w : WiresSeen) (es : List EndpointParts) (asked : Query) (calls : List Call) (graphs : List (List Triple)) (block : ℕ) (e : EndpointParts) (xs : List Exchange) (bad : BadReply) → TellAll w.before es graphs → HaveGained w.before w.after xs → AreRepliesShort w → HasBadBatch w.before es asked calls block e xs bad → ⊥
-no_bad_batch w es asked calls graphs block e xs bad told gained short is =
+no_bad_batch : (w : WiresSeen) (es : List EndpointParts) (asked : Query) (calls : List Call) (graphs : List (List Triple)) (block : ℕ) (e : EndpointParts) (xs all : List Exchange) (bad : BadReply) → TellAll w.before es graphs → HaveGained w.before w.after all → ((x : Exchange) → Contains xs x → Contains all x) → AreRepliesShort w
+    → HasBadBatch w.before es asked calls block e xs bad → ⊥
+no_bad_batch w es asked calls graphs block e xs all bad told gained among short is =
     let g = graph_told w.before es graphs is.asked.at e told is.asked.found in
-    no_long_reply w xs (exchanged e bad.request bad.reply) gained short is.is_bad.exchanged_so (is.is_bad.long g.0 g.1).1
+    let x = exchanged e bad.request bad.reply in
+    no_long_reply w all x gained short (among x is.is_bad.exchanged_so) (is.is_bad.long g.0 g.1).1
 
-no_bad_reply : (w : WiresSeen) (es : List EndpointParts) (asked : Query) (graphs : List (List Triple)) (block : ℕ) (e : EndpointParts) (calls : List Call) (texts : List Sent) (xs : List Exchange) (bad : BadReply) → TellAll w.before es graphs → HaveGained w.before w.after xs → AreRepliesShort w → AllIsWell es calls texts
+no_bad_reply : (w : WiresSeen) (es : List EndpointParts) (asked : Query) (graphs : List (List Triple)) (block : ℕ) (e : EndpointParts) (calls : List Call) (texts : List Sent) (xs all : List Exchange) (bad : BadReply) → TellAll w.before es graphs → HaveGained w.before w.after all → ((x : Exchange) → Contains xs x → Contains all x) → AreRepliesShort w
+    → AllIsWell es calls texts
     → HasBadAsk w.before es asked [] e xs bad ⊎ (HasBadBatch w.before es asked calls block e xs bad ⊎ HasFirstRefused calls (cause.Bad bad) e.iri) → ⊥
-no_bad_reply w es asked graphs block e calls texts xs bad are_told gained short well (inl h) = no_bad_ask w es asked graphs e xs bad are_told gained short h
-no_bad_reply w es asked graphs block e calls texts xs bad are_told gained short well (inr (inl h)) = no_bad_batch w es asked calls graphs block e xs bad are_told gained short h
-no_bad_reply w es asked graphs block e calls texts xs bad are_told gained short well (inr (inr h)) = no_plain es calls (cause.Bad bad) e.iri (λ iri is. is) well.each_harmless h
+no_bad_reply w es asked graphs block e calls texts xs all bad are_told gained among short well (inl h) = no_bad_ask w es asked graphs e xs all bad are_told gained among short h
+no_bad_reply w es asked graphs block e calls texts xs all bad are_told gained among short well (inr (inl h)) = no_bad_batch w es asked calls graphs block e xs all bad are_told gained among short h
+no_bad_reply w es asked graphs block e calls texts xs all bad are_told gained among short well (inr (inr h)) = no_plain es calls (cause.Bad bad) e.iri (λ iri is. is) well.each_harmless h
 
 no_long_text : (w : WiresSeen) (es : List EndpointParts) (asked : Query) (block : ℕ) (calls : List Call) (texts : List Sent) (e : EndpointParts) (size : ℕ) → AreAsksShort es asked → AllIsWell es calls texts
     → HasLongAsk es asked [] e size ⊎ (HasLongBatch es asked calls block e texts size ⊎ HasFirstRefused calls (cause.TooLong size) e.iri) → ⊥
@@ -231,7 +237,9 @@ query_refused w es asked graphs graph_at entries block (fed.Service iri) s is kn
     absurd (none_rose w es given.cause.1.0 well given.cause.1.1 (subst (λ (a : List ℕ). faults_at w.before a < faults_at w.after a) (sym given.cause.1.2) given.cause.2))
 query_refused w es asked graphs graph_at entries block (fed.BadReply name bad) s is known are_told serve given well replies asks texts =
     let all = all_is_well w es asked graphs graph_at entries block (Err (fed.BadReply name bad)) are_told serve given well replies texts in
-    absurd (no_bad_reply w es asked graphs block given.cause.0 given.calls given.texts given.exchanges bad are_told (given.gained well.0) replies all given.cause.3)
+    let among : (x : Exchange) → Contains given.of_others x → Contains given.exchanges x =
+    λ x m. Contains-permutation (given.of_others ++ given.of_calls) given.exchanges x given.parted (Contains-append_left given.of_others given.of_calls x m) in
+    absurd (no_bad_reply w es asked graphs block given.cause.0 given.calls given.texts given.of_others given.exchanges bad are_told (given.gained well.0) among replies all given.cause.3)
 query_refused w es asked graphs graph_at entries block (fed.RequestTooLong name size) s is known are_told serve given well replies asks texts =
     let all = all_is_well w es asked graphs graph_at entries block (Err (fed.RequestTooLong name size)) are_told serve given well replies texts in
     absurd (no_long_text w es asked block given.calls given.texts given.cause.0 size asks all given.cause.3)
@@ -260,7 +268,7 @@ plan_refused : (w : WiresSeen) (es : List EndpointParts) (asked : Query) (graphs
     → Planned w.tells w.alone w.before w.after es asked [] entries (Err e) → AreWell w es → AreRepliesShort w → AreAsksShort es asked → IsDoneOrWant s
 plan_refused w es asked graphs entries (fed.Member name) s is known told fed well replies asks = absurd (none_rose w es fed.cause.1.0 well fed.cause.1.1 fed.cause.1.3)
 plan_refused w es asked graphs entries (fed.Service iri) s is known told fed well replies asks = absurd fed.cause
-plan_refused w es asked graphs entries (fed.BadReply name bad) s is known told fed well replies asks = absurd (no_bad_ask w es asked graphs fed.cause.0 fed.exchanges bad told (fed.gained well.0) replies fed.cause.3)
+plan_refused w es asked graphs entries (fed.BadReply name bad) s is known told fed well replies asks = absurd (no_bad_ask w es asked graphs fed.cause.0 fed.exchanges fed.exchanges bad told (fed.gained well.0) (λ x m. m) replies fed.cause.3)
 plan_refused w es asked graphs entries (fed.RequestTooLong name size) s is known told fed well replies asks = absurd (by_ask fed.cause.3)
   where
     by_ask : HasLongAsk es asked [] fed.cause.0 size → ⊥

@@ -9,4 +9,4 @@ returns-in-Err g c = federated_unasked g.W.Wire.tells_log g.W.Wire.counts_alone 
 pub returns-in-Ok-Some : goal.returns-in-Ok-Some
 returns-in-Ok-Some g c =
     federated_unasked g.W.Wire.tells_log g.W.Wire.counts_alone (map g.W.Wire.seen c.args.wires.now) c.args.registry.now c.args.query.now c.args.cache.now c.args.options.block (fed.UnknownService c.in-Ok-Some.iri)
-    (sym c.in-Ok-Some.ensures ∙ c.in-Ok-Some.field-0-is) (refl, refl)
+    (sym c.in-Ok-Some.ensures ∙ c.in-Ok-Some.field-0-is) (refl, refl, refl)
