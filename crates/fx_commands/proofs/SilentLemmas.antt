@@ -1,10 +1,12 @@
 -- What is down of the occurrences of SERVICE SILENT, and why, from what the members gave.
 use Rattle.std.proofs.Common.{◌≡◌, ◌∙◌, ap, sym, subst, refl, inl, inr, ℕ, suc, ◌+◌, ◌≤◌, Bool, true, false, cond, List, [], ◌∷◌, ◌++◌, map, All, IsTrue, Ok, Err, arith, bytes_eq, if◌then◌else◌}
 use Rattle.std.specs.List.{AllByRecursion}
-use Rattle.std.proofs.lemmas.List.Elements.{recursion_from_All}
+use Rattle.std.proofs.lemmas.List.Elements.{All-nil, recursion_from_All}
 use Rattle.fx_outside.specs.Endpoints.{EndpointParts}
+use Rattle.fx_algebra.specs.Groups.{is_down}
 use Rattle.fx_algebra.specs.declared.queries.Query.{Query}
 use Rattle.fx_sources.specs.Probes.{Entry}
+use Rattle.fx_sources.specs.Sources as source
 use Rattle.fx_traffic.specs.Gains.{faults_at}
 use Rattle.fx_wire.specs.Exchanges.{Exchange, Seen}
 use Rattle.fx_engine.specs.Calls.{AreAllOrNone, AreCalls, Call, Came, HasComeTo, HasFirstRefused, IsPassed, Passes, down_from, down_if, failed, failure_of, failures_at, lost, occurrences, told}
@@ -96,7 +98,7 @@ no_refused calls why iri none h = not_empty h.before (sym none ∙ h.are)
 pub are_down : (tells alone : Bool) (before after : List Seen) (es : List EndpointParts) (asked : Query) (entries : List Entry) (block : ℕ) (outcome : Outcome) → Federated tells alone before after es asked [] entries block (Ok outcome) → AreDown asked outcome.down
 are_down tells alone before after es asked entries block outcome fed = record { calls = fed.calls; all_called = fed.all_called; passed = fed.passed; noted_are = fed.down }
 
-pub are_licensed : (w : WiresSeen) (es : List EndpointParts) (asked : Query) (entries : List Entry) (block : ℕ) (outcome : Outcome) → Federated w.tells w.alone w.before w.after es asked [] entries block (Ok outcome) → AreLicensed w es asked outcome.down
+pub are_licensed : (w : WiresSeen) (es : List EndpointParts) (asked : Query) (entries : List Entry) (block : ℕ) (outcome : Outcome) → Federated w.tells w.alone w.before w.after es asked [] entries block (Ok outcome) → AreLicensed w es asked block outcome.down
 are_licensed w es asked entries block outcome fed = record {
   down = record { calls = fed.calls; all_called = fed.all_called; passed = fed.passed; noted_are = fed.down };
   exchanges = fed.exchanges;
@@ -112,6 +114,8 @@ are_licensed w es asked entries block outcome fed = record {
   all_unknown = λ all.
       let each = recursion_from_All IsUnknown _ (subst (λ (l : List Down). All IsUnknown l) fed.down all) in
       ap places fed.down ∙ are_unregistered w.before es 0 fed.calls fed.of_calls fed.are_calls (recursion_from_All IsPassed fed.calls fed.passed) each ∙ ap (unregistered es 0) fed.all_called;
+  traffic = λ graphs told services serve.
+      fed.traffic graphs (record { told = told; entries_are = All-nil (source.Tells graphs) }) services serve (places outcome.down) (λ k c there passes before. ap (λ (l : List Down). is_down (places l) k) fed.down);
 }
 
 -- where one was refused, all were invoked

@@ -1,12 +1,16 @@
 -- What is down of the occurrences of SERVICE SILENT of a query, and why; and the first occurrence that was refused.
 use Rattle.std.specs.Prelude.{◌≡◌, ◌≤◌, ◌+◌, ℕ, suc, List, [], ◌∷◌, ◌++◌, map, All, IsTrue, IsPermutation, bytes_eq, cond, if◌then◌else◌}
+use Rattle.fx_terms.specs.declared.triples.Triple.{Triple}
 use Rattle.fx_outside.specs.Endpoints.{EndpointParts}
 use Rattle.fx_algebra.specs.declared.queries.Query.{Query}
-use Rattle.fx_traffic.specs.Gains.{HaveGained, faults_at}
+use Rattle.fx_traffic.specs.Gains.{HaveGained, TellAll, faults_at}
+use Rattle.fx_traffic.specs.Sent.{Sent}
+use Rattle.fx_traffic.specs.Traffic.{IsTraffic}
 use Rattle.fx_wire.specs.Exchanges.{Exchange}
 use Rattle.fx_engine.specs.Calls.{AreCalls, Call, HasFirstRefused, IsPassed, down_in, failed, failure_of, failures_at, occurrences}
 use Rattle.fx_services.specs.Beside.{Occurrence}
 use Rattle.fx_services.specs.Noted.{places}
+use Rattle.fx_engine.specs.Mediation.{Serve}
 use Rattle.fx_engine.specs.Unknown.{is_registered}
 use Rattle.fx_services.specs.declared.noted.Down.{Down}
 use Rattle.fx_services.specs.declared.noted.DownCause.TheVariants as cause
@@ -30,8 +34,9 @@ pub record AreDown (asked : Query) (noted : List Down) : Type 0 where
   pub noted_are : noted ≡ down_in calls
 
 -- Each came to that by its own exchanges alone, which are some of those that were made, and no address has more failed exchanges than its count of faults rose by. Where
--- there is no other reason than that the IRI is no endpoint's, those are down of which this is so.
-pub record AreLicensed (w : WiresSeen) (endpoints : List EndpointParts) (asked : Query) (noted : List Down) : Type 0 where
+-- there is no other reason than that the IRI is no endpoint's, those are down of which this is so. And all exchanges that were made, in batches of so many rows at most, are a part
+-- of the query's traffic where these very occurrences are down, and no others.
+pub record AreLicensed (w : WiresSeen) (endpoints : List EndpointParts) (asked : Query) (block : ℕ) (noted : List Down) : Type 0 where
   pub down : AreDown asked noted
   pub exchanges : List Exchange
   pub gained : IsTrue w.tells → HaveGained w.before w.after exchanges
@@ -41,6 +46,7 @@ pub record AreLicensed (w : WiresSeen) (endpoints : List EndpointParts) (asked :
   pub come_to : AreCalls w.before endpoints down.calls own
   pub counted : (address : List ℕ) → faults_at w.before address + wires_failed address noted ≤ faults_at w.after address
   pub all_unknown : All (λ (d : Down). d.why ≡ cause.Unknown) noted → places noted ≡ unregistered endpoints 0 (occurrences asked)
+  pub traffic : (graphs : List (List Triple)) → TellAll w.before endpoints graphs → (services : List ℕ → List Triple) → Serve services endpoints graphs → (unsent : List Sent) × IsTraffic endpoints graphs block services (places noted) asked [] unsent exchanges
 
 -- ---- what is refused
 

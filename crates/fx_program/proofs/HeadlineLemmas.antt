@@ -121,11 +121,11 @@ query_failed w r q block text es asked h k (inr (Err fed.Memory, federated, end)
     other h = cc
 
 -- with `Done`
-abbrev IsAnswerOver : WiresSeen → List EndpointParts → Query → List (List Triple) → (List ℕ → List Triple) → SinkWritten → SinkWritten → Type 0
-IsAnswerOver w es asked graphs graph_at out err = (noted : List Down) × AreLicensed w es asked noted × AreWritten (document (answer asked (union graphs) graph_at (map (λ d. d.place) noted))) (down_lines noted) out err
+abbrev IsAnswerOver : WiresSeen → List EndpointParts → Query → List (List Triple) → (List ℕ → List Triple) → ℕ → SinkWritten → SinkWritten → Type 0
+IsAnswerOver w es asked graphs graph_at block out err = (noted : List Down) × AreLicensed w es asked block noted × AreWritten (document (answer asked (union graphs) graph_at (map (λ d. d.place) noted))) (down_lines noted) out err
 
 answer_is : (w : WiresSeen) (es : List EndpointParts) (asked : Query) (graphs : List (List Triple)) (graph_at : List ℕ → List Triple) (block : ℕ) (entries : List Entry) (outcome : Outcome) (out err : SinkWritten) → TellAll w.before es graphs → Serve graph_at es graphs
-    → Federated w.tells w.alone w.before w.after es asked [] entries block (Ok outcome) → IsOutcomeWritten outcome out err → IsAnswerOver w es asked graphs graph_at out err
+    → Federated w.tells w.alone w.before w.after es asked [] entries block (Ok outcome) → IsOutcomeWritten outcome out err → IsAnswerOver w es asked graphs graph_at block out err
 answer_is w es asked graphs graph_at block entries outcome out err told serve fed wrote = (
   outcome.down,
   are_licensed w es asked entries block outcome fed,
@@ -136,14 +136,14 @@ answer_is w es asked graphs graph_at block entries outcome out err told serve fe
 )
 
 query_answered : (w : WiresSeen) (r q : FileRead) (es others : List EndpointParts) (asked other : Query) (graphs : List (List Triple)) (graph_at : List ℕ → List Triple) (block : ℕ) (entries : List Entry) (outcome : Outcome) (out err : SinkWritten) → others ≡ es → other ≡ asked
-    → TellAll w.before es graphs → Serve graph_at es graphs → Federated w.tells w.alone w.before w.after others other [] entries block (Ok outcome) → IsOutcomeWritten outcome out err → IsAnswerOver w es asked graphs graph_at out err
+    → TellAll w.before es graphs → Serve graph_at es graphs → Federated w.tells w.alone w.before w.after others other [] entries block (Ok outcome) → IsOutcomeWritten outcome out err → IsAnswerOver w es asked graphs graph_at block out err
 query_answered w r q es others asked other graphs graph_at block entries outcome out err a b told serve fed =
     answer_is w es asked graphs graph_at block entries outcome out err told serve
     (subst (λ (v : Query). Federated w.tells w.alone w.before w.after es v [] entries block (Ok outcome)) b (subst (λ (l : List EndpointParts). Federated w.tells w.alone w.before w.after l other [] entries block (Ok outcome)) a fed))
 
 pub query_headline : (w : WiresSeen) (r q : FileRead) (block : ℕ) (s : Status) (text : List ℕ) (out err : SinkWritten) → IsQueryReported w r q block s text → (IsTrue err.tells → Gains err.old err.new err.before err.after text) → (s ≡ status.Done → IsQueryDone w r q block out err)
     → (es : List EndpointParts) (asked : Query) (graphs : List (List Triple)) (graph_at : List ℕ → List Triple) → IsTold w r q es asked graphs → Serve graph_at es graphs
-    → (s ≡ status.Done → IsAnswerOver w es asked graphs graph_at out err) × NamesFailed w es (IsFailureLine w es asked) s err
+    → (s ≡ status.Done → IsAnswerOver w es asked graphs graph_at block out err) × NamesFailed w es (IsFailureLine w es asked) s err
 query_headline w r q block s text out err reported gains given es asked graphs graph_at told serve = (
   λ is.
       let done = given is in

@@ -45,12 +45,12 @@ NamesFailed w endpoints IsLine s err =
     s ≡ status.EndpointFault → (e : EndpointParts) × (line : List ℕ) × Contains endpoints e × (faults_at w.before e.iri < faults_at w.after e.iri) × IsLine e line × (IsTrue err.tells → Gains err.old err.new err.before err.after line)
 
 -- With `Done` `query` wrote the document of the query's answer over the union of the members' graphs, where the SERVICEs that are down are exactly those of the lines, each by its
--- own cause; `explain` the query's plan over these graphs; `local` the document of the answer over the graph of the file, with a line for each SERVICE SILENT; and
+-- own cause, and what the members were asked is the traffic of the query where these are down; `explain` the query's plan over these graphs; `local` the document of the answer over the graph of the file, with a line for each SERVICE SILENT; and
 -- `generate` the four lines of the members that it makes, the last of which has the number of rows of its query over the union of their graphs.
 abbrev pub Headline : (List ℕ → FileRead) → WiresSeen → Option Asked → Status → SinkWritten → SinkWritten → Type 0
 Headline read w (Some (over_members r q workers block)) s out err =
     (endpoints : List EndpointParts) (asked : Query) (graphs : List (List Triple)) (graph_at : List ℕ → List Triple) → IsTold w (read r) (read q) endpoints asked graphs → Serve graph_at endpoints graphs
-    → (s ≡ status.Done → (noted : List Down) × AreLicensed w endpoints asked noted × AreWritten (document (answer asked (union graphs) graph_at (map (λ d. d.place) noted))) (down_lines noted) out err)
+    → (s ≡ status.Done → (noted : List Down) × AreLicensed w endpoints asked block noted × AreWritten (document (answer asked (union graphs) graph_at (map (λ d. d.place) noted))) (down_lines noted) out err)
     × NamesFailed w endpoints (λ e line. (line ≡ member_failed e.name) ⊎ (IsFirstFailed w endpoints asked e.iri × (line ≡ service_failed e.iri))) s err
 Headline read w (Some (planned r q)) s out err =
     (endpoints : List EndpointParts) (asked : Query) (graphs : List (List Triple)) → IsTold w (read r) (read q) endpoints asked graphs
