@@ -21,7 +21,8 @@ use Rattle.fx_engine.specs.declared.mediator.Outcome.{Outcome}
 use Rattle.fx_engine.proofs.RegisteredLemmas.{registered_by, unregistered_by}
 use Rattle.fx_commands.specs.Asking.{WiresSeen}
 use Rattle.fx_local.specs.Files.{FileRead}
-use Rattle.fx_commands.specs.Query.{CountsDown, IsQueryDone}
+use Rattle.fx_commands.specs.MemberSteps.{IsAnswerDone}
+use Rattle.fx_commands.specs.Query.{CountsDown, CountsDownBy, IsQueryDone}
 use Rattle.fx_commands.specs.Silent.{AreDown, AreLicensed, IsFirstFailed, unregistered, wires_failed}
 use Rattle.fx_local.specs.Sinks.{SinkWritten}
 
@@ -142,12 +143,14 @@ pub as_many_failed : (tells alone : Bool) (before after : List Seen) (es : List 
     → (address : List ℕ) → faults_at after address ≡ faults_at before address + wires_failed address outcome.down
 as_many_failed tells alone before after es asked entries block outcome fed is address = fed.exact is address ∙ ap (λ (n : ℕ). faults_at before address + n) (sym (ap (wires_failed address) fed.down ∙ failed_alike address 0 fed.calls (recursion_from_All IsPassed fed.calls fed.passed)))
 
-pub counts_down : (w : WiresSeen) (r q : FileRead) (block : ℕ) (out err : SinkWritten) → IsQueryDone w r q block out err → IsTrue w.alone → CountsDown q w.before w.after err
-counts_down w r q block out err (outcome, fed, wrote) is = record {
-  asked = fed.asked;
-  accepted = fed.accepted;
+-- of a query that was parsed
+pub counts_down_by : (w : WiresSeen) (es : List EndpointParts) (asked : Query) (block : ℕ) (out err : SinkWritten) → IsAnswerDone w es asked block out err → IsTrue w.alone → CountsDownBy asked w.before w.after err
+counts_down_by w es asked block out err (outcome, fed, wrote) is = record {
   noted = outcome.down;
-  down = are_down w.tells w.alone w.before w.after fed.endpoints fed.asked fed.entries block outcome fed.federated;
+  down = are_down w.tells w.alone w.before w.after es asked fed.0 block outcome fed.1;
   lines = wrote.1;
-  counted = as_many_failed w.tells w.alone w.before w.after fed.endpoints fed.asked fed.entries block outcome fed.federated is;
+  counted = as_many_failed w.tells w.alone w.before w.after es asked fed.0 block outcome fed.1 is;
 }
+
+pub counts_down : (w : WiresSeen) (r q : FileRead) (block : ℕ) (out err : SinkWritten) → IsQueryDone w r q block out err → IsTrue w.alone → CountsDown q w.before w.after err
+counts_down w r q block out err (outcome, fed, wrote) is = record { asked = fed.asked; accepted = fed.accepted; counts = counts_down_by w fed.endpoints fed.asked block out err (outcome, (fed.entries, fed.federated), wrote) is }

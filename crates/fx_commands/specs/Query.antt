@@ -76,11 +76,15 @@ IsOutcomeWritten outcome out err = (IsTrue out.tells → out.new ≡ out.old ++ 
 abbrev pub IsQueryDone : WiresSeen → FileRead → FileRead → ℕ → SinkWritten → SinkWritten → Type 0
 IsQueryDone w r q block out err = (outcome : Outcome) × IsFederated w r q block (Ok outcome) × IsOutcomeWritten outcome out err
 
--- At each address as many faults were counted as lines on standard error say of it that the wire failed.
-pub record CountsDown (q : FileRead) (before after : List Seen) (err : SinkWritten) : Type 0 where
-  pub asked : Query
-  pub accepted : IsQueryOf q asked
+-- For a query, at each address as many faults were counted as lines on standard error say of it that the wire failed, each for an occurrence of SERVICE SILENT of this query.
+pub record CountsDownBy (asked : Query) (before after : List Seen) (err : SinkWritten) : Type 0 where
   pub noted : List Down
   pub down : AreDown asked noted
   pub lines : IsTrue err.tells → err.new ≡ err.old ++ down_lines noted
   pub counted : (address : List ℕ) → faults_at after address ≡ faults_at before address + wires_failed address noted
+
+-- so it is of the query of a file
+pub record CountsDown (q : FileRead) (before after : List Seen) (err : SinkWritten) : Type 0 where
+  pub asked : Query
+  pub accepted : IsQueryOf q asked
+  pub counts : CountsDownBy asked before after err

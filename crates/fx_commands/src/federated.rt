@@ -11,7 +11,7 @@ ghost use Rattle.fx_local.specs.Lines.{Gains};
 ghost use Rattle.fx_commands.specs.MemberLines.{down_line};
 ghost use Rattle.fx_commands.specs.MemberLines as spec;
 ghost use Rattle.fx_commands.specs.MemberSteps.{IsAnswerDone, IsAnswerReported, IsAnswered};
-ghost use Rattle.fx_commands.specs.Query.{IsOutcomeWritten, IsQueryDone, IsQueryReported, IsQueryWritten, IsUnionAnswer, IsUnionDocument};
+ghost use Rattle.fx_commands.specs.Query.{CountsDownBy, IsOutcomeWritten, IsQueryDone, IsQueryReported, IsQueryWritten, IsUnionAnswer, IsUnionDocument};
 ghost use Rattle.fx_local.specs.Sinks.{IsCutShort, Wrote, sink_written};
 
 use crate::refusals::{fed_status, write_fed_error};
@@ -71,8 +71,11 @@ pub fn run_query<R: Threads + Wait + Sync, F: Files, W: Wire + Send, O: Sink, E:
     }
 }
 
-// Answers a query over the members of a registry, and writes the document with the lines behind it, or the line of the refusal.
-fn answer_members<R: Threads + Wait + Sync, W: Wire + Send, O: Sink, E: Sink>(
+/// Answers a query over the members of a registry, and writes the document with the lines behind it, or the line of the refusal.
+///
+/// The query is a value here, so that all that is said of it holds of the very query that a file was read as, also where files tell nothing of what they
+/// contain: with `Done`, wires that count each address alone counted no fault that isn't that of an occurrence of SERVICE SILENT of this query.
+pub fn answer_members<R: Threads + Wait + Sync, W: Wire + Send, O: Sink, E: Sink>(
     rt: &R,
     alloc: Global,
     members: &Registry,
@@ -88,6 +91,7 @@ fn answer_members<R: Threads + Wait + Sync, W: Wire + Send, O: Sink, E: Sink>(
     ensures reported { (text : List ℕ) × IsAnswerReported (wires_seen W.tells_log W.counts_alone W.seen wires.old wires.new) members.now query.now block result text × (IsTrue E.tells_held → Gains (E.held err.old) (E.held err.new) (E.write_faults err.old) (E.write_faults err.new) text) }
     ensures written { IsTrue O.tells_held → Wrote (IsUnionDocument (map W.seen wires.old) members.now query.now) result (O.held out.old) (O.held out.new) }
     ensures done { result ≡ Status.Done → IsAnswerDone (wires_seen W.tells_log W.counts_alone W.seen wires.old wires.new) members.now query.now block (sink_written O.tells_held O.held O.write_faults out.old out.new) (sink_written E.tells_held E.held E.write_faults err.old err.new) }
+    ensures endpoint_faults { IsTrue W.counts_alone → result ≡ Status.Done → CountsDownBy query.now (map W.seen wires.old) (map W.seen wires.new) (sink_written E.tells_held E.held E.write_faults err.old err.new) }
     ensures wired { AreAfter (map W.seen wires.old) (map W.seen wires.new) }
     ensures write_fault { result ≡ Status.WriteFault → IsCutShort (IsUnionDocument (map W.seen wires.old) members.now query.now) (sink_written O.tells_held O.held O.write_faults out.old out.new) (sink_written E.tells_held E.held E.write_faults err.old err.new) }
     ensures unfailed { ¬ (result ≡ Status.WriteFault) → O.write_faults out.new ≡ O.write_faults out.old }

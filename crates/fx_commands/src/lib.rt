@@ -10,5 +10,5 @@ pub mod refusals;
 
 pub use counting::count_rows;
 pub use explained::run_explain;
-pub use federated::run_query;
+pub use federated::{answer_members, run_query};
 pub use generated::run_generate;

@@ -68,8 +68,10 @@ pub used_down : {W : Type 0} (see : W → Seen) (q : FileRead) (err : SinkWritte
 used_down see q err wires front back later e h = record {
   asked = h.asked;
   accepted = h.accepted;
-  noted = h.noted;
-  down = h.down;
-  lines = h.lines;
-  counted = used_counts see wires front back later (λ address. wires_failed address h.noted) e h.counted;
+  counts = record {
+    noted = h.counts.noted;
+    down = h.counts.down;
+    lines = h.counts.lines;
+    counted = used_counts see wires front back later (λ address. wires_failed address h.counts.noted) e h.counts.counted;
+  };
 }

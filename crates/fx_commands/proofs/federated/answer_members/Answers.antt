@@ -3,6 +3,7 @@ use Rattle.fx_commands.specs.Asking.{wires_seen}
 use Rattle.fx_commands.specs.FedRefusals.{fed_line}
 use Rattle.fx_local.specs.Sinks.{sink_written}
 use Rattle.fx_commands.proofs.QueryLemmas.{cut_so, fed_not_cut, fed_not_done, given_done, given_reported, refusal_reported, refused_wrote, union_document, wrote_so}
+use Rattle.fx_commands.proofs.SilentLemmas.{counts_down_by}
 use Rattle.fx_commands.proofs.federated.answer_members.Goals as goal
 
 pub returns-in-Ok-clause-reported : goal.returns-in-Ok-clause-reported
@@ -33,6 +34,16 @@ returns-in-Ok-clause-done g c = λ done.
 
 pub returns-in-Err-clause-done : goal.returns-in-Err-clause-done
 returns-in-Err-clause-done g c = λ done. absurd (fed_not_done c.in-Err.error (sym c.fed_status.ensures ∙ done))
+
+pub returns-in-Ok-clause-endpoint_faults : goal.returns-in-Ok-clause-endpoint_faults
+returns-in-Ok-clause-endpoint_faults g c = λ alone done.
+    let w = wires_seen g.W.Wire.tells_log g.W.Wire.counts_alone g.W.Wire.seen c.args.wires.now c.outcome.new.wires in
+    let out = sink_written g.O.Ends.tells_held g.O.Ends.held g.O.Ends.write_faults c.args.out.now c.write_outcome.new.out in
+    let err = sink_written g.E.Ends.tells_held g.E.Ends.held g.E.Ends.write_faults c.args.err.now c.write_outcome.new.err in
+    counts_down_by w c.args.members.now c.args.query.now c.args.block out err (given_done w c.args.members.now c.args.query.now c.args.block c.in-Ok.outcome out err c.in-Ok.ensures.answered (c.write_outcome.ensures.done done)) alone
+
+pub returns-in-Err-clause-endpoint_faults : goal.returns-in-Err-clause-endpoint_faults
+returns-in-Err-clause-endpoint_faults g c = λ alone done. absurd (fed_not_done c.in-Err.error (sym c.fed_status.ensures ∙ done))
 
 pub returns-in-Ok-clause-write_fault : goal.returns-in-Ok-clause-write_fault
 returns-in-Ok-clause-write_fault g c = λ cut.
