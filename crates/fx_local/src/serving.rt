@@ -1,5 +1,6 @@
 //! The command `member`.
 ghost use Rattle.std.specs.Prelude.{◌≡◌, ◌+◌, ◌++◌, ◌≤◌, ℕ, List, [], Some, Err, IfErr, IfOk, IsErr, IsTrue, OnErr, OnOk};
+ghost use Rattle.fx_http.specs.Requests.{TakesOfRequest};
 ghost use Rattle.fx_outside.specs.Doors.{output_of};
 ghost use Rattle.fx_outside.specs.Faults.{HasRisen};
 ghost use Rattle.fx_outside.specs.Streams.{AppendsFront, AppendsPart};
@@ -135,6 +136,7 @@ fn serve_conn<L: Source + Sink>(
     conn: &mut L,
 ) -> Result<Ending, DoorError>
     ensures ended { IsTrue L.tells_left → IsTrue L.tells_held → L.held conn.old ≡ [] → L.read_faults conn.old ≡ 0 → L.write_faults conn.old ≡ 0 → IfOk result (IsEnded store.now (L.left conn.old) (output_of (L.held conn.new) (L.read_faults conn.new) (L.write_faults conn.new))) }
+    ensures within { IsTrue L.tells_left → TakesOfRequest (L.left conn.old) (L.left conn.new) }
     ensures memory { IfErr result (λ e. e ≡ DoorError.Memory) }
     ensures nothing { IsTrue L.tells_held → IfErr result (λ _. L.held conn.new ≡ L.held conn.old) }
 {
