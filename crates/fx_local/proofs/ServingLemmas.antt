@@ -1,10 +1,11 @@
 -- Connections that were served, one after another.
-use Rattle.std.proofs.Common.{length-append, ◌≡◌, ◌∙◌, ap, sym, subst, ℕ, Bool, suc, ◌+◌, ◌<◌, ◌≤◌, List, [], ◌∷◌, ◌++◌, map, length, append_assoc, append-nil, arith, refl, Some, Ok, Err, inl, inr}
+use Rattle.std.proofs.Common.{length-append, ◌≡◌, ◌∙◌, ap, sym, subst, ℕ, Bool, suc, ◌+◌, ◌<◌, ◌≤◌, List, [], ◌∷◌, ◌++◌, map, length, append_assoc, append-nil, arith, refl, Ok, Err, inl, inr}
 use Rattle.std.specs.Prelude.{◌⊎◌, IsTrue}
 use Rattle.std.proofs.lemmas.List.Elements.{All-append, All-cons, All-nil}
 use Rattle.std.proofs.lemmas.List.{map-append}
 use Rattle.fx_terms.specs.declared.triples.Triple.{Triple}
 use Rattle.fx_outside.specs.Doors.{DoorSeen, Output, IsTaken}
+use Rattle.fx_http.specs.Requests.{TakesOfRequest}
 use Rattle.fx_ntriples.specs.declared.faults.NtError.TheVariants as error
 use Rattle.fx_local.specs.Files.{FileRead}
 use Rattle.fx_local.specs.Lines.{cannot_serve, no_memory}
@@ -12,7 +13,7 @@ use Rattle.fx_local.specs.LocalSteps.{GivesGraph, graph_line}
 use Rattle.fx_local.specs.RefusalStatuses.{graph_status}
 use Rattle.fx_local.specs.declared.refusals.GraphRefusal.{GraphRefusal}
 use Rattle.fx_local.specs.declared.refusals.GraphRefusal.TheVariants as refusal
-use Rattle.fx_local.specs.Serving.{Visit, IsVisit, IsEnded, HasVisits, Serves, ending_line, ending_lines, IsServingReported, IsUnwritten, IsCut, IsOpen, IsShut, HasStopped, IsGraphOf, IsMemberReported}
+use Rattle.fx_local.specs.Serving.{Visit, IsVisit, IsEnded, HasVisits, Serves, ending_line, ending_lines, IsServingReported, IsUnwritten, IsCut, IsOpen, IsShut, HasStopped, IsGraphOf, IsMemberReported, once_more}
 use Rattle.fx_local.specs.ServingSteps.{IsServedNext, IsLost, GivesEnding, end_status, end_line}
 use Rattle.fx_local.specs.declared.serving.Ending.{Ending}
 use Rattle.fx_local.specs.declared.statuses.Status.{Status}
@@ -107,29 +108,29 @@ module _ (graph : List Triple) (before : DoorSeen) (is_told : Bool) (held_before
       faultless = f ∙ so.faultless;
     }
 
-    module _ (address : List ℕ) (total : ℕ) (opens : IsTrue before.tells → before.started ≡ Some address) (below : number < total) where
+    module _ (total : ℕ) (below : number < total) where
       -- the line could not be written
-      pub unwritten : (ending : Ending) → GivesEnding graph mid after (Ok ending) → (IsTrue mid.tells → after.started ≡ mid.started) → IsUnwritten before after address total graph (ending_lines 1 so.endings) (ending_line (number + 1) ending)
-      unwritten ending h s = (so.endings, ending, served_more ending h, omega (arith, so.count, below), λ t. s (told t) ∙ so.started t ∙ opens t, refl, ap (λ (n : ℕ). ending_line (n + 1) ending) (sym so.count))
+      pub unwritten : (ending : Ending) → GivesEnding graph mid after (Ok ending) → (IsTrue mid.tells → after.started ≡ mid.started) → IsUnwritten before after before.started total graph (ending_lines 1 so.endings) (ending_line (number + 1) ending)
+      unwritten ending h s = (so.endings, ending, served_more ending h, omega (arith, so.count, below), λ t. s (told t) ∙ so.started t, refl, ap (λ (n : ℕ). ending_line (n + 1) ending) (sym so.count))
 
       -- the door did nothing
-      pub cut : (e : DoorError) → GivesEnding graph mid after (Err e) → (IsTrue mid.tells → after.started ≡ mid.started) → (last : List ℕ) → IsCut before after address total graph last (ending_lines 1 so.endings) last
+      pub cut : (e : DoorError) → GivesEnding graph mid after (Err e) → (IsTrue mid.tells → after.started ≡ mid.started) → (last : List ℕ) → IsCut before after before.started total graph last (ending_lines 1 so.endings) last
       cut e h s last = (so.endings, omega (arith, so.count, below), λ t. stopped t (h (told t)), refl, refl)
         where
-          stopped : IsTrue before.tells → IsLost mid after → HasStopped graph before after address total so.endings
+          stopped : IsTrue before.tells → IsLost mid after → HasStopped graph before after before.started total so.endings
           stopped t lost = record {
             unanswered = lost.unanswered;
             visits = cut_off graph before mid after so.endings (so.serves t) lost;
             few = lost.few;
             within = omega (arith, so.count, below, lost.few);
-            opened = inl (s (told t) ∙ so.started t ∙ opens t);
+            opened = inl (s (told t) ∙ so.started t);
           }
 
 -- ---- statuses
 
-pub ended : (before after : DoorSeen) (address : List ℕ) (count : ℕ) (graph : List Triple) (e : DoorError) (lines last : List ℕ) → (e ≡ door.Failed → before.faults < after.faults) → IsCut before after address count graph (end_line e) lines last → IsServingReported before after address count graph (end_status e) lines last
-ended before after address count graph door.Failed lines last f cut = (f refl, cut)
-ended before after address count graph door.Memory lines last f cut = cut
+pub ended : (before after : DoorSeen) (addresses : List (List ℕ)) (count : ℕ) (graph : List Triple) (e : DoorError) (lines last : List ℕ) → (e ≡ door.Failed → before.faults < after.faults) → IsCut before after addresses count graph (end_line e) lines last → IsServingReported before after addresses count graph (end_status e) lines last
+ended before after addresses count graph door.Failed lines last f cut = (f refl, cut)
+ended before after addresses count graph door.Memory lines last f cut = cut
 
 -- neither `Done` nor a door's end is a fault of a write
 pub done_otherwise : status.Done ≡ status.WriteFault → ⊥
@@ -151,11 +152,11 @@ refused_otherwise (refusal.Refused error.Memory) is = cc
 refused_otherwise refusal.Memory is = cc
 
 -- a door that could not be opened
-pub not_opened : (graph : List Triple) (before after : DoorSeen) (address : List ℕ) (count : ℕ) (last : List ℕ) → (IsTrue before.tells → after.started ≡ before.started) → (IsTrue before.tells → after.outputs ≡ before.outputs) → (IsTrue before.tells → after.inputs ≡ before.inputs)
-    → IsCut before after address count graph last [] last
-not_opened graph before after address count last s o i = ([], omega arith, λ t. stopped (s t) (o t) (i t), refl, refl)
+pub not_opened : (graph : List Triple) (before after : DoorSeen) (addresses : List (List ℕ)) (count : ℕ) (last : List ℕ) → (IsTrue before.tells → after.started ≡ before.started) → (IsTrue before.tells → after.outputs ≡ before.outputs) → (IsTrue before.tells → after.inputs ≡ before.inputs)
+    → IsCut before after addresses count graph last [] last
+not_opened graph before after addresses count last s o i = ([], omega arith, λ t. stopped (s t) (o t) (i t), refl, refl)
   where
-    stopped : after.started ≡ before.started → after.outputs ≡ before.outputs → after.inputs ≡ before.inputs → HasStopped graph before after address count []
+    stopped : after.started ≡ before.started → after.outputs ≡ before.outputs → after.inputs ≡ before.inputs → HasStopped graph before after addresses count []
     stopped s o i = record {
       unanswered = [];
       visits = nothing_yet graph before after o i;
@@ -165,29 +166,32 @@ not_opened graph before after address count last s o i = ([], omega arith, λ t.
     }
 
 -- a door that was opened and served
-module _ (graph : List Triple) (before mid after : DoorSeen) (address : List ℕ) (tells : IsTrue before.tells → IsTrue mid.tells) (s : IsTrue before.tells → mid.started ≡ Some address) (o : IsTrue before.tells → mid.outputs ≡ before.outputs) (i : IsTrue before.tells → mid.inputs ≡ before.inputs) (k : before.faults ≤ mid.faults) where
+module _ (graph : List Triple) (before mid after : DoorSeen) (address : List ℕ) (tells : IsTrue before.tells → IsTrue mid.tells) (s : IsTrue before.tells → mid.started ≡ once_more before address) (o : IsTrue before.tells → mid.outputs ≡ before.outputs) (i : IsTrue before.tells → mid.inputs ≡ before.inputs) (k : before.faults ≤ mid.faults) where
   serves_from : (endings : List Ending) → Serves graph mid after endings [] → Serves graph before after endings []
   serves_from endings h t = from_same graph before mid after endings [] (o t) (i t) (h (tells t))
 
-  is_open : IsTrue before.tells → IsOpen after address ⊎ IsShut mid after → IsOpen after address
-  is_open t (inl here) = here
-  is_open t (inr shut) = shut.started ∙ s t
+  is_open : IsTrue before.tells → IsOpen after mid.started → IsOpen after (once_more before address)
+  is_open t here = here ∙ s t
 
-  stopped_from : (count : ℕ) (endings : List Ending) → IsTrue before.tells → HasStopped graph mid after address count endings → HasStopped graph before after address count endings
+  was_open : IsTrue before.tells → IsOpen after mid.started ⊎ IsShut mid after → IsOpen after (once_more before address)
+  was_open t (inl here) = is_open t here
+  was_open t (inr shut) = is_open t shut.started
+
+  stopped_from : (count : ℕ) (endings : List Ending) → IsTrue before.tells → HasStopped graph mid after mid.started count endings → HasStopped graph before after (once_more before address) count endings
   stopped_from count endings t h = record {
     unanswered = h.unanswered;
     visits = from_same graph before mid after endings h.unanswered (o t) (i t) h.visits;
     few = h.few;
     within = h.within;
-    opened = inl (is_open t h.opened);
+    opened = inl (was_open t h.opened);
   }
 
-  cut_from : (count : ℕ) (line lines last : List ℕ) → IsCut mid after address count graph line lines last → IsCut before after address count graph line lines last
+  cut_from : (count : ℕ) (line lines last : List ℕ) → IsCut mid after mid.started count graph line lines last → IsCut before after (once_more before address) count graph line lines last
   cut_from count line lines last h = (h.0, h.1, λ t. stopped_from count h.0 t (h.2 (tells t)), h.3, h.4)
 
-  pub opened_reported : (count : ℕ) (s : Status) (lines last : List ℕ) → IsServingReported mid after address count graph s lines last → IsServingReported before after address count graph s lines last
-  opened_reported count status.Done lines last h = (h.0, serves_from h.0 h.1, h.2, λ t. h.3 (tells t), h.4, h.5)
-  opened_reported count status.WriteFault lines last h = (h.0, h.1, serves_from (h.0 ++ h.1 ∷ []) h.2, h.3, λ t. h.4 (tells t), h.5, h.6)
+  pub opened_reported : (count : ℕ) (s : Status) (lines last : List ℕ) → IsServingReported mid after mid.started count graph s lines last → IsServingReported before after (once_more before address) count graph s lines last
+  opened_reported count status.Done lines last h = (h.0, serves_from h.0 h.1, h.2, λ t. is_open t (h.3 (tells t)), h.4, h.5)
+  opened_reported count status.WriteFault lines last h = (h.0, h.1, serves_from (h.0 ++ h.1 ∷ []) h.2, h.3, λ t. is_open t (h.4 (tells t)), h.5, h.6)
   opened_reported count status.DoorFault lines last h = (omega (arith, h.0), cut_from count cannot_serve lines last h.1)
   opened_reported count status.NoMemory lines last h = cut_from count no_memory lines last h
   opened_reported count status.Usage lines last h = absurd h
@@ -202,7 +206,7 @@ module _ (graph : List Triple) (before mid after : DoorSeen) (address : List ℕ
   opened_reported count status.FileTooLong lines last h = absurd h
 
 -- the file's graph was served
-pub graph_reported : (g : FileRead) (before after : DoorSeen) (address : List ℕ) (count : ℕ) (graph : List Triple) (s : Status) (lines last : List ℕ) → IsGraphOf g graph → IsServingReported before after address count graph s lines last → IsMemberReported g before after address count s lines last
+pub graph_reported : (g : FileRead) (before after : DoorSeen) (address : List ℕ) (count : ℕ) (graph : List Triple) (s : Status) (lines last : List ℕ) → IsGraphOf g graph → IsServingReported before after (once_more before address) count graph s lines last → IsMemberReported g before after address count s lines last
 graph_reported g before after address count graph status.Done lines last is h = (graph, is, h)
 graph_reported g before after address count graph status.WriteFault lines last is h = (graph, is, h)
 graph_reported g before after address count graph status.DoorFault lines last is h = (graph, is, h)
@@ -234,5 +238,5 @@ no_graph_reported g seen address count refusal.Memory h = inl (refl, refl, refl)
 pub lost_one : (before after : DoorSeen) (left held : List ℕ) → IsTaken before.inputs after.inputs left held → after.outputs ≡ before.outputs → IsLost before after
 lost_one before after left held taken o = record { unanswered = left ∷ []; few = omega arith; went_out = o; came_in = taken.first }
 
-pub served_one : (graph : List Triple) (before after : DoorSeen) (input : List ℕ) (output : Output) (ending : Ending) → IsEnded graph input output ending → before.inputs ≡ input ∷ after.inputs → after.outputs ≡ before.outputs ++ output ∷ [] → IsServedNext graph before after ending
-served_one graph before after input output ending h i o = record { visit = record { input = input; output = output; ending = ending }; is = h; ended = refl; went_out = o; came_in = i }
+pub served_one : (graph : List Triple) (before after : DoorSeen) (input : List ℕ) (output : Output) (ending : Ending) → IsEnded graph input output ending → TakesOfRequest input output.left → before.inputs ≡ input ∷ after.inputs → after.outputs ≡ before.outputs ++ output ∷ [] → IsServedNext graph before after ending
+served_one graph before after input output ending h w i o = record { visit = record { input = input; output = output; ending = ending }; is = (h, w); ended = refl; went_out = o; came_in = i }

@@ -1,5 +1,5 @@
 -- What `fedx member` does: it serves connections one after another, with a line for each.
-use Rattle.std.specs.Prelude.{◌≡◌, ◌⊎◌, ℕ, ◌+◌, ◌<◌, ◌≤◌, List, [], ◌∷◌, ◌++◌, map, length, codes, All, Some, IfSome, IsTrue}
+use Rattle.std.specs.Prelude.{◌≡◌, ◌⊎◌, ℕ, ◌+◌, ◌<◌, ◌≤◌, List, [], ◌∷◌, ◌++◌, map, length, codes, All, IfSome, IsTrue}
 use Rattle.std.specs.Fmt.{decimal}
 use Rattle.std.proofs.Common.{suc}
 use Rattle.fx_terms.specs.declared.triples.Triple.{Triple}
@@ -7,6 +7,7 @@ use Rattle.fx_ntriples.specs.Forms.{IsDocument}
 use Rattle.fx_ntriples.specs.declared.faults.NtError.{NtError}
 use Rattle.fx_outside.specs.Doors.{DoorSeen, Output}
 use Rattle.fx_outside.specs.Streams.{AppendsFront, AppendsPart}
+use Rattle.fx_http.specs.Requests.{TakesOfRequest}
 use Rattle.fx_member.specs.Served.{IsServed}
 use Rattle.fx_local.specs.Files.{FileRead, HasFailed, IsTooLong, IsNoGraph}
 use Rattle.fx_local.specs.Lines.{Gains, cannot_read, graph_refused, graph_too_long, no_memory, cannot_serve}
@@ -33,8 +34,9 @@ IsEnded graph input output ReadFault = (output.held ≡ []) × (0 < output.read_
 IsEnded graph input output WriteFault =
     ((code : ℕ) × (reply : List ℕ) × IsServed graph input code reply × AppendsFront [] output.held reply) × (0 < output.write_faults) × (output.read_faults ≡ 0)
 
+-- and nothing behind its request was taken of the input, however it ended
 abbrev pub IsVisit : List Triple → Visit → Type 0
-IsVisit graph v = IsEnded graph v.input v.output v.ending
+IsVisit graph v = IsEnded graph v.input v.output v.ending × TakesOfRequest v.input v.output.left
 
 -- the inputs taken were answered in order, and the outputs were kept; some that were taken are left unanswered
 pub record HasVisits (graph : List Triple) (before after : DoorSeen) (endings : List Ending) (unanswered : List (List ℕ)) : Type 0 where
@@ -70,9 +72,13 @@ ending_lines number (ending ∷ endings) = ending_line number ending ++ ending_l
 abbrev pub IsGraphOf : FileRead → List Triple → Type 0
 IsGraphOf g graph = IfSome g.content (λ all. (length all ≤ graph_limit) × IsDocument all graph)
 
--- the door is open at the address
-abbrev pub IsOpen : DoorSeen → List ℕ → Type 0
-IsOpen seen address = seen.started ≡ Some address
+-- the door was opened at these addresses and no other, each time in order
+abbrev pub IsOpen : DoorSeen → List (List ℕ) → Type 0
+IsOpen seen addresses = seen.started ≡ addresses
+
+-- those of before, and once more at the address
+abbrev pub once_more : DoorSeen → List ℕ → List (List ℕ)
+once_more before address = before.started ++ address ∷ []
 
 -- The lines of the connections that are whole, and what is written behind them: nothing, or the one line by which serving ends. So
 -- a connection is taken only where the line of each before it is whole.
@@ -82,8 +88,8 @@ abbrev pub IsLastCut : Status → SinkWritten → List ℕ → List ℕ → Type
 IsLastCut s err lines last = s ≡ status.WriteFault → IsTrue err.tells → AppendsPart (err.old ++ lines) err.new last
 
 -- so many connections were served, each with its line
-abbrev pub IsDone : ℕ → DoorSeen → DoorSeen → List ℕ → List Triple → List ℕ → List ℕ → Type 0
-IsDone count before after address graph lines last = (endings : List Ending) × Serves graph before after endings [] × (length endings ≡ count) × (IsTrue before.tells → IsOpen after address) × (lines ≡ ending_lines 1 endings) × (last ≡ [])
+abbrev pub IsDone : ℕ → DoorSeen → DoorSeen → List (List ℕ) → List Triple → List ℕ → List ℕ → Type 0
+IsDone count before after addresses graph lines last = (endings : List Ending) × Serves graph before after endings [] × (length endings ≡ count) × (IsTrue before.tells → IsOpen after addresses) × (lines ≡ ending_lines 1 endings) × (last ≡ [])
 
 -- the door could not be opened
 pub record IsShut (before after : DoorSeen) : Type 0 where
@@ -92,43 +98,43 @@ pub record IsShut (before after : DoorSeen) : Type 0 where
   pub inputs : after.inputs ≡ before.inputs
 
 -- connections were served, each with its line, and one more, whose line could not be written; they are no more than are to be served
-abbrev pub IsUnwritten : DoorSeen → DoorSeen → List ℕ → ℕ → List Triple → List ℕ → List ℕ → Type 0
-IsUnwritten before after address count graph lines last = (endings : List Ending) × (ending : Ending) × Serves graph before after (endings ++ ending ∷ []) [] × (length endings < count) × (IsTrue before.tells → IsOpen after address) × (lines ≡ ending_lines 1 endings) × (last ≡ ending_line (length endings + 1) ending)
+abbrev pub IsUnwritten : DoorSeen → DoorSeen → List (List ℕ) → ℕ → List Triple → List ℕ → List ℕ → Type 0
+IsUnwritten before after addresses count graph lines last = (endings : List Ending) × (ending : Ending) × Serves graph before after (endings ++ ending ∷ []) [] × (length endings < count) × (IsTrue before.tells → IsOpen after addresses) × (lines ≡ ending_lines 1 endings) × (last ≡ ending_line (length endings + 1) ending)
 
 -- at most one
 abbrev pub IsOneAtMost : List (List ℕ) → Type 0
 IsOneAtMost inputs = length inputs ≤ 1
 
 -- what a door tells where serving was cut: at most one input was taken and not answered, no more were taken than are to be served,
--- and the door is open at the address, or could not be opened
-pub record HasStopped (graph : List Triple) (before after : DoorSeen) (address : List ℕ) (count : ℕ) (endings : List Ending) : Type 0 where
+-- and the door was opened at these addresses, or could not be opened
+pub record HasStopped (graph : List Triple) (before after : DoorSeen) (addresses : List (List ℕ)) (count : ℕ) (endings : List Ending) : Type 0 where
   pub unanswered : List (List ℕ)
   pub visits : HasVisits graph before after endings unanswered
   pub few : IsOneAtMost unanswered
   pub within : length endings + length unanswered ≤ count
-  pub opened : IsOpen after address ⊎ IsShut before after
+  pub opened : IsOpen after addresses ⊎ IsShut before after
 
 -- connections were served, each with its line, and then the door failed or memory ran out, which has a line
-abbrev pub IsCut : DoorSeen → DoorSeen → List ℕ → ℕ → List Triple → List ℕ → List ℕ → List ℕ → Type 0
-IsCut before after address count graph line lines last = (endings : List Ending) × (length endings ≤ count) × (IsTrue before.tells → HasStopped graph before after address count endings) × (lines ≡ ending_lines 1 endings) × (last ≡ line)
+abbrev pub IsCut : DoorSeen → DoorSeen → List (List ℕ) → ℕ → List Triple → List ℕ → List ℕ → List ℕ → Type 0
+IsCut before after addresses count graph line lines last = (endings : List Ending) × (length endings ≤ count) × (IsTrue before.tells → HasStopped graph before after addresses count endings) × (lines ≡ ending_lines 1 endings) × (last ≡ line)
 
--- what serving reports, over a graph: the lines that are whole, and the last
-abbrev pub IsServingReported : DoorSeen → DoorSeen → List ℕ → ℕ → List Triple → Status → List ℕ → List ℕ → Type 0
-IsServingReported before after address count graph status.Done lines last = IsDone count before after address graph lines last
-IsServingReported before after address count graph status.WriteFault lines last = IsUnwritten before after address count graph lines last
-IsServingReported before after address count graph status.DoorFault lines last = (before.faults < after.faults) × IsCut before after address count graph cannot_serve lines last
-IsServingReported before after address count graph status.NoMemory lines last = IsCut before after address count graph no_memory lines last
-IsServingReported before after address count graph s lines last = ⊥
+-- what serving reports, over a graph and at a door that was opened at these addresses: the lines that are whole, and the last
+abbrev pub IsServingReported : DoorSeen → DoorSeen → List (List ℕ) → ℕ → List Triple → Status → List ℕ → List ℕ → Type 0
+IsServingReported before after addresses count graph status.Done lines last = IsDone count before after addresses graph lines last
+IsServingReported before after addresses count graph status.WriteFault lines last = IsUnwritten before after addresses count graph lines last
+IsServingReported before after addresses count graph status.DoorFault lines last = (before.faults < after.faults) × IsCut before after addresses count graph cannot_serve lines last
+IsServingReported before after addresses count graph status.NoMemory lines last = IsCut before after addresses count graph no_memory lines last
+IsServingReported before after addresses count graph s lines last = ⊥
 
 -- the cause of each status, and what it writes on standard error: the graph's file is read first, then its graph, and then the
--- door is opened at the address, for so many connections. Before that all that is seen of the door is as it was, and no line is written
+-- door is opened at the address, once, for so many connections. Before that all that is seen of the door is as it was, and no line is written
 -- but the last.
 abbrev pub IsMemberReported : FileRead → DoorSeen → DoorSeen → List ℕ → ℕ → Status → List ℕ → List ℕ → Type 0
 IsMemberReported g before after address count status.GraphRefused lines last = (e : NtError) × IsNoGraph g e × (lines ≡ []) × (last ≡ graph_refused e) × (after ≡ before)
 IsMemberReported g before after address count status.ReadFault lines last = HasFailed g × (lines ≡ []) × (last ≡ cannot_read g.name) × (after ≡ before)
 IsMemberReported g before after address count status.FileTooLong lines last = IsTooLong graph_limit g × (lines ≡ []) × (last ≡ graph_too_long g.name) × (after ≡ before)
-IsMemberReported g before after address count status.NoMemory lines last = ((lines ≡ []) × (last ≡ no_memory) × (after ≡ before)) ⊎ ((graph : List Triple) × IsGraphOf g graph × IsServingReported before after address count graph status.NoMemory lines last)
-IsMemberReported g before after address count s lines last = (graph : List Triple) × IsGraphOf g graph × IsServingReported before after address count graph s lines last
+IsMemberReported g before after address count status.NoMemory lines last = ((lines ≡ []) × (last ≡ no_memory) × (after ≡ before)) ⊎ ((graph : List Triple) × IsGraphOf g graph × IsServingReported before after (once_more before address) count graph status.NoMemory lines last)
+IsMemberReported g before after address count s lines last = (graph : List Triple) × IsGraphOf g graph × IsServingReported before after (once_more before address) count graph s lines last
 
 -- what a member reports, and that its sink of lines gained these
 abbrev pub HasMemberReport : FileRead → DoorSeen → DoorSeen → List ℕ → ℕ → Status → SinkWritten → Type 0

@@ -1,13 +1,13 @@
 //! The command `member`.
-ghost use Rattle.std.specs.Prelude.{◌≡◌, ◌+◌, ◌++◌, ◌≤◌, ℕ, List, [], Some, Err, IfErr, IfOk, IsErr, IsTrue, OnErr, OnOk};
-ghost use Rattle.fx_http.specs.Requests.{TakesOfRequest};
+ghost use Rattle.std.specs.Prelude.{◌≡◌, ◌+◌, ◌++◌, ◌≤◌, ℕ, List, [], Err, IfErr, IfOk, IsErr, IsTrue, OnErr, OnOk};
 ghost use Rattle.fx_outside.specs.Doors.{output_of};
 ghost use Rattle.fx_outside.specs.Faults.{HasRisen};
 ghost use Rattle.fx_outside.specs.Streams.{AppendsFront, AppendsPart};
 ghost use Rattle.fx_local.specs.Counts.{CountsDoor, CountsOnly};
 ghost use Rattle.fx_local.specs.Files.{file_read};
 ghost use Rattle.fx_local.specs.Lines.{Gains};
-ghost use Rattle.fx_local.specs.Serving.{ending_line, ending_text, HasMemberReport, IsEnded, IsLastCut, IsServingReported};
+ghost use Rattle.fx_http.specs.Requests.{TakesOfRequest};
+ghost use Rattle.fx_local.specs.Serving.{ending_line, ending_text, HasMemberReport, IsEnded, IsLastCut, IsServingReported, once_more};
 ghost use Rattle.fx_local.specs.Sinks.{sink_written};
 ghost use Rattle.fx_local.specs.ServingSteps.{end_line, end_status, GivesEnding};
 
@@ -71,14 +71,14 @@ fn serve_store<D: Door, E: Sink>(
     count: u64,
     err: &mut E,
 ) -> Status
-    ensures reported { (lines : List ℕ) × (last : List ℕ) × IsServingReported (D.seen door.old) (D.seen door.new) address.now count store.now result lines last × (IsTrue E.tells_held → Gains (E.held err.old ++ lines) (E.held err.new) (E.write_faults err.old) (E.write_faults err.new) last) × IsLastCut result (sink_written E.tells_held E.held E.write_faults err.old err.new) lines last }
+    ensures reported { (lines : List ℕ) × (last : List ℕ) × IsServingReported (D.seen door.old) (D.seen door.new) (once_more (D.seen door.old) address.now) count store.now result lines last × (IsTrue E.tells_held → Gains (E.held err.old ++ lines) (E.held err.new) (E.write_faults err.old) (E.write_faults err.new) last) × IsLastCut result (sink_written E.tells_held E.held E.write_faults err.old err.new) lines last }
     ensures write_fault { result ≡ Status.WriteFault → HasRisen (E.write_faults err.old) (E.write_faults err.new) }
     ensures unfailed_lines { result ≡ Status.Done → E.write_faults err.new ≡ E.write_faults err.old }
     ensures door_faults { CountsDoor result (D.seen door.old).faults (D.seen door.new).faults }
     ensures opened { (D.seen door.old).faults ≤ (D.seen door.new).faults }
 {
     match door.start(alloc, address) {
-        Ok(()) => serve(alloc, store, door, address, count, err),
+        Ok(()) => serve(alloc, store, door, count, err),
         Err(error) => end(err, error),
     }
 }
@@ -88,12 +88,10 @@ fn serve<D: Door, E: Sink>(
     alloc: Global,
     store: &Store,
     door: &mut D,
-    address: &str,
     count: u64,
     err: &mut E,
 ) -> Status
-    requires { IsTrue (D.seen door.old).tells → (D.seen door.old).started ≡ Some address.now }
-    ensures reported { (lines : List ℕ) × (last : List ℕ) × IsServingReported (D.seen door.old) (D.seen door.new) address.now count store.now result lines last × (IsTrue E.tells_held → Gains (E.held err.old ++ lines) (E.held err.new) (E.write_faults err.old) (E.write_faults err.new) last) × IsLastCut result (sink_written E.tells_held E.held E.write_faults err.old err.new) lines last }
+    ensures reported { (lines : List ℕ) × (last : List ℕ) × IsServingReported (D.seen door.old) (D.seen door.new) (D.seen door.old).started count store.now result lines last × (IsTrue E.tells_held → Gains (E.held err.old ++ lines) (E.held err.new) (E.write_faults err.old) (E.write_faults err.new) last) × IsLastCut result (sink_written E.tells_held E.held E.write_faults err.old err.new) lines last }
     ensures write_fault { result ≡ Status.WriteFault → HasRisen (E.write_faults err.old) (E.write_faults err.new) }
     ensures unfailed_lines { result ≡ Status.Done → E.write_faults err.new ≡ E.write_faults err.old }
     ensures door_faults { CountsDoor result (D.seen door.old).faults (D.seen door.new).faults }
@@ -135,7 +133,7 @@ fn serve_conn<L: Source + Sink>(
     store: &Store,
     conn: &mut L,
 ) -> Result<Ending, DoorError>
-    ensures ended { IsTrue L.tells_left → IsTrue L.tells_held → L.held conn.old ≡ [] → L.read_faults conn.old ≡ 0 → L.write_faults conn.old ≡ 0 → IfOk result (IsEnded store.now (L.left conn.old) (output_of (L.held conn.new) (L.read_faults conn.new) (L.write_faults conn.new))) }
+    ensures ended { IsTrue L.tells_left → IsTrue L.tells_held → L.held conn.old ≡ [] → L.read_faults conn.old ≡ 0 → L.write_faults conn.old ≡ 0 → IfOk result (IsEnded store.now (L.left conn.old) (output_of (L.held conn.new) (L.left conn.new) (L.read_faults conn.new) (L.write_faults conn.new))) }
     ensures within { IsTrue L.tells_left → TakesOfRequest (L.left conn.old) (L.left conn.new) }
     ensures memory { IfErr result (λ e. e ≡ DoorError.Memory) }
     ensures nothing { IsTrue L.tells_held → IfErr result (λ _. L.held conn.new ≡ L.held conn.old) }

@@ -1,20 +1,21 @@
 -- What goes in and out at a door.
-use Rattle.std.specs.Prelude.{◌≡◌, ◌==◌, ℕ, Bool, List, [], ◌∷◌, Option, map, filter}
+use Rattle.std.specs.Prelude.{◌≡◌, ◌==◌, ℕ, Bool, List, [], ◌∷◌, map, filter}
 
--- what was written to a connection that is finished, and how many of its reads and writes failed
+-- of a connection that is finished: what was written to it, what of its input wasn't taken, and how many of its reads and writes failed
 pub record Output : Type 0 where
   pub held : List ℕ
+  pub left : List ℕ
   pub read_faults : ℕ
   pub write_faults : ℕ
 
-abbrev pub output_of : List ℕ → ℕ → ℕ → Output
-output_of held reads writes = record { held = held; read_faults = reads; write_faults = writes }
+abbrev pub output_of : List ℕ → List ℕ → ℕ → ℕ → Output
+output_of held left reads writes = record { held = held; left = left; read_faults = reads; write_faults = writes }
 
--- what is known of a door at a moment: whether it tells, the address that it was started at, what will be read from the connections that
--- are to come, what was written to those that are finished, and how many calls have failed
+-- what is known of a door at a moment: whether it tells, the address of each time that it was opened, in order, what will be read from the connections that
+-- are to come, what was written to those that are finished and what of their inputs wasn't taken, and how many calls have failed
 pub record DoorSeen : Type 0 where
   pub tells : Bool
-  pub started : Option (List ℕ)
+  pub started : List (List ℕ)
   pub inputs : List (List ℕ)
   pub outputs : List Output
   pub faults : ℕ

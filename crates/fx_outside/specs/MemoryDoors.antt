@@ -1,16 +1,15 @@
 -- What a door in memory holds.
-use Rattle.std.specs.Prelude.{◌≡◌, ℕ, ◌+◌, ◌==◌, min, Bool, List, [], map, drop, Option, None, Vec, string_bytes}
+use Rattle.std.specs.Prelude.{◌≡◌, ℕ, ◌+◌, ◌==◌, min, Bool, List, [], map, drop, String, Vec, string_bytes}
 use Rattle.std.specs.List.{list_any}
-use Rattle.std.specs.Option.{option_map}
 use Rattle.std.specs.declared.alloc.Global.{Global}
 use Rattle.fx_outside.specs.declared.memory_doors.MemoryDoor.{MemoryDoor}
 use Rattle.fx_outside.specs.declared.memory_links.MemoryLink.{MemoryLink}
 use Rattle.fx_outside.specs.Doors.{Output, numbers_of, output_of}
 use Rattle.fx_outside.specs.MemoryLinks.{IsFreshLink, left_in, written_in, read_faults_of, write_faults_of}
 
--- the address that it was started at
-abbrev pub address_in : MemoryDoor → Option (List ℕ)
-address_in door = option_map string_bytes door.address
+-- the address of each time that it was opened
+abbrev pub addresses_in : MemoryDoor → List (List ℕ)
+addresses_in door = map (λ (address : String Global). string_bytes address) door.addresses.items
 
 abbrev pub contents : List (Vec ℕ Global) → List (List ℕ)
 contents inputs = map (λ (input : Vec ℕ Global). input.items) inputs
@@ -20,9 +19,9 @@ abbrev pub inputs_in : MemoryDoor → List (List ℕ)
 inputs_in door = contents (drop door.taken door.inputs.items)
 
 abbrev pub output_in : MemoryLink → Output
-output_in link = output_of (written_in link) (read_faults_of link) (write_faults_of link)
+output_in link = output_of (written_in link) (left_in link) (read_faults_of link) (write_faults_of link)
 
--- what was written to the connections that are finished
+-- what was written to the connections that are finished, and what is left of them
 abbrev pub outputs_in : MemoryDoor → List Output
 outputs_in door = map output_in door.finished.items
 
@@ -48,7 +47,7 @@ next_connection door = door.taken + 1
 
 -- a door that was just made
 pub record IsFreshDoor (door : MemoryDoor) (inputs : List (Vec ℕ Global)) (room step : ℕ) (fails : List ℕ) (read_fails write_fails : List (ℕ × ℕ)) : Type 0 where
-  pub unstarted : address_in door ≡ None
+  pub unstarted : addresses_in door ≡ []
   pub all : inputs_in door ≡ contents inputs
   pub none : finished_in door ≡ []
   pub faultless : faults_in door ≡ 0

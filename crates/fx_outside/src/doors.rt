@@ -1,5 +1,5 @@
 //! Where connections come in.
-ghost use Rattle.std.specs.Prelude.{◌≡◌, ◌≤◌, ◌+◌, ◌++◌, ◌∷◌, [], Some, Bool, IsTrue, IsErrOf, IfOk, OnOk, OnErr};
+ghost use Rattle.std.specs.Prelude.{◌≡◌, ◌≤◌, ◌+◌, ◌++◌, ◌∷◌, [], Bool, IsTrue, IsErrOf, IfOk, OnOk, OnErr};
 ghost use Rattle.fx_outside.specs.Doors.{DoorSeen, output_of, IsTaken};
 
 use crate::streams::{Sink, Source};
@@ -49,8 +49,8 @@ impl From<fx_terms::Memory> for DoorError {
 
 /// A door, at which connections come in one after another.
 ///
-/// A door that tells, tells the address that it was started at, what will be read from the connections that are to come, and what
-/// was written to those that are finished; its connections then tell what is left of them and what they hold.
+/// A door that tells, tells the address of each time that it was opened, what will be read from the connections that are to come, and what
+/// was written to those that are finished and what of them wasn't read; its connections then tell what is left of them and what they hold.
 pub trait Door {
     /// A connection.
     type Conn: Source + Sink + Drop;
@@ -58,8 +58,8 @@ pub trait Door {
     /// Whether doors of this type tell.
     ghost tells: { Bool };
 
-    /// What is known of the door: the address that it was started at, what will be read from each of the connections that are to
-    /// come, in order, what was written to each of those that are finished, in order, and how many calls have failed.
+    /// What is known of the door: the address of each time that it was opened, in order, what will be read from each of the connections that
+    /// are to come, in order, what was written to each of those that are finished and what of it wasn't read, in order, and how many calls have failed.
     ghost seen: { Self → DoorSeen };
 
     /// Opens the door at an address, as `host:port`.
@@ -68,7 +68,7 @@ pub trait Door {
     /// `Memory` comes where memory runs out, or where that count stands at the end of `u64`. After either all that the door tells is
     /// as before.
     fn start(&mut self, alloc: Global, address: &str) -> Result<(), DoorError>
-        ensures started { IsTrue (seen self.old).tells → OnOk result ((seen self.new).started ≡ Some address.now) }
+        ensures started { IsTrue (seen self.old).tells → OnOk result ((seen self.new).started ≡ (seen self.old).started ++ address.now ∷ []) }
         ensures unstarted { IsTrue (seen self.old).tells → OnErr result ((seen self.new).started ≡ (seen self.old).started) }
         ensures inputs { IsTrue (seen self.old).tells → (seen self.new).inputs ≡ (seen self.old).inputs }
         ensures outputs { IsTrue (seen self.old).tells → (seen self.new).outputs ≡ (seen self.old).outputs }
@@ -90,12 +90,12 @@ pub trait Door {
         ensures counted { IsErrOf result DoorError.Failed → (seen self.new).faults ≡ (seen self.old).faults + 1 }
         ensures faultless { ¬ IsErrOf result DoorError.Failed → (seen self.new).faults ≡ (seen self.old).faults };
 
-    /// Ends a connection. A door that tells keeps what it holds behind the other outputs, with its counts of faults.
+    /// Ends a connection. A door that tells keeps what it holds and what is left of it behind the other outputs, with its counts of faults.
     ///
     /// `Failed` comes where it can't be ended. It counts exactly one more fault, and no other answer changes the count. `Memory`
     /// comes where memory runs out, or where that count stands at the end of `u64`. After either all that the door tells is as before.
     fn finish(&mut self, alloc: Global, conn: Self::Conn) -> Result<(), DoorError>
-        ensures ended { IsTrue (seen self.old).tells → OnOk result ((seen self.new).outputs ≡ (seen self.old).outputs ++ output_of (Self.Conn.held conn) (Self.Conn.read_faults conn) (Self.Conn.write_faults conn) ∷ []) }
+        ensures ended { IsTrue (seen self.old).tells → OnOk result ((seen self.new).outputs ≡ (seen self.old).outputs ++ output_of (Self.Conn.held conn) (Self.Conn.left conn) (Self.Conn.read_faults conn) (Self.Conn.write_faults conn) ∷ []) }
         ensures unended { IsTrue (seen self.old).tells → OnErr result ((seen self.new).outputs ≡ (seen self.old).outputs) }
         ensures started { IsTrue (seen self.old).tells → (seen self.new).started ≡ (seen self.old).started }
         ensures inputs { IsTrue (seen self.old).tells → (seen self.new).inputs ≡ (seen self.old).inputs }

@@ -20,7 +20,7 @@ pub struct MemoryDoor {
     fails: Vec<u64>,
     read_fails: Vec<(u64, u64)>,
     write_fails: Vec<(u64, u64)>,
-    address: Option<String>,
+    addresses: Vec<String>,
     finished: Vec<MemoryLink>,
     calls: u64,
     faults: u64,
@@ -58,7 +58,7 @@ impl MemoryDoor {
             fails,
             read_fails,
             write_fails,
-            address: None,
+            addresses: Vec::new(alloc),
             finished: Vec::new(alloc),
             calls: 0,
             faults: 0,
@@ -76,7 +76,7 @@ impl MemoryDoor {
     fn counts_a_failure(&mut self) -> bool
         ensures failing { result ≡ is_failing self.old }
         ensures after { IsAfterCall self.old self.new }
-        ensures address { self.new.address ≡ self.old.address }
+        ensures addresses { self.new.addresses ≡ self.old.addresses }
         ensures inputs { self.new.inputs ≡ self.old.inputs }
         ensures taken { self.new.taken ≡ self.old.taken }
         ensures finished { self.new.finished ≡ self.old.finished }
@@ -107,7 +107,7 @@ impl MemoryDoor {
         ensures step { self.new.step ≡ self.old.step }
         ensures read_fails { self.new.read_fails ≡ self.old.read_fails }
         ensures write_fails { self.new.write_fails ≡ self.old.write_fails }
-        ensures address { self.new.address ≡ self.old.address }
+        ensures addresses { self.new.addresses ≡ self.old.addresses }
         ensures inputs { self.new.inputs ≡ self.old.inputs }
         ensures taken { self.new.taken ≡ self.old.taken }
         ensures finished { self.new.finished ≡ self.old.finished }
@@ -124,26 +124,26 @@ impl MemoryDoor {
 }
 
 impl Door for MemoryDoor {
-    ghost use Rattle.std.specs.Prelude.{◌++◌, ◌∷◌, [], ◌⊎◌, Some, true, false, refl, IsErrOf, OnErr, OnOk};
+    ghost use Rattle.std.specs.Prelude.{◌++◌, ◌∷◌, [], ◌⊎◌, true, false, refl, IsErrOf, OnErr, OnOk};
     ghost use Rattle.fx_outside.specs.Doors.{IsTaken, output_of};
-    ghost use Rattle.fx_outside.specs.MemoryDoors.{IsAfterCall, IsFreshConnection, address_in, faults_in, finished_in, inputs_in, is_failing, next_connection, outputs_in};
+    ghost use Rattle.fx_outside.specs.MemoryDoors.{IsAfterCall, IsFreshConnection, addresses_in, faults_in, finished_in, inputs_in, is_failing, next_connection, outputs_in};
     ghost use Rattle.fx_outside.specs.MemoryLinks.{left_in, written_in, read_faults_of, write_faults_of};
 
     type Conn = MemoryLink;
 
     ghost tells = { true };
 
-    ghost seen = { λ door. record { tells = true; started = address_in door; inputs = inputs_in door; outputs = outputs_in door; faults = faults_in door } };
+    ghost seen = { λ door. record { tells = true; started = addresses_in door; inputs = inputs_in door; outputs = outputs_in door; faults = faults_in door } };
 
     ghost told = { λ _. refl };
 
     /// Opens the door at an address.
     ///
     /// `Failed` comes exactly where this call is to fail. `Memory` comes where memory runs out, or where the count of faults
-    /// stands at the end of `u64`. After either it has the address that it had.
+    /// stands at the end of `u64`. After either it has the addresses that it had.
     fn start(&mut self, alloc: Global, address: &str) -> Result<(), DoorError>
-        ensures started { OnOk result (address_in self.new ≡ Some address.now) }
-        ensures unstarted { OnErr result (address_in self.new ≡ address_in self.old) }
+        ensures started { OnOk result (addresses_in self.new ≡ addresses_in self.old ++ address.now ∷ []) }
+        ensures unstarted { OnErr result (addresses_in self.new ≡ addresses_in self.old) }
         ensures inputs { inputs_in self.new ≡ inputs_in self.old }
         ensures outputs { outputs_in self.new ≡ outputs_in self.old }
         ensures kept { faults_in self.old ≤ faults_in self.new }
@@ -158,7 +158,8 @@ impl Door for MemoryDoor {
         if self.counts_a_failure() {
             return Err(self.fault());
         }
-        self.address = Some(String::from_str(alloc, address)?);
+        let opened = String::from_str(alloc, address)?;
+        self.addresses.push(opened)?;
         Ok(())
     }
 
@@ -170,7 +171,7 @@ impl Door for MemoryDoor {
         ensures faultless_connection { IfOk result (λ conn. (read_faults_of conn ≡ 0) × (write_faults_of conn ≡ 0)) }
         ensures taken { IfOk result (λ conn. IsTaken (inputs_in self.old) (inputs_in self.new) (left_in conn) (written_in conn)) }
         ensures untaken { OnErr result (inputs_in self.new ≡ inputs_in self.old) }
-        ensures started { address_in self.new ≡ address_in self.old }
+        ensures started { addresses_in self.new ≡ addresses_in self.old }
         ensures outputs { outputs_in self.new ≡ outputs_in self.old }
         ensures kept { faults_in self.old ≤ faults_in self.new }
         ensures counted { IsErrOf result DoorError.Failed → faults_in self.new ≡ faults_in self.old + 1 }
@@ -196,9 +197,9 @@ impl Door for MemoryDoor {
     /// `Failed` comes exactly where this call is to fail. `Memory` comes where memory runs out, or where the count of faults
     /// stands at the end of `u64`. After either those that are finished are as they were.
     fn finish(&mut self, _alloc: Global, conn: MemoryLink) -> Result<(), DoorError>
-        ensures ended { OnOk result (outputs_in self.new ≡ outputs_in self.old ++ output_of (written_in conn) (read_faults_of conn) (write_faults_of conn) ∷ []) }
+        ensures ended { OnOk result (outputs_in self.new ≡ outputs_in self.old ++ output_of (written_in conn) (left_in conn) (read_faults_of conn) (write_faults_of conn) ∷ []) }
         ensures unended { OnErr result (outputs_in self.new ≡ outputs_in self.old) }
-        ensures started { address_in self.new ≡ address_in self.old }
+        ensures started { addresses_in self.new ≡ addresses_in self.old }
         ensures inputs { inputs_in self.new ≡ inputs_in self.old }
         ensures kept { faults_in self.old ≤ faults_in self.new }
         ensures counted { IsErrOf result DoorError.Failed → faults_in self.new ≡ faults_in self.old + 1 }

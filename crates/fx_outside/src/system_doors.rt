@@ -68,14 +68,14 @@ impl<N: Net> Listener<N> {
 }
 
 impl<N: Net + Clock + Clone + Drop> Door for Listener<N> {
-    ghost use Rattle.std.specs.Prelude.{false, refl, None, []};
+    ghost use Rattle.std.specs.Prelude.{false, refl, []};
     ghost use Rattle.fx_outside.specs.SystemLinks.{read_faults_of, write_faults_of};
 
     type Conn = StdLink<ReadAhead<Patient<N::Stream, N>>>;
 
     ghost tells = { false };
 
-    ghost seen = { λ door. record { tells = false; started = None; inputs = []; outputs = []; faults = door.faults } };
+    ghost seen = { λ door. record { tells = false; started = []; inputs = []; outputs = []; faults = door.faults } };
 
     ghost told = { λ _. refl };
 

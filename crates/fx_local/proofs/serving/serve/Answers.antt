@@ -25,7 +25,7 @@ returns-in-Err-write_ending-clause-reported g c =
     let last = ending_line (c.loop-number.number + 1) c.in-Ok.ending in (
       ending_lines 1 so.endings,
       last,
-      unwritten c.args.store.now (g.D.Door.seen c.args.door.now) g.E.Ends.tells_held (g.E.Ends.held c.args.err.now) (g.E.Ends.write_faults c.args.err.now) (g.D.Door.seen c.loop-number.door) (g.D.Door.seen c.serve_next.new.door) (g.E.Ends.held c.loop-number.err) (g.E.Ends.write_faults c.loop-number.err) c.loop-number.number so (alike g.met.D.Door.told c.loop-number.door c.args.door.now) c.args.address.now c.args.count c.requires c.loop-number-test.true c.in-Ok.ending c.in-Ok.ensures.ended c.in-Ok.ensures.started,
+      unwritten c.args.store.now (g.D.Door.seen c.args.door.now) g.E.Ends.tells_held (g.E.Ends.held c.args.err.now) (g.E.Ends.write_faults c.args.err.now) (g.D.Door.seen c.loop-number.door) (g.D.Door.seen c.serve_next.new.door) (g.E.Ends.held c.loop-number.err) (g.E.Ends.write_faults c.loop-number.err) c.loop-number.number so (alike g.met.D.Door.told c.loop-number.door c.args.door.now) c.args.count c.loop-number-test.true c.in-Ok.ending c.in-Ok.ensures.ended c.in-Ok.ensures.started,
       λ told. gains_behind _ _ _ _ (g.E.Ends.write_faults c.loop-number.err) _ (ending_lines 1 so.endings) last (so.lines told) so.faultless (record { front = c.in-Err-write_ending.ensures.front told; whole = λ not. absurd (not (c.in-Err-write_ending.ensures.failed refl)) }),
       λ is told. subst (λ (held : List ℕ). AppendsPart held (g.E.Ends.held c.write_ending.new.err) last) (so.lines told) (c.in-Err-write_ending.ensures.part told),
     )
@@ -39,9 +39,9 @@ returns-in-Err-clause-reported g c =
     let lines = ending_lines 1 so.endings in (
       lines,
       end_line e,
-      subst (λ (s : Status). IsServingReported before after c.args.address.now c.args.count c.args.store.now s lines (end_line e)) (sym c.end.ensures.status)
-          (ended before after c.args.address.now c.args.count c.args.store.now e lines (end_line e) (λ is. omega (arith, so.unfailed, c.in-Err.ensures.counted (ap Err is)))
-          (cut c.args.store.now before g.E.Ends.tells_held (g.E.Ends.held c.args.err.now) (g.E.Ends.write_faults c.args.err.now) (g.D.Door.seen c.loop-number.door) after (g.E.Ends.held c.loop-number.err) (g.E.Ends.write_faults c.loop-number.err) c.loop-number.number so (alike g.met.D.Door.told c.loop-number.door c.args.door.now) c.args.address.now c.args.count c.requires c.loop-number-test.true e c.in-Err.ensures.ended c.in-Err.ensures.started (end_line e))),
+      subst (λ (s : Status). IsServingReported before after before.started c.args.count c.args.store.now s lines (end_line e)) (sym c.end.ensures.status)
+          (ended before after before.started c.args.count c.args.store.now e lines (end_line e) (λ is. omega (arith, so.unfailed, c.in-Err.ensures.counted (ap Err is)))
+          (cut c.args.store.now before g.E.Ends.tells_held (g.E.Ends.held c.args.err.now) (g.E.Ends.write_faults c.args.err.now) (g.D.Door.seen c.loop-number.door) after (g.E.Ends.held c.loop-number.err) (g.E.Ends.write_faults c.loop-number.err) c.loop-number.number so (alike g.met.D.Door.told c.loop-number.door c.args.door.now) c.args.count c.loop-number-test.true e c.in-Err.ensures.ended c.in-Err.ensures.started (end_line e))),
       λ told. gains_behind _ _ _ _ _ _ lines (end_line e) (so.lines told) so.faultless (c.end.ensures.line told),
       λ is. absurd (ends_otherwise e (sym c.end.ensures.status ∙ is)),
     )
@@ -49,7 +49,7 @@ returns-in-Err-clause-reported g c =
 pub returns-clause-reported : goal.returns-clause-reported
 returns-clause-reported g c =
     let so = c.loop-number.invariant in
-    (ending_lines 1 so.endings, [], (so.endings, so.serves, so.count ∙ omega (arith, c.loop-number-test.false, c.loop-number.auto.number-end), λ tells. so.started tells ∙ c.requires tells, refl, refl), λ told. gains_none _ _ _ _ (ending_lines 1 so.endings) (so.lines told), λ is. absurd (done_otherwise is))
+    (ending_lines 1 so.endings, [], (so.endings, so.serves, so.count ∙ omega (arith, c.loop-number-test.false, c.loop-number.auto.number-end), λ tells. so.started tells, refl, refl), λ told. gains_none _ _ _ _ (ending_lines 1 so.endings) (so.lines told), λ is. absurd (done_otherwise is))
 
 pub returns-in-Err-write_ending-clause-door_faults : goal.returns-in-Err-write_ending-clause-door_faults
 returns-in-Err-write_ending-clause-door_faults g c = inl (c.in-Ok.ensures.faultless (λ failed. cc) ∙ c.loop-number.invariant.unfailed)

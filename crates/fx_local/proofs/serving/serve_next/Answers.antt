@@ -19,10 +19,10 @@ pub returns-in-Ok-finish-clause-ended : goal.returns-in-Ok-finish-clause-ended
 returns-in-Ok-finish-clause-ended g c = λ tells.
     let taken = c.in_ok-conn.ensures.taken tells in
     let later = subst IsTrue (alike g.met.D.Door.told c.args.door.now c.accept.new.self) tells in
-    served_one c.args.store.now (g.D.Door.seen c.args.door.now) (g.D.Door.seen c.finish.new.self) _ (output_of (g.D.Conn.Ends.held c.serve_conn.new.conn) (g.D.Conn.Ends.read_faults c.serve_conn.new.conn) (g.D.Conn.Ends.write_faults c.serve_conn.new.conn)) c.in-Ok.ending
-    (c.in-Ok.ensures.ended taken.0 taken.1.0 taken.1.1.empty c.in_ok-conn.ensures.faultless_connection.0 c.in_ok-conn.ensures.faultless_connection.1)
+    served_one c.args.store.now (g.D.Door.seen c.args.door.now) (g.D.Door.seen c.finish.new.self) _ (output_of (g.D.Conn.Ends.held c.serve_conn.new.conn) (g.D.Conn.Ends.left c.serve_conn.new.conn) (g.D.Conn.Ends.read_faults c.serve_conn.new.conn) (g.D.Conn.Ends.write_faults c.serve_conn.new.conn)) c.in-Ok.ending
+    (c.in-Ok.ensures.ended taken.0 taken.1.0 taken.1.1.empty c.in_ok-conn.ensures.faultless_connection.0 c.in_ok-conn.ensures.faultless_connection.1) (c.serve_conn.ensures.within taken.0)
     (taken.1.1.first ∙ ap (λ is. g.D.Conn.Ends.left c.in_ok-conn.conn ∷ is) (sym (c.in-Ok-finish.ensures.inputs later)))
-    (c.in-Ok-finish.ensures.ended later ∙ ap (λ os. os ++ output_of (g.D.Conn.Ends.held c.serve_conn.new.conn) (g.D.Conn.Ends.read_faults c.serve_conn.new.conn) (g.D.Conn.Ends.write_faults c.serve_conn.new.conn) ∷ []) (c.in_ok-conn.ensures.outputs tells))
+    (c.in-Ok-finish.ensures.ended later ∙ ap (λ os. os ++ output_of (g.D.Conn.Ends.held c.serve_conn.new.conn) (g.D.Conn.Ends.left c.serve_conn.new.conn) (g.D.Conn.Ends.read_faults c.serve_conn.new.conn) (g.D.Conn.Ends.write_faults c.serve_conn.new.conn) ∷ []) (c.in_ok-conn.ensures.outputs tells))
 
 pub returns-in-Err-finish-clause-counted : goal.returns-in-Err-finish-clause-counted
 returns-in-Err-finish-clause-counted g c = λ is.

@@ -3,16 +3,13 @@ use Rattle.fx_outside.specs.declared.doors.DoorError.TheVariants as door
 use Rattle.std.specs.Prelude.{IsTrue}
 use Rattle.fx_outside.proofs.AlikeLemmas.{alike}
 use Rattle.fx_local.specs.Counts.{CountsDoor}
-use Rattle.fx_local.specs.Serving.{IsServingReported}
+use Rattle.fx_local.specs.Serving.{IsServingReported, once_more}
 use Rattle.fx_local.specs.ServingSteps.{end_line}
 use Rattle.fx_local.specs.declared.statuses.Status.{Status}
 use Rattle.fx_local.proofs.CountLemmas.{door_later, end_counts}
 use Rattle.fx_local.proofs.GainLemmas.{gains_alone}
 use Rattle.fx_local.proofs.ServingLemmas.{not_opened, ended, ends_otherwise, opened_reported}
 use Rattle.fx_local.proofs.serving.serve_store.Goals as goal
-
-pub serve-requires : goal.serve-requires
-serve-requires g c = λ tells. c.in-Ok.ensures.started (subst IsTrue (alike g.met.D.Door.told c.start.new.self c.args.door.now) tells)
 
 pub returns-in-Err-clause-reported : goal.returns-in-Err-clause-reported
 returns-in-Err-clause-reported g c =
@@ -21,8 +18,8 @@ returns-in-Err-clause-reported g c =
     let e = c.in-Err.error in (
       [],
       end_line e,
-      subst (λ (s : Status). IsServingReported before after c.args.address.now c.args.count c.args.store.now s [] (end_line e)) (sym c.end.ensures.status)
-          (ended before after c.args.address.now c.args.count c.args.store.now e [] (end_line e) (λ is. let more = c.in-Err.ensures.counted (ap Err is) in omega (arith, more)) (not_opened c.args.store.now before after c.args.address.now c.args.count (end_line e) (λ tells. c.in-Err.ensures.unstarted tells) c.in-Err.ensures.outputs c.in-Err.ensures.inputs)),
+      subst (λ (s : Status). IsServingReported before after (once_more before c.args.address.now) c.args.count c.args.store.now s [] (end_line e)) (sym c.end.ensures.status)
+          (ended before after (once_more before c.args.address.now) c.args.count c.args.store.now e [] (end_line e) (λ is. let more = c.in-Err.ensures.counted (ap Err is) in omega (arith, more)) (not_opened c.args.store.now before after (once_more before c.args.address.now) c.args.count (end_line e) (λ tells. c.in-Err.ensures.unstarted tells) c.in-Err.ensures.outputs c.in-Err.ensures.inputs)),
       λ told. gains_alone _ _ _ _ (end_line e) (c.end.ensures.line told),
       λ is. absurd (ends_otherwise e (sym c.end.ensures.status ∙ is)),
     )
