@@ -21,7 +21,10 @@ use Rattle.fx_algebra.specs.declared.queries.Inline.{Inline}
 use Rattle.fx_algebra.specs.declared.queries.Group.{Group, fold_out-Group}
 use Rattle.fx_algebra.proofs.ForcedLemmas.{IsForced, of_outcome, forced_is}
 use Rattle.fx_algebra.proofs.JoinLemmas.{join_extends, join_run, same_join}
-use Rattle.fx_member.specs.GroupRows.{AreDown, part_of, after_part, AreRowsOf, AreUnfiltered, AreFilters, AreMoreFilters, AreAlternatives, AreAfter}
+use Rattle.fx_steps.specs.Fewer.{AreFewer}
+use Rattle.fx_member.specs.GroupRows.{AreDown, part_of, after_part, AreFewerRows, AreUnfiltered, AreFilters, AreMoreFilters, AreAlternatives, AreAfter}
+use Rattle.fx_member.proofs.ConditionLemmas.{all_of_them}
+use Rattle.fx_member.proofs.OutsideLemmas.{fewer_appended}
 use Rattle.fx_algebra.proofs.MoveLemmas.{after_moves, steps_move}
 use Rattle.fx_algebra.proofs.OperatorLemmas.{filtered_moves, filtered_by_none, minus_moves, left_join_moves, join_one}
 
@@ -215,18 +218,6 @@ module _ (graph : List Triple) (before rows : List Bindings) where
       (left_join_moves before before (m.rows graph number) found m.filters (IsPermutation-refl before) (h.same graphs down number all))
       (subst (λ (es : List Expr). IsPermutation (left_join before found es) rows) (k.same graphs down) p))
 
-  pub after_union : (gs : List Group) (found : List Bindings) → AreAlternatives gs graph found → IsPermutation (join before found) rows → AreAfter (Union gs) graph before rows
-  after_union gs found h p =
-      by_part (Union gs) (λ graphs down. element_meaning graphs down (Element-F.Union (map (meaning graphs down) gs))) (λ graphs down. part_union graphs down gs)
-      (λ graphs down number all. let others = alternatives (map (meaning graphs down) gs) graph number in
-      IsPermutation-trans (join before others) (join before found) rows (same_join before before others found (IsPermutation-refl before) (h.same graphs down number all)) p)
-
-  pub after_minus : (g : Group) (found : List Bindings) → AreRowsOf g graph found → rows ≡ minus before found → AreAfter (Minus g) graph before rows
-  after_minus g found h e =
-      by_part (Minus g) (λ graphs down. element_meaning graphs down (Element-F.Minus (meaning graphs down g))) (λ graphs down. part_minus graphs down g)
-      (λ graphs down number all. let others = group_rows (meaning graphs down g) graph number in
-      IsPermutation-trans (minus before others) (minus before found) rows (minus_moves before before others found (IsPermutation-refl before) (h.same graphs down number all)) (equal_rows (minus before found) e))
-
   pub after_bind : (e : Expr) (name : List ℕ) → rows ≡ extend before name e → AreAfter (Bind e name) graph before rows
   after_bind e name same =
       by_part (Bind e name) (λ graphs down. element_meaning graphs down (Element-F.Bind e name)) (λ graphs down. part_bind graphs down e name) (λ graphs down number h. equal_rows (extend before name e) same)
@@ -282,14 +273,6 @@ more_filters e before filters known same f = record { same = λ graphs down. f g
 pub more_by_filter : (e : Expr) (before filters : List Expr) → filters ≡ before ++ e ∷ [] → AreMoreFilters (Filter e) before filters
 more_by_filter e before filters h = more_filters (Filter e) before filters (λ graphs down. condition e) (λ graphs down. part_filter graphs down e) (λ graphs down. h)
 
-pub rows_filtered : (g : Group) (graph : List Triple) (found rows : List Bindings) (filters : List Expr) → AreUnfiltered g graph found → AreFilters g filters → rows ≡ filtered filters found → AreRowsOf g graph rows
-rows_filtered g graph found rows filters h k e = record {
-  same = λ graphs down number all.
-      let m = meaning graphs down g in
-      subst (λ (v : List Bindings). IsPermutation (filtered m.filters (m.rows graph number)) v) (ap (λ (es : List Expr). filtered es found) (sym (k.same graphs down)) ∙ sym e)
-      (filtered_moves m.filters (m.rows graph number) found (h.same graphs down number all));
-}
-
 groups_append : (graphs : List ℕ → List Triple) (down : List ℕ) (xs ys : List Group) → groups_services (map (meaning graphs down) (xs ++ ys)) ≡ groups_services (map (meaning graphs down) xs) + groups_services (map (meaning graphs down) ys)
 groups_append graphs down [] ys = omega arith
 groups_append graphs down (x ∷ xs) ys =
@@ -303,26 +286,27 @@ alternatives_append (x ∷ ms) m graph number =
     ap (λ v. group_rows x graph number ++ v) (alternatives_append ms m graph (number + x.services) ∙ ap (λ n. alternatives ms graph (number + x.services) ++ group_rows m graph n) there)
     ∙ sym (append_assoc (group_rows x graph number) (alternatives ms graph (number + x.services)) (group_rows m graph (number + (x.services + groups_services ms))))
 
-pub alternatives_none : (graph : List Triple) → AreAlternatives [] graph []
-alternatives_none graph = record { same = λ graphs down number h. IsPermutation-refl [] }
+pub alternatives_none : (graph : List Triple) (outside : List Expr) → AreAlternatives [] graph outside []
+alternatives_none graph outside = record { same = λ graphs down number h. all_of_them outside [] }
 
-pub alternatives_more : (gs : List Group) (g : Group) (graph : List Triple) (before found rows : List Bindings) → AreAlternatives gs graph before → AreRowsOf g graph found → rows ≡ before ++ found → AreAlternatives (gs ++ g ∷ []) graph rows
-alternatives_more gs g graph before found rows h k e = record {
+pub alternatives_more : (gs : List Group) (g : Group) (graph : List Triple) (outside : List Expr) (before found rows : List Bindings) → AreAlternatives gs graph outside before → AreFewerRows g graph outside found → rows ≡ before ++ found
+    → AreAlternatives (gs ++ g ∷ []) graph outside rows
+alternatives_more gs g graph outside before found rows h k e = record {
   same = λ graphs down number all.
       let ms = map (meaning graphs down) gs in
       let m = meaning graphs down g in
       let counted : groups_services (map (meaning graphs down) (gs ++ g ∷ [])) ≡ groups_services ms + groups_services (map (meaning graphs down) (g ∷ [])) = groups_append graphs down gs (g ∷ []) in
       let parts : map (meaning graphs down) (gs ++ g ∷ []) ≡ ms ++ m ∷ [] = map-append (meaning graphs down) gs (g ∷ []) in
-      subst (λ (v : List Bindings). IsPermutation (alternatives (map (meaning graphs down) (gs ++ g ∷ [])) graph number) v) (sym e)
-      (subst (λ (v : List Bindings). IsPermutation v (before ++ found)) (sym (ap (λ (l : List Meaning). alternatives l graph number) parts ∙ alternatives_append ms m graph number))
-      (IsPermutation-append (alternatives ms graph number) before (group_rows m graph (number + groups_services ms)) found
+      subst (λ (v : List Bindings). AreFewer outside v (alternatives (map (meaning graphs down) (gs ++ g ∷ [])) graph number)) (sym e)
+      (subst (λ (v : List Bindings). AreFewer outside (before ++ found) v) (sym (ap (λ (l : List Meaning). alternatives l graph number) parts ∙ alternatives_append ms m graph number))
+      (fewer_appended outside before (alternatives ms graph number) found (group_rows m graph (number + groups_services ms))
       (h.same graphs down number (down_within down number (groups_services (map (meaning graphs down) (gs ++ g ∷ []))) number (groups_services ms) all (omega arith) (omega (arith, counted))))
       (k.same graphs down (number + groups_services ms) (down_within down number (groups_services (map (meaning graphs down) (gs ++ g ∷ []))) (number + groups_services ms) m.services all (omega arith) (omega (arith, counted))))));
 }
 
-pub alternatives_next : (all : List Group) (i : ℕ) (g : Group) (graph : List Triple) (before found rows : List Bindings) → i < length all → g ≡ get_or all i g
-    → AreAlternatives (take i all) graph before → AreRowsOf g graph found → rows ≡ before ++ found → AreAlternatives (take (i + 1) all) graph rows
-alternatives_next all i g graph before found rows b is h k e = subst (λ (v : List Group). AreAlternatives v graph rows) (taken all i g b is) (alternatives_more (take i all) g graph before found rows h k e)
+pub alternatives_next : (all : List Group) (i : ℕ) (g : Group) (graph : List Triple) (outside : List Expr) (before found rows : List Bindings) → i < length all → g ≡ get_or all i g
+    → AreAlternatives (take i all) graph outside before → AreFewerRows g graph outside found → rows ≡ before ++ found → AreAlternatives (take (i + 1) all) graph outside rows
+alternatives_next all i g graph outside before found rows b is h k e = subst (λ (v : List Group). AreAlternatives v graph outside rows) (taken all i g b is) (alternatives_more (take i all) g graph outside before found rows h k e)
 
 -- ---- a group of one pattern
 

@@ -3,7 +3,7 @@ use Rattle.std.proofs.Common.{◌≡◌, ◌∙◌, ap, sym, subst, refl, inl, i
 use Rattle.std.specs.Prelude.{All, Contains}
 use Rattle.std.specs.List.{AllByRecursion, list_any}
 use Rattle.std.specs.Ordering.{is_eq}
-use Rattle.std.proofs.lemmas.List.Elements.{All-from_recursion, recursion_from_All}
+use Rattle.std.proofs.lemmas.List.Elements.{All-append, All-from_recursion, recursion_from_All}
 use Rattle.std.proofs.lemmas.List.Folds.{list_any-append}
 use Rattle.std.proofs.lemmas.List.Sorted.{IsPermutation-refl, IsPermutation-sym}
 use Rattle.fx_terms.proofs.SetLemmas.{Among}
@@ -25,7 +25,7 @@ use Rattle.fx_algebra.specs.declared.worths.Worth.TheVariants as worth
 use Rattle.fx_algebra.specs.declared.expressions.Compare.TheVariants as compare
 use Rattle.fx_algebra.specs.declared.expressions.Expr.{Expr, Expr-F, fold-roll-Expr}
 use Rattle.fx_algebra.specs.declared.expressions.Expr.TheVariants.{Variable, Constant, Compare as Compares, rolls-Variable, rolls-Constant, rolls-Compare}
-use Rattle.fx_algebra.proofs.ForcedLemmas.{Extends, name_from, same_from}
+use Rattle.fx_algebra.proofs.ForcedLemmas.{Extends, name_from, same_from, same_itself}
 use Rattle.fx_algebra.proofs.JoinLemmas.{extended_agree, join_run}
 use Rattle.fx_algebra.proofs.JoinOrderLemmas.{rise_join}
 use Rattle.fx_algebra.proofs.RunLemmas.{all_T, among_flat}
@@ -33,7 +33,7 @@ use Rattle.fx_steps.specs.Fewer.{AreFewer, IsGone}
 use Rattle.fx_steps.proofs.FewerLemmas.{fewer_laws}
 use Rattle.fx_steps.proofs.GroupLemmas.{binds_run, split_rows}
 use Rattle.fx_steps.proofs.StepLemmas.{in_filter}
-use Rattle.fx_member.specs.Known.{ComeToFewer, IsKnown}
+use Rattle.fx_member.specs.Known.{AreMoreKnown, ComeToFewer, IsKnown, IsSaidBy, IsSaying}
 use Rattle.fx_member.proofs.ConditionLemmas.{all_of_them}
 use Rattle.fx_member.proofs.RunLemmas.{table_first}
 
@@ -86,18 +86,33 @@ said : (o : Option Term) (iri : List ℕ) → is_true (truth_of (option_map bool
 said None iri h = cc
 said (Some v) iri h = ap Some (to_iri v iri (ap (λ (b : Option Bool). is_true (truth_of (option_map boolean b))) (sym (equal_to_iri v iri)) ∙ h))
 
+said_value : (name iri : List ℕ) (s : Bindings) → value (Compares compare.Equal (Variable name) (Constant (term.Iri iri))) s ≡ option_map boolean (on_both (compared compare.Equal) (term_of s name) (Some (term.Iri iri)))
+said_value name iri s =
+    value_equal (Variable name) (Constant (term.Iri iri)) s
+    ∙ ap (λ (o : Option Term). option_map boolean (on_both (compared compare.Equal) o (value (Constant (term.Iri iri)) s))) (value_variable name s)
+    ∙ ap (λ (o : Option Term). option_map boolean (on_both (compared compare.Equal) (term_of s name) o)) (value_constant (term.Iri iri) s)
+
 pub known_equal : (e l r : Expr) (name iri : List ℕ) → e ≡ Compares compare.Equal l r → l ≡ Variable name → r ≡ Constant (term.Iri iri) → IsKnown e name iri
 known_equal e l r name iri is left right =
     let whole : e ≡ Compares compare.Equal (Variable name) (Constant (term.Iri iri)) = is ∙ ap (λ x. Compares compare.Equal x r) left ∙ ap (λ x. Compares compare.Equal (Variable name) x) right in
     subst (λ x. IsKnown x name iri) (sym whole) (record {
       names = names_equal (Variable name) (Constant (term.Iri iri)) ∙ ap (λ (v : List (List ℕ)). v ++ expr_names (Constant (term.Iri iri))) (names_variable name) ∙ ap (λ (v : List (List ℕ)). name ∷ v) (names_constant (term.Iri iri));
       says = λ s h.
-          let v : value (Compares compare.Equal (Variable name) (Constant (term.Iri iri))) s ≡ option_map boolean (on_both (compared compare.Equal) (term_of s name) (Some (term.Iri iri))) =
-          value_equal (Variable name) (Constant (term.Iri iri)) s
-          ∙ ap (λ (o : Option Term). option_map boolean (on_both (compared compare.Equal) o (value (Constant (term.Iri iri)) s))) (value_variable name s)
-          ∙ ap (λ (o : Option Term). option_map boolean (on_both (compared compare.Equal) (term_of s name) o)) (value_constant (term.Iri iri) s) in
-          said (term_of s name) iri (ap (λ (o : Option Term). is_true (truth_of o)) (sym v) ∙ h);
+          said (term_of s name) iri (ap (λ (o : Option Term). is_true (truth_of o)) (sym (said_value name iri s)) ∙ h);
     })
+
+truth_said : is_true (truth_of (Some (boolean true))) ≡ true
+unfolding truth boolean kind_of integer_type read_boolean
+truth_said = refl
+
+-- it holds where the variable is the IRI
+pub said_is_so : (e : Expr) (name iri : List ℕ) (s : Bindings) → IsSaying e name iri → term_of s name ≡ Some (term.Iri iri) → is_so s e ≡ true
+said_is_so e name iri s says bound =
+    ap (is_so s) says
+    ∙ ap (λ (o : Option Term). is_true (truth_of o)) (said_value name iri s ∙ ap (λ (o : Option Term). option_map boolean (on_both (compared compare.Equal) o (Some (term.Iri iri)))) bound)
+    ∙ ap (λ (b : Option Bool). is_true (truth_of (option_map boolean b))) (equal_to_iri (term.Iri iri) iri)
+    ∙ ap (λ (b : Bool). is_true (truth_of (Some (boolean b)))) (same_itself (term.Iri iri) (term.Iri iri) refl)
+    ∙ truth_said
 
 -- ---- names of patterns
 
@@ -192,3 +207,9 @@ as_before conditions ps rows = record { same = λ graph. all_of_them conditions 
 
 pub in_turn : (conditions : List Expr) (ps : List Pattern) (known between rows : List Bindings) → ComeToFewer conditions ps known between → ComeToFewer conditions ps between rows → ComeToFewer conditions ps known rows
 in_turn conditions ps known between rows h k = record { same = λ graph. fewer_laws.in_turn conditions (rows_from graph known ps) (rows_from graph between ps) (rows_from graph rows ps) (h.same graph) (k.same graph) }
+
+-- ---- what a row says
+
+pub said_more : (row : Bindings) (before known : List Expr) → All (IsSaidBy row) before → AreMoreKnown row before known → All (IsSaidBy row) known
+said_more row before known h (inl same) = subst (All (IsSaidBy row)) (sym same) h
+said_more row before known h (inr more) = subst (All (IsSaidBy row)) (sym more.2) (All-append (IsSaidBy row) before (more.0 ∷ []) h (All-from_recursion (IsSaidBy row) (more.0 ∷ []) (more.1, tt)))

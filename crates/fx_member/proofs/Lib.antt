@@ -4,6 +4,7 @@ pub mod ConditionLemmas
 pub mod ConjunctLemmas
 pub mod RunLemmas
 pub mod KnownLemmas
+pub mod OutsideLemmas
 pub mod WalkLemmas
 pub mod CountLemmas
 pub mod PlaceLemmas

@@ -1,25 +1,25 @@
 -- A group is gone through with the patterns of a run held back.
-use Rattle.std.proofs.Common.{◌≡◌, ◌∙◌, ap, sym, subst, refl, ℕ, ◌+◌, ◌<◌, ◌≤◌, Bool, not, ◌&&◌, List, [], ◌∷◌, ◌++◌, map, filter, length, take, drop, get_or, IsTrue, IsPermutation, arith, append_assoc}
+use Rattle.std.proofs.Common.{◌≡◌, ◌∙◌, ap, sym, subst, refl, inl, ℕ, ◌+◌, ◌<◌, ◌≤◌, Bool, not, ◌&&◌, List, [], ◌∷◌, ◌++◌, map, filter, length, take, drop, get_or, IsTrue, IsPermutation, arith, append_assoc}
 use Rattle.std.specs.Prelude.{All}
-use Rattle.std.specs.List.{flat_map, list_any}
+use Rattle.std.specs.List.{filter_map, flat_map, list_any}
 use Rattle.std.proofs.lemmas.List.{drop_more, drop_all}
 use Rattle.std.specs.List.Sorted.{IsStrictlySortedBy}
 use Rattle.fx_terms.specs.Triples.{triple_cmp}
-use Rattle.fx_algebra.specs.Operators.{filtered, inline_rows, join, left_join}
+use Rattle.fx_algebra.specs.Operators.{filtered, inline_rows, join, left_join, minus}
 use Rattle.fx_member.proofs.ConditionLemmas.{all_of_them}
 use Rattle.fx_member.proofs.RunLemmas.{bgps_move, table_first}
 use Rattle.std.proofs.lemmas.List.Elements.{All-from_recursion, recursion_from_All}
-use Rattle.std.proofs.lemmas.List.Sorted.{IsPermutation-refl, IsPermutation-sym, IsPermutation-trans}
+use Rattle.std.proofs.lemmas.List.Sorted.{IsPermutation-append, IsPermutation-refl, IsPermutation-sym, IsPermutation-trans}
 use Rattle.fx_terms.specs.declared.triples.Triple.{Triple}
 use Rattle.fx_terms.specs.declared.patterns.Pattern.{Pattern}
-use Rattle.fx_algebra.specs.Evaluation.{rows_from}
+use Rattle.fx_algebra.specs.Evaluation.{extended, rows_from}
 use Rattle.fx_algebra.specs.Conditions.{holds}
-use Rattle.fx_algebra.specs.BasicGraphPatterns.{bgp}
-use Rattle.fx_algebra.specs.Groups.{Meaning, Step, after, apply, element_meaning, meaning, one_empty, part_services, run, steps_of}
+use Rattle.fx_algebra.specs.BasicGraphPatterns.{bgp, forced, parts_of}
+use Rattle.fx_algebra.specs.Groups.{Meaning, Part, Step, after, alternatives, apply, condition, element_meaning, group_rows, meaning, one_empty, operator, part_services, pattern, run, steps_of}
 use Rattle.fx_algebra.specs.Solutions.{Bindings, agree, merge, rises}
 use Rattle.fx_algebra.specs.declared.expressions.Expr.{Expr}
 use Rattle.fx_algebra.specs.declared.queries.Element.{Element, Element-F}
-use Rattle.fx_algebra.specs.declared.queries.Element.TheVariants.{Triple as Triple-E, Filter, Optional, Union, Values}
+use Rattle.fx_algebra.specs.declared.queries.Element.TheVariants.{Triple as Triple-E, Filter, Optional, Union, Values, Minus}
 use Rattle.fx_algebra.specs.declared.queries.Inline.{Inline}
 use Rattle.fx_algebra.specs.declared.queries.Group.{Group}
 use Rattle.fx_algebra.proofs.MoveLemmas.{after_moves, steps_move}
@@ -27,9 +27,13 @@ use Rattle.fx_algebra.proofs.OperatorLemmas.{filtered_by_none}
 use Rattle.fx_steps.specs.Fewer.{AreFewer}
 use Rattle.fx_steps.specs.Groups.{ComesOut, IsPushed}
 use Rattle.fx_steps.proofs.FewerLemmas.{fewer_laws}
-use Rattle.fx_member.specs.GroupRows.{AreAfter, AreAlternatives, AreConditions, AreDown, AreNearly, AreRowsOf, AreUnfiltered, after_part, part_of}
+use Rattle.fx_steps.proofs.GroupLemmas.{PartGoes, part_goes}
+use Rattle.fx_terms.proofs.SetLemmas.{Among}
+use Rattle.std.proofs.lemmas.Grind.{flat_map-append}
+use Rattle.fx_member.specs.GroupRows.{AreAfter, AreAlternatives, AreConditions, AreDown, AreFewerRows, AreKnown, AreNearly, AreRowsOf, AreUnfiltered, after_part, part_of}
 use Rattle.fx_member.specs.Optionals.{IsRunOf, matches_or_itself}
-use Rattle.fx_member.proofs.GroupLemmas.{AllRise, after_filter, after_triple, after_union, after_values, all_rise, by_part, down_within, meaning_is, part_optional, part_step, plus_none, services_append, services_of, taken}
+use Rattle.fx_member.proofs.GroupLemmas.{AllRise, after_filter, after_triple, after_values, all_rise, by_part, down_within, meaning_is, part_minus, part_optional, part_step, part_union, plus_none, services_append, services_of, taken}
+use Rattle.fx_member.proofs.OutsideLemmas.{all_there, fewer_filtered, fewer_joined, join_known, left_join_known, minus_known}
 use Rattle.fx_member.proofs.OptionalLemmas.{left_join_of_run, rising_rows_from, rows_from_more}
 
 -- what is left completes the rows after the elements so far, without some that conditions refuse
@@ -37,6 +41,10 @@ pub record IsNear (conditions : List Expr) (all done left : List Element) (graph
   pub split : done ++ left ≡ all
   pub same : (graphs : List ℕ → List Triple) (down : List ℕ) (number : ℕ) → AreDown down number (services_of graphs down all)
       → AreFewer conditions (after graph (number + services_of graphs down done) rows (steps_of (map (part_of graphs down) left))) (after graph number one_empty (steps_of (map (part_of graphs down) all)))
+
+-- the rows are those after an element that had these before it, without some that conditions refuse
+record AreNearlyAfter (conditions : List Expr) (e : Element) (graph : List Triple) (before rows : List Bindings) : Type 0 where
+  pub same : (graphs : List ℕ → List Triple) (down : List ℕ) (number : ℕ) → AreDown down number (part_services (part_of graphs down e)) → AreFewer conditions rows (after_part graph number before (part_of graphs down e))
 
 module _ (conditions : List Expr) where
   -- the steps of a group, as they stand
@@ -78,7 +86,7 @@ module _ (conditions : List Expr) where
   }
 
   -- one element more
-  near_more : (all done left : List Element) (e : Element) (graph : List Triple) (before rows : List Bindings) → IsNear conditions all done (e ∷ left) graph before → AllRise before → AreAfter e graph before rows
+  near_more : (all done left : List Element) (e : Element) (graph : List Triple) (before rows : List Bindings) → IsNear conditions all done (e ∷ left) graph before → AllRise before → AreNearlyAfter conditions e graph before rows
       → IsNear conditions all (done ++ e ∷ []) left graph rows
   near_more all done left e graph before rows so up next = record {
     split = append_assoc done (e ∷ []) left ∙ so.split;
@@ -92,19 +100,26 @@ module _ (conditions : List Expr) where
         let all_here : AreDown down here (part_services part) = down_within down number (services_of graphs down all) here (part_services part) h (omega arith) (omega (arith, counted, whole)) in
         let one : services_of graphs down (done ++ e ∷ []) ≡ services_of graphs down done + services_of graphs down (e ∷ []) = services_append graphs down done (e ∷ []) in
         let behind : here + part_services part ≡ number + services_of graphs down (done ++ e ∷ []) = omega (arith, one) in
-        let moved = after_moves graph steps (steps_move graphs down left) (here + part_services part) (after_part graph here before part) rows (next.same graphs down here all_here) in
-        fewer_laws.any_order conditions (after graph (here + part_services part) (after_part graph here before part) steps) (after graph (number + services_of graphs down (done ++ e ∷ [])) rows steps) start start
-        (subst (λ n. IsPermutation (after graph (here + part_services part) (after_part graph here before part) steps) (after graph n rows steps)) behind moved)
-        (IsPermutation-refl start)
-        (subst (λ (v : List Bindings). AreFewer conditions v start) (part_step graph here part steps before up) (so.same graphs down number h));
+        let between = after_part graph here before part in
+        let there = here + part_services part in
+        subst (λ n. AreFewer conditions (after graph n rows steps) start) behind
+        (fewer_laws.in_turn conditions (after graph there rows steps) (after graph there between steps) start
+        (fewer_behind graphs down left graph there rows between (next.same graphs down here all_here))
+        (subst (λ (v : List Bindings). AreFewer conditions v start) (part_step graph here part steps before up) (so.same graphs down number h)));
   }
+
+  near_by : (all : List Element) (i : ℕ) (e : Element) (graph : List Triple) (before rows : List Bindings) → i < length all → e ≡ get_or all i e
+      → IsNear conditions all (take i all) (drop i all) graph before → AllRise before → AreNearlyAfter conditions e graph before rows → IsNear conditions all (take (i + 1) all) (drop (i + 1) all) graph rows
+  near_by all i e graph before rows b is so up next =
+      let split : drop i all ≡ e ∷ drop (i + 1) all = drop_more all i e b ∙ ap (λ (v : Element). v ∷ drop (i + 1) all) (sym is) in
+      let here : IsNear conditions all (take i all) (e ∷ drop (i + 1) all) graph before = subst (λ (v : List Element). IsNear conditions all (take i all) v graph before) split so in
+      subst (λ (v : List Element). IsNear conditions all v (drop (i + 1) all) graph rows) (taken all i e b is) (near_more all (take i all) (drop (i + 1) all) e graph before rows here up next)
 
   pub near_at : (all : List Element) (i : ℕ) (e : Element) (graph : List Triple) (before rows : List Bindings) → i < length all → e ≡ get_or all i e
       → IsNear conditions all (take i all) (drop i all) graph before → AllRise before → AreAfter e graph before rows → IsNear conditions all (take (i + 1) all) (drop (i + 1) all) graph rows
   near_at all i e graph before rows b is so up next =
-      let split : drop i all ≡ e ∷ drop (i + 1) all = drop_more all i e b ∙ ap (λ (v : Element). v ∷ drop (i + 1) all) (sym is) in
-      let here : IsNear conditions all (take i all) (e ∷ drop (i + 1) all) graph before = subst (λ (v : List Element). IsNear conditions all (take i all) v graph before) split so in
-      subst (λ (v : List Element). IsNear conditions all v (drop (i + 1) all) graph rows) (taken all i e b is) (near_more all (take i all) (drop (i + 1) all) e graph before rows here up next)
+      near_by all i e graph before rows b is so up
+      (record { same = λ graphs down number h. let whole = after_part graph number before (part_of graphs down e) in fewer_laws.none conditions rows whole (IsPermutation-sym whole rows (next.same graphs down number h)) })
 
   near_all : (g : Group) (done : List Element) (graph : List Triple) (rows : List Bindings) → IsNear conditions g.elements done [] graph rows → AreNearly g graph conditions rows
   near_all g done graph rows so = record {
@@ -153,14 +168,21 @@ module _ (conditions : List Expr) (all : List Element) (i : ℕ) (e : Element) (
       (rising_rows_from graph patterns rows (all_rise rows (recursion_from_All (λ s. IsTrue (rises s)) rows up)))
       (subst (λ (x : Element). AreAfter x graph before behind) (sym named) (after_values graph before behind inline (inline_rows inline) refl (table_first graph rows (inline_rows inline) next patterns up joined)))
 
-  -- so does what a UNION has
-  pub held_union : (gs : List Group) (found next : List Bindings) → All (λ s. IsTrue (rises s)) rows → e ≡ Union gs → AreAlternatives gs graph found → IsPermutation (join rows found) next → IsHeld conditions all (i + 1) graph next patterns
+  -- so does what a UNION has, but for some that the conditions refuse
+  pub held_union : (gs : List Group) (found next : List Bindings) → All (λ s. IsTrue (rises s)) rows → e ≡ Union gs → AreAlternatives gs graph conditions found → IsPermutation (join rows found) next → IsHeld conditions all (i + 1) graph next patterns
   held_union gs found next up named those joined =
       let before = rows_from graph rows patterns in
       let behind = rows_from graph next patterns in
-      near_at conditions all i e graph before behind b is so
+      near_by conditions all i e graph before behind b is so
       (rising_rows_from graph patterns rows (all_rise rows (recursion_from_All (λ s. IsTrue (rises s)) rows up)))
-      (subst (λ (x : Element). AreAfter x graph before behind) (sym named) (after_union graph before behind gs found those (table_first graph rows found next patterns up joined)))
+      (subst (λ (x : Element). AreNearlyAfter conditions x graph before behind) (sym named) (record {
+        same = λ graphs down number h.
+            let others = alternatives (map (meaning graphs down) gs) graph number in
+            let fewer : AreFewer conditions behind (join before others) =
+            fewer_laws.any_order conditions (join before found) behind (join before others) (join before others) (table_first graph rows found next patterns up joined) (IsPermutation-refl (join before others))
+            (fewer_joined conditions before found others (those.same graphs down number (subst (λ (part : Part). AreDown down number (part_services part)) (part_union graphs down gs) h))) in
+            subst (λ (part : Part). AreFewer conditions behind (after_part graph number before part)) (sym (part_union graphs down gs)) fewer;
+      }))
 
 pub held_end : (conditions : List Expr) (g : Group) (all : List Element) (i : ℕ) (graph : List Triple) (rows found : List Bindings) (patterns : List Pattern) → all ≡ g.elements → length all ≤ i → IsHeld conditions all i graph rows patterns
     → AreFewer conditions found (rows_from graph rows patterns) → AreNearly g graph conditions found
@@ -174,16 +196,20 @@ says conditions s = holds conditions s
 same_holds : (g : Group) (conditions : List Expr) (graphs : List ℕ → List Triple) (down : List ℕ) → AreConditions g conditions → says conditions ≡ says (meaning graphs down g).filters
 same_holds g conditions graphs down h = λ i s. h.same graphs down s i
 
-pub nearly_filtered : (g : Group) (graph : List Triple) (found rows : List Bindings) (conditions : List Expr) → AreNearly g graph conditions found → AreConditions g conditions → rows ≡ filtered conditions found → AreRowsOf g graph rows
-nearly_filtered g graph found rows conditions near own e = record {
+pub rows_filtered : (g : Group) (graph : List Triple) (own outside conditions : List Expr) (found rows : List Bindings) → conditions ≡ own ++ outside → AreNearly g graph conditions found → AreConditions g own → rows ≡ filtered own found
+    → AreFewerRows g graph outside rows
+rows_filtered g graph own outside conditions found rows parts near says e = record {
   same = λ graphs down number all.
       let m = meaning graphs down g in
       let whole = m.rows graph number in
-      let same : filtered conditions whole ≡ filtered m.filters whole = ap (λ (p : Bindings → Bool). filter p whole) (same_holds g conditions graphs down own) in
-      subst (λ (v : List Bindings). IsPermutation (filtered m.filters whole) v) (sym e)
-      (subst (λ (v : List Bindings). IsPermutation v (filtered conditions found)) same
-      (IsPermutation-sym (filtered conditions found) (filtered conditions whole) (fewer_laws.at_the_end conditions found whole (near.same graphs down number all))));
+      let same : filtered own whole ≡ filtered m.filters whole = ap (λ (p : Bindings → Bool). filter p whole) (same_holds g own graphs down says) in
+      subst (λ (v : List Bindings). AreFewer outside v (filtered m.filters whole)) (sym e)
+      (subst (λ (v : List Bindings). AreFewer outside (filtered own found) v) same
+      (fewer_filtered own outside found whole (subst (λ (es : List Expr). AreFewer es found whole) parts (near.same graphs down number all))));
 }
+
+pub rows_all : (g : Group) (graph : List Triple) (rows : List Bindings) → AreFewerRows g graph [] rows → AreRowsOf g graph rows
+rows_all g graph rows h = record { same = λ graphs down number all. all_there rows (group_rows (meaning graphs down g) graph number) (h.same graphs down number all) }
 
 -- where the conditions of an OPTIONAL say the same, so does it
 abbrev left_join_by : (Bindings → Bool) → List Bindings → List Bindings → List Bindings
@@ -199,6 +225,66 @@ nearly_optional graph before rows g found conditions near own joined =
     IsPermutation-trans (left_join before whole m.filters) (left_join before found conditions) rows
     (subst (λ (v : List Bindings). IsPermutation v (left_join before found conditions)) same
     (IsPermutation-sym (left_join before found conditions) (left_join before whole conditions) (fewer_laws.on_the_right conditions before found whole (near.same graphs down number all)))) joined)
+
+-- ---- elements behind rows of which something is known
+
+module _ (graph : List Triple) (known : List Expr) (before rows : List Bindings) (its : AreKnown known before) where
+  pub known_union : (gs : List Group) (found : List Bindings) → AreAlternatives gs graph known found → IsPermutation (join before found) rows → AreAfter (Union gs) graph before rows
+  known_union gs found those joined =
+      by_part graph before rows (Union gs) (λ graphs down. element_meaning graphs down (Element-F.Union (map (meaning graphs down) gs))) (λ graphs down. part_union graphs down gs)
+      (λ graphs down number all. let others = alternatives (map (meaning graphs down) gs) graph number in
+      IsPermutation-trans (join before others) (join before found) rows (join_known known before found others its (those.same graphs down number all)) joined)
+
+  pub known_minus : (g : Group) (found : List Bindings) → AreFewerRows g graph known found → rows ≡ minus before found → AreAfter (Minus g) graph before rows
+  known_minus g found those e =
+      by_part graph before rows (Minus g) (λ graphs down. element_meaning graphs down (Element-F.Minus (meaning graphs down g))) (λ graphs down. part_minus graphs down g)
+      (λ graphs down number all. let others = group_rows (meaning graphs down g) graph number in
+      subst (λ (v : List Bindings). IsPermutation (minus before others) v) (sym e) (minus_known known before found others its (those.same graphs down number all)))
+
+  pub known_optional : (g : Group) (own conditions : List Expr) (found : List Bindings) → conditions ≡ own ++ known → AreNearly g graph conditions found → AreConditions g own → IsPermutation (left_join before found own) rows
+      → AreAfter (Optional g) graph before rows
+  known_optional g own conditions found parts near says joined =
+      by_part graph before rows (Optional g) (λ graphs down. element_meaning graphs down (Element-F.Optional (meaning graphs down g))) (λ graphs down. part_optional graphs down g)
+      (λ graphs down number all. let m = meaning graphs down g in
+      let whole = m.rows graph number in
+      let same : left_join before whole own ≡ left_join before whole m.filters = ap (λ (p : Bindings → Bool). left_join_by p before whole) (same_holds g own graphs down says) in
+      IsPermutation-trans (left_join before whole m.filters) (left_join before found own) rows
+      (subst (λ (v : List Bindings). IsPermutation v (left_join before found own)) same
+      (left_join_known own known before found whole its (subst (λ (es : List Expr). AreFewer es found whole) parts (near.same graphs down number all)))) joined)
+
+-- ---- row by row
+
+nothing_after : (graph : List Triple) (number : ℕ) (part : Part) → PartGoes part → after_part graph number [] part ≡ []
+nothing_after graph number (pattern p) go = refl
+nothing_after graph number (condition e) go = refl
+nothing_after graph number (operator o) go = none (o.rows graph number []) (λ s m. (go.grows graph number [] s m).1)
+  where
+    none : (rows : List Bindings) → ((s : Bindings) → Among s rows → ⊥) → rows ≡ []
+    none [] f = refl
+    none (s ∷ rows) f = absurd (f s (inl refl))
+
+both_after : (graph : List Triple) (number : ℕ) (part : Part) → PartGoes part → (xs ys : List Bindings) → IsPermutation (after_part graph number (xs ++ ys) part) (after_part graph number xs part ++ after_part graph number ys part)
+both_after graph number (pattern p) go xs ys =
+    let halves : extended graph p (xs ++ ys) ≡ extended graph p xs ++ extended graph p ys = flat_map-append (λ row. filter_map (λ t. forced row (parts_of p t)) graph) xs ys in
+    subst (λ (v : List Bindings). IsPermutation v (extended graph p xs ++ extended graph p ys)) (sym halves) (IsPermutation-refl (extended graph p xs ++ extended graph p ys))
+both_after graph number (condition e) go xs ys = IsPermutation-refl (xs ++ ys)
+both_after graph number (operator o) go xs ys = go.splits graph number xs ys
+
+pub row_none : (e : Element) (graph : List Triple) → AreAfter e graph [] []
+row_none e graph = record {
+  same = λ graphs down number h.
+      let part = part_of graphs down e in
+      subst (λ (v : List Bindings). IsPermutation v []) (sym (nothing_after graph number part (part_goes graphs down e))) (IsPermutation-refl []);
+}
+
+pub row_more : (e : Element) (graph : List Triple) (xs : List Bindings) (x : Bindings) (rows more all : List Bindings) → AreAfter e graph xs rows → AreAfter e graph (x ∷ []) more → all ≡ rows ++ more → AreAfter e graph (xs ++ x ∷ []) all
+row_more e graph xs x rows more all h k is = record {
+  same = λ graphs down number d.
+      let part = part_of graphs down e in
+      subst (λ (v : List Bindings). IsPermutation (after_part graph number (xs ++ x ∷ []) part) v) (sym is)
+      (IsPermutation-trans (after_part graph number (xs ++ x ∷ []) part) (after_part graph number xs part ++ after_part graph number (x ∷ []) part) (rows ++ more) (both_after graph number part (part_goes graphs down e) xs (x ∷ []))
+      (IsPermutation-append (after_part graph number xs part) rows (after_part graph number (x ∷ []) part) more (h.same graphs down number d) (k.same graphs down number d)));
+}
 
 -- ---- an OPTIONAL whose patterns are looked up in another order
 

@@ -1,6 +1,6 @@
 -- The rows of a group where no other endpoint is asked, since each occurrence of SERVICE is down (SPARQL 1.1 Federated Query,
 -- section 4). The rows stand in some order.
-use Rattle.std.specs.Prelude.{◌≡◌, ℕ, ◌+◌, ◌<◌, ◌≤◌, true, List, [], ◌∷◌, ◌++◌, map, length, None, IsPermutation}
+use Rattle.std.specs.Prelude.{◌≡◌, ℕ, ◌+◌, ◌<◌, ◌≤◌, true, false, List, [], ◌∷◌, ◌++◌, map, length, None, All, IsPermutation}
 use Rattle.fx_terms.specs.declared.patterns.Pattern.{Pattern}
 use Rattle.fx_terms.specs.declared.triples.Triple.{Triple}
 use Rattle.fx_algebra.specs.Answers.{answer}
@@ -8,7 +8,7 @@ use Rattle.fx_algebra.specs.Conditions.{holds}
 use Rattle.fx_algebra.specs.Evaluation.{extended}
 use Rattle.fx_algebra.specs.Groups.{Part, pattern, condition, operator, Meaning, meaning, element_meaning, group_meaning, conditions_of, part_services, groups_services, group_rows, alternatives, is_down}
 use Rattle.fx_algebra.specs.Occurrences.{services}
-use Rattle.fx_algebra.specs.Solutions.{Bindings}
+use Rattle.fx_algebra.specs.Solutions.{Bindings, agree}
 use Rattle.fx_algebra.specs.declared.answers.Answer.{Answer}
 use Rattle.fx_algebra.specs.declared.expressions.Expr.{Expr}
 use Rattle.fx_algebra.specs.declared.queries.Element.{Element, fold-Element}
@@ -16,7 +16,7 @@ use Rattle.fx_algebra.specs.declared.queries.Element.TheVariants.{Triple as Trip
 use Rattle.fx_algebra.specs.declared.queries.Form.TheVariants.{Ask}
 use Rattle.fx_algebra.specs.declared.queries.Group.{Group}
 use Rattle.fx_algebra.specs.declared.queries.Query.{Query}
-use Rattle.fx_steps.specs.Fewer.{AreFewer}
+use Rattle.fx_steps.specs.Fewer.{AreFewer, IsGone}
 
 -- as many occurrences of SERVICE, from a number on, are down
 pub record AreDown (down : List ℕ) (number count : ℕ) : Type 0 where
@@ -44,6 +44,14 @@ pub record AreUnfiltered (group : Group) (graph : List Triple) (rows : List Bind
 pub record AreNearly (group : Group) (graph : List Triple) (conditions : List Expr) (rows : List Bindings) : Type 0 where
   pub same : (graphs : List ℕ → List Triple) (down : List ℕ) (number : ℕ) → AreDown down number (meaning graphs down group).services → AreFewer conditions rows ((meaning graphs down group).rows graph number)
 
+-- they are those of the group, without some that conditions from outside refuse
+pub record AreFewerRows (group : Group) (graph : List Triple) (outside : List Expr) (rows : List Bindings) : Type 0 where
+  pub same : (graphs : List ℕ → List Triple) (down : List ℕ) (number : ℕ) → AreDown down number (meaning graphs down group).services → AreFewer outside rows (group_rows (meaning graphs down group) graph number)
+
+-- what these conditions refuse agrees with none of the rows
+pub record AreKnown (conditions : List Expr) (rows : List Bindings) : Type 0 where
+  pub apart : (s : Bindings) → IsGone conditions s → All (λ a. agree a s ≡ false) rows
+
 -- the conditions hold where a group's own filters do
 pub record AreConditions (group : Group) (conditions : List Expr) : Type 0 where
   pub same : (graphs : List ℕ → List Triple) (down : List ℕ) (s : Bindings) → holds conditions s ≡ holds (meaning graphs down group).filters s
@@ -56,9 +64,9 @@ pub record AreFilters (group : Group) (filters : List Expr) : Type 0 where
 pub record AreMoreFilters (element : Element) (before filters : List Expr) : Type 0 where
   pub same : (graphs : List ℕ → List Triple) (down : List ℕ) → filters ≡ before ++ conditions_of (part_of graphs down element ∷ [])
 
--- the rows are those of groups, one after the other
-pub record AreAlternatives (groups : List Group) (graph : List Triple) (rows : List Bindings) : Type 0 where
-  pub same : (graphs : List ℕ → List Triple) (down : List ℕ) (number : ℕ) → AreDown down number (groups_services (map (meaning graphs down) groups)) → IsPermutation (alternatives (map (meaning graphs down) groups) graph number) rows
+-- the rows are those of groups, one after the other, without some that conditions from outside refuse
+pub record AreAlternatives (groups : List Group) (graph : List Triple) (outside : List Expr) (rows : List Bindings) : Type 0 where
+  pub same : (graphs : List ℕ → List Triple) (down : List ℕ) (number : ℕ) → AreDown down number (groups_services (map (meaning graphs down) groups)) → AreFewer outside rows (alternatives (map (meaning graphs down) groups) graph number)
 
 -- the rows are those after an element that had these before it
 pub record AreAfter (element : Element) (graph : List Triple) (before rows : List Bindings) : Type 0 where

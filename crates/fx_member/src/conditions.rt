@@ -44,6 +44,16 @@ fn add_all(alloc: Global, parts: &mut Vec<Expr>, more: &[Expr]) -> Result<(), Me
     Ok(())
 }
 
+/// Conditions, and others behind them.
+pub(crate) fn both(alloc: Global, own: &[Expr], outside: &[Expr]) -> Result<Vec<Expr>, Memory>
+    ensures { IfOk result (λ conditions. conditions.items ≡ own.now ++ outside.now) }
+{
+    let mut conditions = Vec::new(alloc);
+    add_all(alloc, &mut conditions, own)?;
+    add_all(alloc, &mut conditions, outside)?;
+    Ok(conditions)
+}
+
 /// Rows without those that bind all variables of a condition that doesn't hold on them, for each condition of which the first row
 /// binds all variables, and a row before it didn't.
 pub(crate) fn early(

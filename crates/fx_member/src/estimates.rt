@@ -2,9 +2,9 @@
 ghost use Rattle.std.specs.Prelude.{◌≡◌, ◌<◌, IfSome, length};
 ghost use Rattle.fx_member.specs.Runs as spec;
 
-use fx_algebra::Solution;
+use fx_algebra::{Element, Group, Solution};
 use fx_store::Store;
-use fx_terms::{Pattern, PatternTerm};
+use fx_terms::{Memory, Name, Pattern, PatternTerm, Term};
 use std::alloc::Global;
 
 /// How many rows are looked up in the time in which one triple of a pattern is found and joined, as it was measured.
@@ -12,6 +12,9 @@ pub(crate) const ROWS_FOR_A_TRIPLE: u64 = 4;
 
 // How many times fewer triples a pattern has to have by itself than another gives rows beside those that are there, to start a part of its own.
 const TIMES_FEWER: u64 = 8;
+
+// How many triples are found and joined in the time in which a group is gone through for one row more.
+const TRIPLES_FOR_A_ROW: u64 = 8;
 
 /// The place of the pattern that is taken next.
 #[derive(Clone, Copy)]
@@ -219,4 +222,106 @@ fn has_shared(pattern: &Pattern, rows: &[Solution]) -> bool {
 
 fn is_bound_in(part: &PatternTerm, rows: &[Solution]) -> bool {
     rows.iter().all(|row| is_bound(part, row))
+}
+
+/// Whether rows are so few for the triples of an element that this is gone through for each of them by itself, where what they bind to IRIs is known.
+pub(crate) fn is_small(
+    alloc: Global,
+    store: &Store,
+    element: &Element,
+    rows: &[Solution],
+) -> Result<bool, Memory> {
+    let Some(row) = rows.first() else {
+        return Ok(false);
+    };
+    let known = iris_of(alloc, row)?;
+    let one = triples_of(store, element, &known).saturating_add(TRIPLES_FOR_A_ROW);
+    let all = triples_of(store, element, &Solution::empty(alloc));
+    Ok(one.saturating_mul(rows.len() as u64) < all)
+}
+
+/// Whether a UNION that stands behind patterns is joined behind them: it has more triples than the pattern that is looked up first.
+pub(crate) fn is_behind(
+    alloc: Global,
+    store: &Store,
+    groups: &[Group],
+    run: &[Pattern],
+    rows: &[Solution],
+) -> Result<bool, Memory> {
+    let Some(row) = rows.first() else {
+        return Ok(false);
+    };
+    let Some(first) = fewest_under(store, run, row) else {
+        return Ok(false);
+    };
+    let known = iris_of(alloc, row)?;
+    Ok(triples_in_all(store, groups, &known) > first)
+}
+
+// The triples under a row of the pattern that has the fewest.
+fn fewest_under(store: &Store, patterns: &[Pattern], row: &Solution) -> Option<u64> {
+    let mut fewest: Option<u64> = None;
+    for pattern in patterns {
+        fewest = Some(least(fewest, store.count(pattern, row)));
+    }
+    fewest
+}
+
+fn least(fewest: Option<u64>, other: u64) -> u64 {
+    match fewest {
+        None => other,
+        Some(fewest) => fewest.min(other),
+    }
+}
+
+// What a row binds to IRIs.
+fn iris_of(alloc: Global, row: &Solution) -> Result<Solution, Memory> {
+    let mut iris = Solution::empty(alloc);
+    for pair in row.pairs() {
+        iris = with_iri(alloc, iris, &pair.0, &pair.1)?;
+    }
+    Ok(iris)
+}
+
+fn with_iri(alloc: Global, iris: Solution, name: &Name, term: &Term) -> Result<Solution, Memory> {
+    if matches!(term, Term::Iri(_)) && iris.get(name).is_none() {
+        iris.with(alloc, name, term)
+    } else {
+        Ok(iris)
+    }
+}
+
+// How many triples of an element are likely to be found under a row.
+#[cycle(triples)]
+fn triples_of(store: &Store, element: &Element, row: &Solution) -> u64 {
+    match element {
+        Element::Optional(group) => triples_in(store, group, row),
+        Element::Minus(group) => triples_in(store, group, row),
+        Element::Union(groups) => triples_in_all(store, groups.as_slice(), row),
+        Element::Values(inline) => inline.rows.as_slice().len() as u64,
+        _ => 0,
+    }
+}
+
+// Those of the triple pattern of a group that has the fewest: all else is looked up under what it gives. Where a group has none, those of its elements.
+#[cycle(triples)]
+fn triples_in(store: &Store, group: &Group, row: &Solution) -> u64 {
+    let mut fewest: Option<u64> = None;
+    let mut others = 0u64;
+    for element in group.elements.as_slice() {
+        match element {
+            Element::Triple(pattern) => fewest = Some(least(fewest, store.count(pattern, row))),
+            _ => others = others.saturating_add(triples_of(store, element, row)),
+        }
+    }
+    fewest.unwrap_or(others)
+}
+
+#[cycle(triples)]
+fn triples_in_all(store: &Store, groups: &[Group], row: &Solution) -> u64 {
+    let mut all = 0u64;
+    for group in groups {
+        all = all.saturating_add(triples_in(store, group, row));
+    }
+    all
 }

@@ -1,17 +1,20 @@
 //! The rows of groups (SPARQL 1.1 sections 18.2.2 and 18.6).
-ghost use Rattle.std.specs.Prelude.{IfOk, IsPermutation, OnOk};
+ghost use Rattle.std.specs.Prelude.{◌≡◌, ◌∷◌, [], IfOk, IsPermutation, OnOk};
 ghost use Rattle.fx_algebra.specs.Operators.{inline_rows as inline_rows_of, join};
 ghost use Rattle.fx_algebra.specs.declared.queries.Element.TheVariants as element;
 ghost use Rattle.fx_member.specs.GroupRows as spec;
+ghost use Rattle.fx_member.specs.Optionals.{IsRunOf};
 
-use crate::conditions::conjuncts;
+use crate::conditions::{both, conjuncts};
+use crate::estimates::{is_behind, is_small};
+use crate::known::known_of;
 use crate::optionals::{run_under, with_matches};
 use crate::runs::{in_order, with_run};
 use fx_algebra::{Element, Expr, Group, Inline, Solution};
 use fx_solutions::known_rows::known_to_rise;
 use fx_solutions::{extend, filter, inline_rows, join_with, left_join_with, minus_with};
 use fx_store::Store;
-use fx_terms::Memory;
+use fx_terms::{Memory, Pattern};
 use std::alloc::Global;
 
 /// The rows of a group over a store's graph, in some order, where every occurrence of SERVICE in the group is down: none is asked, and
@@ -20,19 +23,34 @@ use std::alloc::Global;
 /// The group is gone through from left to right. The triple patterns of a run are held back, and a VALUES or a UNION that stands among or behind them is joined with the
 /// rows before them; they are looked up where an element comes that isn't one of these, nor a filter, and at the end, in an order that gives few rows. So the rows before
 /// a run are known to its look-ups, as are those before an OPTIONAL whose group holds triple patterns and filters alone, unless they are many and the triples of these
-/// patterns few. A nested group, a UNION, any other OPTIONAL and a MINUS begin with the one empty solution. The filters of the group are applied at its end; a row that binds
+/// patterns few. A nested group, a UNION, any other OPTIONAL and a MINUS begin with the one empty solution; where the rows before them are few, they are gone through for each
+/// of these, and what this binds to IRIs is known to their look-ups. The filters of the group are applied at its end; a row that binds
 /// all variables of one, or of a part of a conjunction, that doesn't hold on it goes before.
-#[cycle(rows)]
 pub fn group_rows(alloc: Global, store: &Store, group: &Group) -> Result<Vec<Solution>, Memory>
     ensures { IfOk result (λ rows. spec.AreRowsOf group.now store.now rows.items) }
 {
-    let conditions = conditions_of(alloc, group)?;
-    let found = nearly(alloc, store, group, conditions.as_slice())?;
-    let rows = filter(alloc, found, conditions.as_slice())?;
+    let rows = rows_with(alloc, store, group, &[])?;
     Ok(rows)
 }
 
-// The rows of a group before its filters, without some that its conditions refuse.
+// The rows of a group, without some that conditions from outside refuse.
+#[cycle(rows)]
+fn rows_with(
+    alloc: Global,
+    store: &Store,
+    group: &Group,
+    outside: &[Expr],
+) -> Result<Vec<Solution>, Memory>
+    ensures { IfOk result (λ rows. spec.AreFewerRows group.now store.now outside.now rows.items) }
+{
+    let own = conditions_of(alloc, group)?;
+    let conditions = both(alloc, own.as_slice(), outside)?;
+    let found = nearly(alloc, store, group, conditions.as_slice())?;
+    let rows = filter(alloc, found, own.as_slice())?;
+    Ok(rows)
+}
+
+// The rows of a group before its filters, without some that conditions refuse.
 #[cycle(rows)]
 fn nearly(
     alloc: Global,
@@ -52,8 +70,21 @@ fn nearly(
             Element::Filter(_) => {}
             Element::Values(inline) => rows = with_values(alloc, inline, rows)?,
             Element::Union(groups) => {
-                let found = alternatives(alloc, store, groups.as_slice())?;
-                rows = join_with(alloc, rows.as_slice(), found)?;
+                if is_behind(
+                    alloc,
+                    store,
+                    groups.as_slice(),
+                    run.as_slice(),
+                    rows.as_slice(),
+                )? {
+                    let found = with_run(alloc, store, run, rows, conditions, false)?;
+                    known_to_rise(found.as_slice());
+                    rows = after_element(alloc, store, element, found)?;
+                    run = Vec::new(alloc);
+                } else {
+                    let found = alternatives(alloc, store, groups.as_slice(), conditions)?;
+                    rows = join_with(alloc, rows.as_slice(), found)?;
+                }
             }
             _ => {
                 let found = with_run(alloc, store, run, rows, conditions, false)?;
@@ -80,7 +111,7 @@ fn with_values(
     Ok(rows)
 }
 
-// The rows after an element, from those before it.
+// The rows after an element, from those before it. An OPTIONAL, a UNION or a MINUS whose triples are many for these rows is gone through for each row by itself.
 #[cycle(rows)]
 fn after_element(
     alloc: Global,
@@ -90,20 +121,78 @@ fn after_element(
 ) -> Result<Vec<Solution>, Memory>
     ensures { IfOk result (λ rows. spec.AreAfter element.now store.now before.items rows.items) }
 {
+    if let Element::Optional(group) = element {
+        if let Some(patterns) = run_under(alloc, store, group, before.len())? {
+            return after_run(alloc, store, group, patterns, before);
+        }
+    }
+    if is_small(alloc, store, element, before.as_slice())? {
+        return row_by_row(alloc, store, element, before);
+    }
+    let rows = after_known(alloc, store, element, before, &[])?;
+    Ok(rows)
+}
+
+// The same, row by row.
+#[cycle(rows)]
+fn row_by_row(
+    alloc: Global,
+    store: &Store,
+    element: &Element,
+    before: Vec<Solution>,
+) -> Result<Vec<Solution>, Memory>
+    ensures { IfOk result (λ rows. spec.AreAfter element.now store.now before.items rows.items) }
+{
+    let mut rows = Vec::new(alloc);
+    for row in before {
+        let mut more = after_row(alloc, store, element, row)?;
+        rows.append(&mut more)?;
+    }
+    Ok(rows)
+}
+
+// The rows after an element, from one row.
+#[cycle(rows)]
+fn after_row(
+    alloc: Global,
+    store: &Store,
+    element: &Element,
+    row: Solution,
+) -> Result<Vec<Solution>, Memory>
+    ensures { IfOk result (λ rows. spec.AreAfter element.now store.now (row ∷ []) rows.items) }
+{
+    let known = known_of(alloc, &row)?;
+    let before = alone(alloc, row)?;
+    let rows = after_known(alloc, store, element, before, known.as_slice())?;
+    Ok(rows)
+}
+
+// The rows after an element, from rows on each of which conditions hold.
+#[cycle(rows)]
+fn after_known(
+    alloc: Global,
+    store: &Store,
+    element: &Element,
+    before: Vec<Solution>,
+    known: &[Expr],
+) -> Result<Vec<Solution>, Memory>
+    requires apart { spec.AreKnown known.now before.items }
+    ensures { IfOk result (λ rows. spec.AreAfter element.now store.now before.items rows.items) }
+{
     match element {
         Element::Triple(pattern) => {
             let rows = store.extend(alloc, pattern, before.as_slice())?;
             Ok(rows)
         }
         Element::Filter(_) => Ok(before),
-        Element::Optional(group) => after_optional(alloc, store, group, before),
+        Element::Optional(group) => after_optional(alloc, store, group, before, known),
         Element::Union(groups) => {
-            let found = alternatives(alloc, store, groups.as_slice())?;
+            let found = alternatives(alloc, store, groups.as_slice(), known)?;
             let rows = join_with(alloc, before.as_slice(), found)?;
             Ok(rows)
         }
         Element::Minus(group) => {
-            let found = group_rows(alloc, store, group)?;
+            let found = rows_with(alloc, store, group, known)?;
             let rows = minus_with(alloc, before, found)?;
             Ok(rows)
         }
@@ -124,45 +213,74 @@ fn after_element(
     }
 }
 
-// The rows after an OPTIONAL, from those before it.
+// The rows after an OPTIONAL, from rows on each of which conditions hold.
 #[cycle(rows)]
 fn after_optional(
     alloc: Global,
     store: &Store,
     group: &Group,
     before: Vec<Solution>,
+    known: &[Expr],
 ) -> Result<Vec<Solution>, Memory>
+    requires apart { spec.AreKnown known.now before.items }
     ensures { IfOk result (λ rows. spec.AreAfter (element.Optional group.now) store.now before.items rows.items) }
 {
-    let conditions = conditions_of(alloc, group)?;
-    if let Some(patterns) = run_under(alloc, store, group, before.len())? {
-        known_to_rise(before.as_slice());
-        store.known();
-        let ordered = in_order(alloc, store, patterns, before.as_slice())?;
-        let rows = with_matches(
-            alloc,
-            store,
-            before,
-            ordered.as_slice(),
-            conditions.as_slice(),
-        )?;
-        return Ok(rows);
-    }
+    let own = conditions_of(alloc, group)?;
+    let conditions = both(alloc, own.as_slice(), known)?;
     let found = nearly(alloc, store, group, conditions.as_slice())?;
-    let rows = left_join_with(alloc, before, found, conditions.as_slice())?;
+    let rows = left_join_with(alloc, before, found, own.as_slice())?;
     Ok(rows)
 }
 
-// The rows of groups, one after the other.
+// The rows after an OPTIONAL of triple patterns and filters, which are looked up under the rows before it.
+fn after_run(
+    alloc: Global,
+    store: &Store,
+    group: &Group,
+    patterns: Vec<Pattern>,
+    before: Vec<Solution>,
+) -> Result<Vec<Solution>, Memory>
+    requires { IsRunOf group.now patterns.items }
+    ensures { IfOk result (λ rows. spec.AreAfter (element.Optional group.now) store.now before.items rows.items) }
+{
+    let conditions = conditions_of(alloc, group)?;
+    known_to_rise(before.as_slice());
+    store.known();
+    let ordered = in_order(alloc, store, patterns, before.as_slice())?;
+    let rows = with_matches(
+        alloc,
+        store,
+        before,
+        ordered.as_slice(),
+        conditions.as_slice(),
+    )?;
+    Ok(rows)
+}
+
+// The rows of groups, one after the other, without some that conditions from outside refuse.
 #[cycle(rows)]
-fn alternatives(alloc: Global, store: &Store, groups: &[Group]) -> Result<Vec<Solution>, Memory>
-    ensures { IfOk result (λ rows. spec.AreAlternatives groups.now store.now rows.items) }
+fn alternatives(
+    alloc: Global,
+    store: &Store,
+    groups: &[Group],
+    outside: &[Expr],
+) -> Result<Vec<Solution>, Memory>
+    ensures { IfOk result (λ rows. spec.AreAlternatives groups.now store.now outside.now rows.items) }
 {
     let mut rows = Vec::new(alloc);
     for group in groups {
-        let mut found = group_rows(alloc, store, group)?;
+        let mut found = rows_with(alloc, store, group, outside)?;
         rows.append(&mut found)?;
     }
+    Ok(rows)
+}
+
+// A row by itself.
+fn alone(alloc: Global, row: Solution) -> Result<Vec<Solution>, Memory>
+    ensures { IfOk result (λ rows. rows.items ≡ row ∷ []) }
+{
+    let mut rows = Vec::new(alloc);
+    rows.push(row)?;
     Ok(rows)
 }
 

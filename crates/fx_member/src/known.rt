@@ -1,14 +1,15 @@
 //! Filters that say which IRI a variable is: the look-ups of a run begin with it.
-ghost use Rattle.std.specs.Prelude.{◌≡◌, ◌<◌, [], ◌∷◌, IfOk, IfSome, length};
+ghost use Rattle.std.specs.Prelude.{◌≡◌, ◌<◌, [], ◌∷◌, All, IfOk, IfSome, OnOk, length};
 ghost use Rattle.std.specs.List.{list_any};
 ghost use Rattle.fx_algebra.specs.Scopes.{is_among, part_names, pattern_names};
+ghost use Rattle.fx_algebra.specs.declared.expressions.Expr.TheVariants.{Variable as VariableExpr, Constant as ConstantExpr};
 ghost use Rattle.fx_member.specs.Known as spec;
 ghost use Rattle.fx_terms.specs.declared.terms.Term.TheVariants.{Iri as IriTerm};
 
 use fx_algebra::{Compare, Expr, Solution};
 use fx_solutions::join_with;
 use fx_solutions::known_rows::known_to_rise;
-use fx_terms::{Iri, Memory, Name, Pattern, PatternTerm, Term};
+use fx_terms::{Boxed, Iri, Memory, Name, Pattern, PatternTerm, Term};
 use std::alloc::Global;
 
 /// Rows that bind the variables of patterns that a condition says to be an IRI, where the first row doesn't yet.
@@ -67,6 +68,54 @@ fn is_free(name: &Name, rows: &[Solution]) -> bool {
         Some(row) => row.get(name).is_none(),
         None => false,
     }
+}
+
+/// What a row binds to IRIs, as conditions: each says of one of its variables which IRI it is.
+pub(crate) fn known_of(alloc: Global, row: &Solution) -> Result<Vec<Expr>, Memory>
+    ensures { IfOk result (λ known. All (spec.IsSaidBy row.now) known.items) }
+{
+    let mut known = Vec::new(alloc);
+    for pair in row.pairs() {
+        add_known(alloc, &mut known, row, &pair.0)?;
+    }
+    Ok(known)
+}
+
+// Adds what a row says of a name.
+fn add_known(
+    alloc: Global,
+    known: &mut Vec<Expr>,
+    row: &Solution,
+    name: &Name,
+) -> Result<(), Memory>
+    ensures { OnOk result (spec.AreMoreKnown row.now known.old.items known.new.items) }
+{
+    if let Some(Term::Iri(iri)) = row.get(name) {
+        known.push(equal(alloc, name, iri)?.into_inner())?;
+    }
+    Ok(())
+}
+
+// That a variable is an IRI.
+fn equal(alloc: Global, name: &Name, iri: &Iri) -> Result<Boxed<Expr>, Memory>
+    ensures { IfOk result (λ e. spec.IsSaying e name.now iri.now) }
+{
+    let left = variable(alloc, name)?;
+    let right = constant(alloc, iri)?;
+    let op = Compare::Equal;
+    Ok(Boxed::new(alloc, Expr::Compare { op, left, right })?)
+}
+
+fn variable(alloc: Global, name: &Name) -> Result<Boxed<Expr>, Memory>
+    ensures { IfOk result (λ e. e ≡ VariableExpr name.now) }
+{
+    Ok(Boxed::new(alloc, Expr::Variable(name.copy()?))?)
+}
+
+fn constant(alloc: Global, iri: &Iri) -> Result<Boxed<Expr>, Memory>
+    ensures { IfOk result (λ e. e ≡ ConstantExpr (IriTerm iri.now)) }
+{
+    Ok(Boxed::new(alloc, Expr::Constant(Term::Iri(iri.copy()?)))?)
 }
 
 // The variable and the IRI that a condition says it to be.
