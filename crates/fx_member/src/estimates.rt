@@ -2,7 +2,8 @@
 ghost use Rattle.std.specs.Prelude.{◌≡◌, ◌<◌, IfSome, length};
 ghost use Rattle.fx_member.specs.Runs as spec;
 
-use fx_algebra::{Element, Group, Solution};
+use crate::known::known_by;
+use fx_algebra::{Element, Expr, Group, Solution};
 use fx_store::Store;
 use fx_terms::{Memory, Name, Pattern, PatternTerm, Term};
 use std::alloc::Global;
@@ -240,22 +241,36 @@ pub(crate) fn is_small(
     Ok(one.saturating_mul(rows.len() as u64) < all)
 }
 
-/// Whether a UNION that stands behind patterns is joined behind them: it has more triples than the pattern that is looked up first.
+/// Whether a UNION is joined behind the patterns in front of it: it has more triples than the pattern that is looked up first. Where there is none, whether it is
+/// gone through for each row.
 pub(crate) fn is_behind(
     alloc: Global,
     store: &Store,
-    groups: &[Group],
+    union: &Element,
     run: &[Pattern],
     rows: &[Solution],
+    conditions: &[Expr],
 ) -> Result<bool, Memory> {
     let Some(row) = rows.first() else {
         return Ok(false);
     };
-    let Some(first) = fewest_under(store, run, row) else {
-        return Ok(false);
-    };
-    let known = iris_of(alloc, row)?;
-    Ok(triples_in_all(store, groups, &known) > first)
+    let row = with_known(alloc, row, conditions)?;
+    let known = iris_of(alloc, &row)?;
+    match fewest_under(store, run, &row) {
+        None => is_small(alloc, store, union, rows),
+        Some(first) => Ok(triples_of(store, union, &known) > first),
+    }
+}
+
+// A row with what conditions say of variables that it lacks.
+fn with_known(alloc: Global, row: &Solution, conditions: &[Expr]) -> Result<Solution, Memory> {
+    let mut known = row.copy(alloc)?;
+    for condition in conditions {
+        if let Some((name, iri)) = known_by(condition) {
+            known = with_iri(alloc, known, name, &Term::Iri(iri.copy()?))?;
+        }
+    }
+    Ok(known)
 }
 
 // The triples under a row of the pattern that has the fewest.

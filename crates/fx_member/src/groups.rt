@@ -73,9 +73,10 @@ fn nearly(
                 if is_behind(
                     alloc,
                     store,
-                    groups.as_slice(),
+                    element,
                     run.as_slice(),
                     rows.as_slice(),
+                    conditions,
                 )? {
                     let found = with_run(alloc, store, run, rows, conditions, false)?;
                     known_to_rise(found.as_slice());

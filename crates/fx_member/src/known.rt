@@ -118,8 +118,8 @@ fn constant(alloc: Global, iri: &Iri) -> Result<Boxed<Expr>, Memory>
     Ok(Boxed::new(alloc, Expr::Constant(Term::Iri(iri.copy()?)))?)
 }
 
-// The variable and the IRI that a condition says it to be.
-fn known_by(condition: &Expr) -> Option<(&Name, &Iri)>
+/// The variable and the IRI that a condition says it to be.
+pub(crate) fn known_by(condition: &Expr) -> Option<(&Name, &Iri)>
     ensures { IfSome result (λ known. spec.IsKnown condition.now known.0.now known.1.now) }
 {
     match condition {
