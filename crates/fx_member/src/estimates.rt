@@ -235,10 +235,14 @@ pub(crate) fn is_small(
     let Some(row) = rows.first() else {
         return Ok(false);
     };
-    let known = iris_of(alloc, row)?;
-    let one = triples_of(store, element, &known).saturating_add(TRIPLES_FOR_A_ROW);
+    let count = rows.len() as u64;
     let all = triples_of(store, element, &Solution::empty(alloc));
-    Ok(one.saturating_mul(rows.len() as u64) < all)
+    if TRIPLES_FOR_A_ROW.saturating_mul(count) >= all {
+        return Ok(false);
+    }
+    let known = iris_of(alloc, row, rows)?;
+    let one = triples_of(store, element, &known).saturating_add(TRIPLES_FOR_A_ROW);
+    Ok(one.saturating_mul(count) < all)
 }
 
 /// Whether a UNION is joined behind the patterns in front of it: it has more triples than the pattern that is looked up first. Where there is none, whether it is
@@ -255,7 +259,7 @@ pub(crate) fn is_behind(
         return Ok(false);
     };
     let row = with_known(alloc, row, conditions)?;
-    let known = iris_of(alloc, &row)?;
+    let known = iris_of(alloc, &row, &[])?;
     match fewest_under(store, run, &row) {
         None => is_small(alloc, store, union, rows),
         Some(first) => Ok(triples_of(store, union, &known) > first),
@@ -289,13 +293,20 @@ fn least(fewest: Option<u64>, other: u64) -> u64 {
     }
 }
 
-// What a row binds to IRIs.
-fn iris_of(alloc: Global, row: &Solution) -> Result<Solution, Memory> {
+// What a row binds to IRIs, of the variables that each of the rows binds to one.
+fn iris_of(alloc: Global, row: &Solution, rows: &[Solution]) -> Result<Solution, Memory> {
     let mut iris = Solution::empty(alloc);
     for pair in row.pairs() {
-        iris = with_iri(alloc, iris, &pair.0, &pair.1)?;
+        if is_iri_in(&pair.0, rows) {
+            iris = with_iri(alloc, iris, &pair.0, &pair.1)?;
+        }
     }
     Ok(iris)
+}
+
+fn is_iri_in(name: &Name, rows: &[Solution]) -> bool {
+    rows.iter()
+        .all(|row| matches!(row.get(name), Some(Term::Iri(_))))
 }
 
 fn with_iri(alloc: Global, iris: Solution, name: &Name, term: &Term) -> Result<Solution, Memory> {
