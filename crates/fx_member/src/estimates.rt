@@ -329,18 +329,25 @@ fn triples_of(store: &Store, element: &Element, row: &Solution) -> u64 {
     }
 }
 
-// Those of the triple pattern of a group that has the fewest: all else is looked up under what it gives. Where a group has none, those of its elements.
+// Those of the triple pattern of a group that has the fewest: what stands behind patterns is looked up under what these give. A UNION in front of all has its own.
+// Where a group has no pattern, those of its elements.
 #[cycle(triples)]
 fn triples_in(store: &Store, group: &Group, row: &Solution) -> u64 {
     let mut fewest: Option<u64> = None;
+    let mut whole = 0u64;
     let mut others = 0u64;
     for element in group.elements.as_slice() {
         match element {
             Element::Triple(pattern) => fewest = Some(least(fewest, store.count(pattern, row))),
+            Element::Union(groups) => {
+                if fewest.is_none() {
+                    whole = whole.saturating_add(triples_in_all(store, groups.as_slice(), row));
+                }
+            }
             _ => others = others.saturating_add(triples_of(store, element, row)),
         }
     }
-    fewest.unwrap_or(others)
+    whole.saturating_add(fewest.unwrap_or(others))
 }
 
 #[cycle(triples)]
