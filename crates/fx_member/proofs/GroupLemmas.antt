@@ -4,7 +4,7 @@ use Rattle.std.proofs.lemmas.List.{map-append, take_more, drop_more, drop_all}
 use Rattle.std.proofs.lemmas.List.Elements.{recursion_from_All}
 use Rattle.std.specs.Prelude.{All}
 use Rattle.std.specs.List.{AllByRecursion, filter_map, cons_option}
-use Rattle.std.proofs.lemmas.List.Sorted.{IsPermutation-refl, IsPermutation-trans, IsPermutation-append}
+use Rattle.std.proofs.lemmas.List.Sorted.{IsPermutation-refl, IsPermutation-trans}
 use Rattle.fx_terms.specs.declared.terms.Term.{Term}
 use Rattle.fx_terms.specs.declared.triples.Triple.{Triple}
 use Rattle.fx_terms.specs.declared.patterns.Pattern.{Pattern}
@@ -20,13 +20,13 @@ use Rattle.fx_algebra.specs.declared.queries.Element.TheVariants.{Triple as Trip
 use Rattle.fx_algebra.specs.declared.queries.Inline.{Inline}
 use Rattle.fx_algebra.specs.declared.queries.Group.{Group, fold_out-Group}
 use Rattle.fx_algebra.proofs.ForcedLemmas.{IsForced, of_outcome, forced_is}
-use Rattle.fx_algebra.proofs.JoinLemmas.{join_extends, join_run, same_join}
+use Rattle.fx_algebra.proofs.JoinLemmas.{join_extends, join_run}
 use Rattle.fx_steps.specs.Fewer.{AreFewer}
 use Rattle.fx_member.specs.GroupRows.{AreDown, part_of, after_part, AreFewerRows, AreUnfiltered, AreFilters, AreMoreFilters, AreAlternatives, AreAfter}
 use Rattle.fx_member.proofs.ConditionLemmas.{all_of_them}
 use Rattle.fx_member.proofs.OutsideLemmas.{fewer_appended}
 use Rattle.fx_algebra.proofs.MoveLemmas.{after_moves, steps_move}
-use Rattle.fx_algebra.proofs.OperatorLemmas.{filtered_moves, filtered_by_none, minus_moves, left_join_moves, join_one}
+use Rattle.fx_algebra.proofs.OperatorLemmas.{filtered_by_none, left_join_moves, join_one}
 
 -- the rows rise by their names
 abbrev pub AllRise : List Bindings → Type 0

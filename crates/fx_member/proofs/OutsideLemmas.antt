@@ -10,7 +10,7 @@ use Rattle.fx_terms.specs.declared.terms.Term.{Term}
 use Rattle.fx_terms.specs.declared.terms.Term.TheVariants.{Iri}
 use Rattle.fx_terms.proofs.SetLemmas.{Among, among_from, contains_from}
 use Rattle.fx_algebra.specs.Conditions.{holds, is_so}
-use Rattle.fx_algebra.specs.Operators.{diff, filtered, is_removed_by, join, left_join, merges, minus, shares, stays}
+use Rattle.fx_algebra.specs.Operators.{diff, filtered, join, left_join, merges, minus, shares, stays}
 use Rattle.fx_algebra.specs.Solutions.{Bindings, agree, merge, term_of}
 use Rattle.fx_algebra.specs.Units.{expr_names}
 use Rattle.fx_algebra.specs.Values.{is_true, truth_of}
@@ -19,7 +19,7 @@ use Rattle.fx_algebra.specs.declared.expressions.Expr.TheVariants.{Variable, Con
 use Rattle.fx_algebra.proofs.ForcedLemmas.{Extends}
 use Rattle.fx_algebra.proofs.JoinLemmas.{agree_has, merge_extends_right, same_join}
 use Rattle.fx_algebra.proofs.MemberLemmas.{among_cases, among_from_flat_map, among_from_map}
-use Rattle.fx_algebra.proofs.OperatorLemmas.{filtered_moves, left_join_moves, minus_moves}
+use Rattle.fx_algebra.proofs.OperatorLemmas.{filtered_moves, minus_moves}
 use Rattle.fx_steps.specs.Fewer.{AreFewer, IsGone}
 use Rattle.fx_steps.proofs.FewerLemmas.{fewer_laws}
 use Rattle.fx_steps.proofs.GroupLemmas.{kept_term, none_stay, not_false, one_holds, split_rows}

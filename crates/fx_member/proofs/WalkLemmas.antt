@@ -22,7 +22,6 @@ use Rattle.fx_algebra.specs.declared.queries.Element.{Element, Element-F}
 use Rattle.fx_algebra.specs.declared.queries.Element.TheVariants.{Triple as Triple-E, Filter, Optional, Union, Values, Minus}
 use Rattle.fx_algebra.specs.declared.queries.Inline.{Inline}
 use Rattle.fx_algebra.specs.declared.queries.Group.{Group}
-use Rattle.fx_algebra.proofs.MoveLemmas.{after_moves, steps_move}
 use Rattle.fx_algebra.proofs.OperatorLemmas.{filtered_by_none}
 use Rattle.fx_steps.specs.Fewer.{AreFewer}
 use Rattle.fx_steps.specs.Groups.{ComesOut, IsPushed}

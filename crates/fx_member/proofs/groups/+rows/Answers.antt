@@ -1,4 +1,4 @@
-use Rattle.std.proofs.Common.{◌∙◌, ap, sym, subst, refl, List, [], ◌∷◌, ◌++◌, IsPermutation, rules}
+use Rattle.std.proofs.Common.{◌∙◌, ap, sym, subst, refl, List, [], ◌++◌, IsPermutation, rules}
 use Rattle.fx_algebra.specs.Operators.{join, left_join, filtered}
 use Rattle.fx_algebra.specs.Solutions.{Bindings}
 use Rattle.fx_algebra.specs.declared.expressions.Expr.{Expr}
