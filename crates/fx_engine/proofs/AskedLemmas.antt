@@ -1,5 +1,5 @@
 -- What asking over several wires leaves of them: nothing asked for, one call after the other, and what is given or lost in the end.
-use Rattle.std.proofs.Common.{◌≡◌, sym, subst, refl, ℕ, ◌+◌, ◌<◌, ◌≤◌, Bool, List, [], ◌++◌, All, IfErr, IfOk, Result, Ok, Err, Contains, IsPermutation, arith, zero-le}
+use Rattle.std.proofs.Common.{◌≡◌, sym, subst, refl, ℕ, ◌+◌, ◌<◌, ◌≤◌, Bool, List, [], ◌++◌, All, IfErr, IfOk, Result, Ok, Err, Contains, IsPermutation, arith}
 use Rattle.std.proofs.lemmas.List.Elements.{All-append, All-nil, All-weaker}
 use Rattle.std.proofs.lemmas.List.Sorted.{All-permutation, Contains-permutation, IsPermutation-refl}
 use Rattle.std.specs.declared.alloc.Global.{Global}
@@ -28,7 +28,7 @@ use Rattle.fx_engine.specs.GroupsAsked.{solutions_in, units_in}
 use Rattle.fx_engine.specs.declared.tasks.RowsError.{RowsError}
 use Rattle.fx_engine.specs.declared.tasks.RowsError.TheVariants as rows_error
 use Rattle.fx_engine.specs.declared.tasks.Task.{Task}
-use Rattle.fx_pool.proofs.WiresLemmas.{all_after, as_many, gained_both, still_tell}
+use Rattle.fx_pool.proofs.WiresLemmas.{all_after, gained_both, still_tell}
 pub use Rattle.fx_pool.proofs.WiresLemmas.{AllTell, all_tell, still_tell_all}
 
 -- ---- what was exchanged
@@ -126,7 +126,6 @@ module _ (tells alone : Bool) (endpoints : List EndpointParts) (tasks : List Tas
   given_unasked Given Due wires x f = record {
     exchanges = [];
     failed = 0;
-    few = zero-le;
     unfailed = refl;
     went = went_nowhere tells alone wires;
     wanted = [];
@@ -144,7 +143,6 @@ module _ (tells alone : Bool) (endpoints : List EndpointParts) (tasks : List Tas
   refused_unasked Given Due wires e cause f = record {
     exchanges = [];
     failed = 0;
-    few = zero-le;
     unfailed = so_if_refused (0 ≡ 0) e refl;
     went = went_nowhere tells alone wires;
     wanted = [];
@@ -167,7 +165,6 @@ module _ (tells alone : Bool) (endpoints : List EndpointParts) (tasks : List Tas
     given_as Given Due Given_also Due_also x y f h = record {
       exchanges = h.exchanges;
       failed = h.failed;
-      few = h.few;
       unfailed = h.unfailed;
       went = h.went;
       wanted = h.wanted;
@@ -185,7 +182,6 @@ module _ (tells alone : Bool) (endpoints : List EndpointParts) (tasks : List Tas
     lost_behind Given Due Given_also Due_also x f h = record {
       exchanges = h.exchanges;
       failed = h.failed;
-      few = h.few;
       unfailed = tt;
       went = h.went;
       wanted = h.wanted;
@@ -203,7 +199,6 @@ module _ (tells alone : Bool) (endpoints : List EndpointParts) (tasks : List Tas
     refused_as Given Due Given_also Due_also why f h = record {
       exchanges = h.exchanges;
       failed = h.failed;
-      few = h.few;
       unfailed = h.unfailed;
       went = h.went;
       wanted = h.wanted;
@@ -229,7 +224,6 @@ module _ (tells alone : Bool) (endpoints : List EndpointParts) (tasks : List Tas
         record {
           exchanges = both.all;
           failed = k.failed;
-          few = subst (λ (n : ℕ). k.failed ≤ n) (as_many before between h.went.after_all) k.few;
           unfailed = k.unfailed;
           went = both.went;
           wanted = h.wanted ++ k.wanted;

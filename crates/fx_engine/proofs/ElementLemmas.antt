@@ -199,21 +199,21 @@ module _ (g : Group) (simple : (group_of g).is_simple ≡ true) where
     its_filters : (group_of g).filters ≡ conditions_of its_parts
     its_filters = sym (same_filters served g) ∙ ap (λ (m : Meaning). m.filters) (group_is served g)
 
-    run_station : (known : List (List ℕ)) → (group_in served g).cut.stations number known ≡ run_stations (group_of g).filters known (own_patterns g)
+    pub run_station : (known : List (List ℕ)) → (group_in served g).cut.stations number known ≡ run_stations (group_of g).filters known (own_patterns g)
     run_station known =
         ap (λ (m : Meaning). m.cut.stations number known) (group_is served g)
         ∙ ap (stations_of (conditions_of its_parts) number known) its_steps
         ∙ stations_alone number (conditions_of its_parts) known (own_patterns g)
         ∙ ap (λ (v : List Expr). run_stations v known (own_patterns g)) (sym its_filters)
 
-    run_seed : (graph : List Triple) (rows : List Bindings) → (group_in served g).cut.seeds graph number rows ≡ run_seeds rows (own_patterns g)
+    pub run_seed : (graph : List Triple) (rows : List Bindings) → (group_in served g).cut.seeds graph number rows ≡ run_seeds rows (own_patterns g)
     run_seed graph rows = ap (λ (m : Meaning). m.cut.seeds graph number rows) (group_is served g) ∙ ap (seeds_of graph number rows) its_steps ∙ seeds_alone number graph rows (own_patterns g)
 
-    run_rows : (graph : List Triple) → (group_in served g).rows graph number ≡ run_joined graph one_empty (own_patterns g)
+    pub run_rows : (graph : List Triple) → (group_in served g).rows graph number ≡ run_joined graph one_empty (own_patterns g)
     run_rows graph = ap (λ (m : Meaning). m.rows graph number) (group_is served g) ∙ ap (after graph number one_empty) its_steps ∙ after_alone number graph one_empty (own_patterns g)
 
   -- its task is next
-  run_is : (served : Served) (graphs : List (List Triple)) (tasks : List Task) (next : ℕ) (known : List (List ℕ)) (rest : List Task) → IsNext tasks next graphs served (run_stations (group_of g).filters known (own_patterns g)) rest
+  pub run_is : (served : Served) (graphs : List (List Triple)) (tasks : List Task) (next : ℕ) (known : List (List ℕ)) (rest : List Task) → IsNext tasks next graphs served (run_stations (group_of g).filters known (own_patterns g)) rest
       → drop next tasks ≡ run_tasks graphs (group_of g).filters known (own_patterns g) ++ rest
   run_is served graphs tasks next known rest h = h.next_is ∙ ap (λ (v : List Task). v ++ rest) (run_planned served graphs (group_of g).filters known (own_patterns g))
 

@@ -45,13 +45,13 @@ module _ (tells alone : Bool) (endpoints : List EndpointParts) (block : ℕ) (ta
       (given_unasked tells alone endpoints tasks block (EndGiven endpoints block tasks next next false before) (EndDue endpoints block tasks next false before) wires before ended_none)
 
   module _ (later : ℕ) (up : All (λ s. IsTrue (rises s)) before) where
-    ended_run : (graphs : List (List Triple)) (wanted : List Sent) (found : List Row) → RunGiven endpoints block tasks next later before graphs wanted found → EndGiven endpoints block tasks next later true before graphs wanted (solutions_of found)
+    pub ended_run : (graphs : List (List Triple)) (wanted : List Sent) (found : List Row) → RunGiven endpoints block tasks next later before graphs wanted found → EndGiven endpoints block tasks next later true before graphs wanted (solutions_of found)
     ended_run graphs wanted found h [] filters known defined rest runs fewer is = absurd (cc)
     ended_run graphs wanted found h (p ∷ ps) filters known defined rest runs fewer is =
         let k = h (p ∷ ps) filters (once known) fewer.gone defined rest fewer.rows_are is in
         (k.0, joined_so graphs (p ∷ ps) filters (once known) before up found defined k.1 fewer)
 
-  ended_due : (graphs : List (List Triple)) (wanted : List Sent) → RunDue endpoints block tasks next before graphs wanted → EndDue endpoints block tasks next true before graphs wanted
+  pub ended_due : (graphs : List (List Triple)) (wanted : List Sent) → RunDue endpoints block tasks next before graphs wanted → EndDue endpoints block tasks next true before graphs wanted
   ended_due graphs wanted h [] filters known defined rest runs fewer is = absurd (cc)
   ended_due graphs wanted h (p ∷ ps) filters known defined rest runs fewer is = h (p ∷ ps) filters (once known) fewer.gone defined rest fewer.rows_are is
 

@@ -1,10 +1,14 @@
 -- The tasks before the first occurrence of SERVICE that was refused.
-use Rattle.std.proofs.Common.{◌≡◌, ◌∙◌, ap, sym, refl, ℕ, zero, suc, ◌+◌, ◌<◌, ◌≤◌, List, [], ◌∷◌, ◌++◌, drop, take, length, get_or, Contains, inl, inr, arith}
+use Rattle.std.proofs.Common.{◌≡◌, ◌∙◌, ap, sym, subst, refl, ℕ, zero, suc, ◌+◌, ◌-◌, ◌<◌, ◌≤◌, append_assoc, List, [], ◌∷◌, ◌++◌, drop, take, length, get_or, Contains, inl, inr, arith}
 use Rattle.std.specs.List.{AllByRecursion, flat_map}
-use Rattle.fx_terms.proofs.SetLemmas.{Among, contains_from}
+use Rattle.std.proofs.lemmas.List.{drop-append-le, length-drop, length-take-le, take-append-drop}
+use Rattle.std.proofs.lemmas.List.Elements.{All-contains_itself, All-weaker}
+use Rattle.fx_terms.proofs.SetLemmas.{Among, among_from, contains_from}
+use Rattle.fx_algebra.proofs.MemberLemmas.{among_left, among_right}
 use Rattle.fx_algebra.specs.declared.units.Unit as unit
 use Rattle.fx_engine.specs.GroupsAsked.{task_units, units_in}
 use Rattle.fx_engine.specs.Tasks.{front_of}
+use Rattle.fx_engine.specs.Together.{AreNext}
 use Rattle.fx_engine.specs.declared.tasks.Task.{Task}
 use Rattle.fx_engine.specs.declared.tasks.Task.TheVariants as task
 use Rattle.fx_engine.proofs.RunAskedLemmas.{next_task}
@@ -72,6 +76,32 @@ next_in_front tasks front next it same below is =
       is_next = next_of_all tasks tasks next it refl (omega (arith, low, within)) (there ∙ front_at tasks next it low);
       in_front = (next, low, sym there);
     }
+
+-- so many that are next
+pub next_are : (tasks its : List Task) (next count : ℕ) → next + count ≤ length (front_of tasks) → its ≡ take count (drop next (front_of tasks)) → AreNext tasks next count its (next + count)
+next_are tasks its next count below is =
+    let front = front_of tasks in
+    let behind = drop (length front) tasks in
+    let long : length (drop next front) ≡ length front - next = length-drop next front in
+    record {
+      others = drop count (drop next front) ++ behind;
+      next_are =
+          ap (drop next) (sym (take-append-drop (length front) tasks) ∙ ap (λ (v : List Task). v ++ behind) (front_taken tasks))
+          ∙ drop-append-le next front behind (omega (arith, below))
+          ∙ ap (λ (v : List Task). v ++ behind) (sym (take-append-drop count (drop next front)))
+          ∙ append_assoc (take count (drop next front)) (drop count (drop next front)) behind
+          ∙ ap (λ (v : List Task). v ++ (drop count (drop next front) ++ behind)) (sym is);
+      many = ap length is ∙ length-take-le count (drop next front) (omega (arith, long, below));
+      in_front = All-weaker (Contains its) (Contains front) (λ t m. here t (subst (λ (v : List Task). Contains v t) is m)) its (All-contains_itself its);
+      end_is = refl;
+    }
+  where
+    here : (t : Task) → Contains (take count (drop next (front_of tasks))) t → Contains (front_of tasks) t
+    here t m =
+        let front = front_of tasks in
+        let in_drop : Among t (drop next front) =
+        subst (Among t) (take-append-drop count (drop next front)) (among_left t (take count (drop next front)) (drop count (drop next front)) (among_from (take count (drop next front)) t m)) in
+        contains_from front t (subst (Among t) (take-append-drop next front) (among_right t (take next front) (drop next front) in_drop))
 
 -- what holds of the units of all tasks holds of theirs
 pub all_both : {X : Type 0} (P : X → Type 0) (xs ys : List X) → AllByRecursion P xs → AllByRecursion P ys → AllByRecursion P (xs ++ ys)

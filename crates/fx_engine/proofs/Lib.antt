@@ -44,3 +44,8 @@ pub mod BatchCauseLemmas
 pub mod MediationLemmas
 pub mod FederationLemmas
 pub mod GatherLemmas
+pub mod RunTaskLemmas
+pub mod TogetherLemmas
+pub mod SharedLemmas
+pub mod BehindLemmas
+pub mod FoundLemmas

@@ -1,5 +1,6 @@
 -- The places of a group that the pass over its elements goes through: behind a pattern, a filter and an operator, and at the end.
 use Rattle.std.proofs.Common.{◌≡◌, ◌∙◌, ap, sym, subst, refl, ℕ, ◌+◌, Bool, true, false, List, [], ◌∷◌, ◌++◌, drop, length, length-append, append-nil, append_assoc, arith}
+use Rattle.std.proofs.lemmas.List.Sorted.{IsPermutation-refl}
 use Rattle.fx_terms.specs.declared.triples.Triple.{Triple}
 use Rattle.fx_terms.specs.declared.patterns.Pattern.{Pattern}
 use Rattle.fx_outside.specs.Endpoints.{EndpointParts}
@@ -9,15 +10,18 @@ use Rattle.fx_algebra.specs.Solutions.{Bindings}
 use Rattle.fx_algebra.specs.Stations.{Station}
 use Rattle.fx_algebra.specs.declared.expressions.Expr.{Expr}
 use Rattle.fx_algebra.specs.declared.queries.Element.{Element}
+use Rattle.fx_algebra.specs.Scopes.{once}
 use Rattle.fx_steps.specs.Fewer.{AreFewer}
+use Rattle.fx_steps.proofs.FewerLemmas.{fewer_laws}
 use Rattle.fx_traffic.specs.Sent.{Sent}
-use Rattle.fx_engine.specs.GroupsAsked.{AreAskedFor, AreEven, AreSentFrom, ElementDue, ElementGiven, EndDue, EndGiven, IsNext, IsPlace, IsReached, OperatorDue, OperatorGiven, all_planned, is_run, number_behind, operator_rows, operator_seeds, operator_stations, run_joined, run_seeds, run_stations, run_tasks, with_run}
+use Rattle.fx_engine.specs.GroupsAsked.{AreAskedFor, AreEven, AreSentFrom, ElementDue, ElementGiven, EndDue, EndGiven, IsNext, IsPlace, IsReached, OperatorDue, OperatorGiven, all_planned, is_run, number_behind, operator_rows, operator_seeds, operator_stations, run_joined, run_seeds, run_stations, run_task, run_tasks, with_run}
 use Rattle.fx_services.specs.Served.{Served, element_in}
 use Rattle.fx_engine.specs.RunsSent.{AreRunsSent}
 use Rattle.fx_engine.specs.SectionSteps.{part_of, part_patterns}
 use Rattle.fx_engine.specs.declared.tasks.Task.{Task}
 use Rattle.fx_engine.proofs.ElementLemmas.{is_operator}
 use Rattle.fx_engine.proofs.EvenLemmas.{IsEven, operator_is_even}
+use Rattle.fx_engine.proofs.RunAskedLemmas.{behind_next}
 use Rattle.fx_engine.proofs.RunLemmas.{after_before, is_run_more, names_behind, run_more, seeds_before, stations_before}
 use Rattle.fx_engine.proofs.ServedLemmas.{same_keeps, same_patterns}
 use Rattle.fx_engine.proofs.StationLemmas.{next_first, next_others, no_run_sent, planned_behind, run_planned, sent_behind}
@@ -162,6 +166,29 @@ module _ (endpoints : List EndpointParts) (graphs : List (List Triple)) (block :
           (subst (AreRunsSent endpoints graphs block (own_stations ++ later_stations) (own_seeds ++ later_seeds)) (append-nil more)
           (sent_behind endpoints graphs block own_stations later_stations own_seeds later_seeds more [] its (no_run_sent endpoints graphs block later_stations later_seeds (later_even even)))))
 
+      -- the run before it and what it has itself were asked for together, and what is behind it wasn't
+      pub due_at_both : AreEven steps → (e : Element) (own more : List Sent) → element_in served e ≡ operator o → was_run ≡ true
+          → EndDue endpoints block tasks next was_run before graphs own
+          → ((rows : List Bindings) → OperatorDue endpoints block tasks (next + 1) e rows graphs more)
+          → IsPlace graphs tasks served next was_run filters number known run before defined (with_part (operator o) steps) rest
+          → AreSentFrom endpoints graphs block filters number known run defined (with_part (operator o) steps) (own ++ more)
+      due_at_both even e own more is has due also_due place =
+          let first = due run filters known defined (all_planned served graphs behind_stations ++ rest) place.runs place.fewer (run_next place) in
+          let fewer = fewer_laws.none filters joined joined (IsPermutation-refl joined) in
+          let P : GroupPart → Type 0 = λ v.
+          IsNext tasks (next + 1) graphs served (operator_stations number v names) (all_planned served graphs later_stations ++ rest)
+          → AreRunsSent endpoints graphs block (operator_stations number v names) (operator_seeds number v (union graphs) joined) more in
+          let its = subst P is (also_due joined served number filters names joined (all_planned served graphs later_stations ++ rest) fewer)
+          (next_first served graphs tasks own_stations later_stations rest (next + 1) (both_next (next + 1) place (behind run (sym has ∙ place.runs) (run_next place)))) in
+          whole (own ++ more)
+          (sent_behind endpoints graphs block (run_stations filters known run) (own_stations ++ later_stations) (run_seeds defined run) (own_seeds ++ later_seeds) own more first
+          (subst (AreRunsSent endpoints graphs block (own_stations ++ later_stations) (own_seeds ++ later_seeds)) (append-nil more)
+          (sent_behind endpoints graphs block own_stations later_stations own_seeds later_seeds more [] its (no_run_sent endpoints graphs block later_stations later_seeds (later_even even)))))
+        where
+          behind : (ps : List Pattern) → true ≡ is_run ps → drop next tasks ≡ run_tasks graphs filters known ps ++ (all_planned served graphs behind_stations ++ rest) → drop (next + 1) tasks ≡ all_planned served graphs behind_stations ++ rest
+          behind [] e h = absurd (cc)
+          behind (p ∷ ps) e h = behind_next tasks (all_planned served graphs behind_stations ++ rest) next (run_task graphs (p ∷ ps) filters (once known)) h
+
 -- ---- one element
 
 module _ (endpoints : List EndpointParts) (block : ℕ) (tasks : List Task) (next : ℕ) (was_run : Bool) (before : List Bindings) (graphs : List (List Triple)) where
@@ -214,4 +241,12 @@ module _ (endpoints : List EndpointParts) (block : ℕ) (tasks : List Task) (nex
         let o = made_by served in
         subst (λ (v : GroupPart). AreSentFrom endpoints graphs block filters number known run defined (with_part v steps) (own ++ more)) (sym o.1)
         (due_at_operator endpoints graphs block tasks served filters number known run before defined steps rest next was_run o.0 even e between rows own more o.1 ended due
+        (subst (λ (v : GroupPart). IsPlace graphs tasks served next was_run filters number known run before defined (with_part v steps) rest) o.1 place))
+
+    pub due_of_both : (own more : List Sent) → was_run ≡ true → EndDue endpoints block tasks next was_run before graphs own → ((rows : List Bindings) → OperatorDue endpoints block tasks (next + 1) e rows graphs more)
+        → ElementDue endpoints block tasks next was_run e before graphs (own ++ more)
+    due_of_both own more has due also_due = λ served number filters known run defined steps rest even place.
+        let o = made_by served in
+        subst (λ (v : GroupPart). AreSentFrom endpoints graphs block filters number known run defined (with_part v steps) (own ++ more)) (sym o.1)
+        (due_at_both endpoints graphs block tasks served filters number known run before defined steps rest next was_run o.0 even e own more o.1 has due also_due
         (subst (λ (v : GroupPart). IsPlace graphs tasks served next was_run filters number known run before defined (with_part v steps) rest) o.1 place))

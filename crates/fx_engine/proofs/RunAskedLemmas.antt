@@ -1,6 +1,7 @@
 -- What a run sends and gives by its task.
-use Rattle.std.proofs.Common.{if◌then◌else◌, ◌≡◌, ◌∙◌, ap, sym, subst, refl, ℕ, suc, ◌+◌, ◌<◌, ◌≤◌, Bool, true, false, List, [], ◌∷◌, ◌++◌, map, drop, length, get_or, Ok, Err, All, Contains, IsPermutation, arith, drop-cons, drop_of_length-le}
+use Rattle.std.proofs.Common.{◌≡◌, ◌∙◌, ap, sym, subst, refl, ℕ, suc, ◌+◌, ◌<◌, ◌≤◌, Bool, true, false, List, [], ◌∷◌, map, drop, length, get_or, Ok, Err, All, Contains, arith, drop-cons, drop_of_length-le}
 use Rattle.std.specs.List.{list_any}
+use Rattle.std.proofs.lemmas.List.{drop-drop}
 use Rattle.fx_terms.proofs.SetLemmas.{among_from, contains_from}
 use Rattle.fx_terms.specs.declared.triples.Triple.{Triple}
 use Rattle.fx_terms.specs.declared.patterns.Pattern.{Pattern}
@@ -15,83 +16,34 @@ use Rattle.fx_algebra.specs.declared.expressions.Expr.{Expr}
 use Rattle.fx_algebra.specs.declared.units.Row.{Row}
 use Rattle.fx_algebra.specs.declared.units.Unit as unit
 use Rattle.fx_plan.specs.Plans.{plan}
-use Rattle.fx_plan.specs.declared.parts.Part.TheVariants as part
-use Rattle.fx_spelling.specs.Units.{IsFit, IsSound}
-use Rattle.fx_steps.specs.Steps.{numbered, stepped}
+use Rattle.fx_spelling.specs.Units.{IsFit}
+use Rattle.fx_steps.specs.Steps.{numbered}
 use Rattle.fx_traffic.specs.Batches.{IsRunSent}
 use Rattle.fx_traffic.specs.Sent.{Sent}
 use Rattle.fx_traffic.specs.Traffic.{SentUnless}
-use Rattle.fx_traffic.proofs.FewerLemmas.{fewer_laws}
 use Rattle.fx_traffic.proofs.TextLemmas.{texts_of_more}
 use Rattle.fx_wire.specs.Exchanges.{Exchange, Seen}
-use Rattle.fx_flows.specs.RunFlows.{HasFlowCause, IsFlowCause, RunFlowed}
+use Rattle.fx_flows.specs.RunFlows.{HasFlowCause, RunFlowed}
 use Rattle.fx_flows.specs.declared.flows.FlowError.{FlowError}
-use Rattle.fx_flows.specs.declared.flows.FlowError.TheVariants as flow
 use Rattle.fx_engine.specs.Asked.{Asked}
-use Rattle.fx_engine.specs.GroupsAsked.{ComesOf, IsRunFound, RunDue, RunGiven, run_task, task_units, units_in}
-use Rattle.fx_engine.specs.Laws.{HasFitUnits, HasSoundUnits}
-use Rattle.fx_engine.specs.RunsSent.{IsSentForRun}
-use Rattle.fx_engine.specs.Sections.{part_with}
+use Rattle.fx_engine.specs.GroupsAsked.{ComesOf, RunDue, RunGiven, run_task, task_units, units_in}
 use Rattle.fx_engine.specs.Tasks.{front_of}
-use Rattle.fx_engine.specs.declared.sections.Section.TheVariants.{Run}
 use Rattle.fx_engine.specs.declared.tasks.RowsError.TheVariants as rows_error
 use Rattle.fx_engine.specs.declared.tasks.Task.{Task}
 use Rattle.fx_engine.specs.declared.tasks.Task.TheVariants as task
 use Rattle.fx_engine.proofs.AskedLemmas.{given_unasked, read_of_more, refused_unasked}
+use Rattle.fx_engine.proofs.RunTaskLemmas.{cause_of_more, found_so, lacks_one, no_service, none_refused, sent_so, sound}
 use Rattle.fx_engine.proofs.StationLemmas.{no_run_sent, sent_alone}
-use Rattle.fx_engine.proofs.UnitLemmas.{sound_part}
-
--- ---- what a run with a task is
-
--- the task of a run: none of its patterns lacks a source, and its units are those of its plan
-record IsPlanOf (graphs : List (List Triple)) (ps : List Pattern) (filters : List Expr) (known : List (List ℕ)) (units : List unit.Unit) : Type 0 where
-  full : list_any is_empty_list (map (sources graphs) ps) ≡ false
-  units_are : units ≡ plan ps (map (sources graphs) ps) filters known
-
-module _ (graphs : List (List Triple)) (ps : List Pattern) (filters : List Expr) (known : List (List ℕ)) where
-  abbrev its_plan : List unit.Unit
-  its_plan = plan ps (map (sources graphs) ps) filters known
-
-  abbrev by_lack : Bool → Task
-  by_lack b = if b then task.EmptyRun else task.Run its_plan
-
-  is_plan : (units : List unit.Unit) → run_task graphs ps filters known ≡ task.Run units → IsPlanOf graphs ps filters known units
-  is_plan units h = by (list_any is_empty_list (map (sources graphs) ps)) refl
-    where
-      by : (b : Bool) → list_any is_empty_list (map (sources graphs) ps) ≡ b → IsPlanOf graphs ps filters known units
-      by true e = let lacks : task.EmptyRun ≡ task.Run units = sym (ap by_lack e) ∙ h in absurd (cc)
-      by false e = let same : task.Run its_plan ≡ task.Run units = sym (ap by_lack e) ∙ h in record { full = e; units_are = cc }
-
-  -- as a part of a plan
-  part_is : (units : List unit.Unit) → IsPlanOf graphs ps filters known units → part_with (sources graphs) (Run ps filters known) ≡ part.Run units known
-  part_is units k = ap (λ (b : Bool). if b then part.EmptyRun else part.Run its_plan known) k.full ∙ ap (λ (us : List unit.Unit). part.Run us known) (sym k.units_are)
-
-  lacks_one : run_task graphs ps filters known ≡ task.EmptyRun → list_any is_empty_list (map (sources graphs) ps) ≡ true
-  lacks_one h = by (list_any is_empty_list (map (sources graphs) ps)) refl
-    where
-      by : (b : Bool) → list_any is_empty_list (map (sources graphs) ps) ≡ b → list_any is_empty_list (map (sources graphs) ps) ≡ true
-      by true e = e
-      by false e = let same : task.Run its_plan ≡ task.EmptyRun = sym (ap by_lack e) ∙ h in absurd (cc)
-
-  no_service : (rows : List Bindings) → run_task graphs ps filters known ≡ task.Service rows → ⊥
-  no_service rows h = by (list_any is_empty_list (map (sources graphs) ps)) h
-    where
-      by : (b : Bool) → by_lack b ≡ task.Service rows → ⊥
-      by true e = cc
-      by false e = cc
-
-  none_refused : run_task graphs ps filters known ≡ task.Refused → ⊥
-  none_refused h = by (list_any is_empty_list (map (sources graphs) ps)) h
-    where
-      by : (b : Bool) → by_lack b ≡ task.Refused → ⊥
-      by true e = cc
-      by false e = cc
 
 -- the next of tasks
 pub next_task : (tasks : List Task) (next : ℕ) (it : Task) → next < length tasks → it ≡ get_or tasks next it → drop next tasks ≡ it ∷ drop (next + 1) tasks
 next_task tasks next it below is =
     let one : suc next ≡ next + 1 = omega arith in
     drop-cons tasks next it below ∙ ap (λ (v : Task). v ∷ drop (suc next) tasks) (sym is) ∙ ap (λ (n : ℕ). it ∷ drop n tasks) one
+
+-- behind the next of tasks
+pub behind_next : (tasks others : List Task) (next : ℕ) (t : Task) → drop next tasks ≡ t ∷ others → drop (next + 1) tasks ≡ others
+behind_next tasks others next t h = sym (drop-drop 1 next tasks) ∙ ap (drop 1) h
 
 pub first_is : {X : Type 0} (x y : X) (xs ys : List X) → x ∷ xs ≡ y ∷ ys → (x ≡ y) × (xs ≡ ys)
 first_is x y xs ys h = (cc, cc)
@@ -147,54 +99,11 @@ module _ (tells alone : Bool) (before after : List Seen) (endpoints : List Endpo
     refused_unrun refused = unrun (λ graphs ps filters known is. none_refused graphs ps filters known (is ∙ refused))
 
     module _ (units : List unit.Unit) (is_run : it ≡ task.Run units) (fit : All IsFit units) (its : Contains (front_of tasks) it) where
-      sound : (graphs : List (List Triple)) (ps : List Pattern) (filters : List Expr) (known : List (List ℕ)) → run_task graphs ps filters known ≡ it → All (IsSound graphs) units
-      sound graphs ps filters known is =
-          let whole = part_is graphs ps filters known units (is_plan graphs ps filters known units (is ∙ is_run)) in
-          subst (HasSoundUnits graphs) whole (sound_part graphs (Run ps filters known) (subst HasFitUnits (sym whole) fit))
-
-      sent_so : (graphs : List (List Triple)) (ps : List Pattern) (filters : List Expr) (known : List (List ℕ)) (gone defined : List Bindings) (wanted : List Sent) → IsPermutation (rows ++ gone) defined → run_task graphs ps filters known ≡ it
-          → IsRunSent endpoints (union graphs) block 1 units (numbered 0 rows) wanted → IsSentForRun endpoints graphs block (station.run ps filters known) defined wanted
-      sent_so graphs ps filters known gone defined wanted moved is h = by (list_any is_empty_list (map (sources graphs) ps)) (is_plan graphs ps filters known units (is ∙ is_run)).full
-        where
-          us : List unit.Unit
-          us = plan ps (map (sources graphs) ps) filters known
-
-          by : (b : Bool) → b ≡ false → SentUnless b wanted (IsRunSent endpoints (union graphs) block 1 us (numbered 0 defined) wanted)
-          by true e = absurd (cc)
-          by false e =
-              subst (λ (v : List unit.Unit). IsRunSent endpoints (union graphs) block 1 v (numbered 0 defined) wanted) (is_plan graphs ps filters known units (is ∙ is_run)).units_are
-              (fewer_laws.run endpoints (union graphs) block units rows gone defined wanted moved h)
-
-      found_so : (graphs : List (List Triple)) (ps : List Pattern) (filters : List Expr) (known : List (List ℕ)) (found : List Row) → run_task graphs ps filters known ≡ it → IsPermutation found (stepped (union graphs) units (numbered 0 rows))
-          → IsRunFound graphs ps filters known rows found
-      found_so graphs ps filters known found is h =
-          let whole = is_plan graphs ps filters known units (is ∙ is_run) in
-          subst (λ (b : Bool). ComesOf b (union graphs) (plan ps (map (sources graphs) ps) filters known) rows found) (sym whole.full)
-          (subst (λ (v : List unit.Unit). IsPermutation found (stepped (union graphs) v (numbered 0 rows))) whole.units_are h)
-
       of_plan : (u : unit.Unit) → Contains units u → Contains (units_in tasks) u
       of_plan u m = contains_from (units_in tasks) u (among_flat_map task_units it u (front_of tasks) (among_from (front_of tasks) it its) (among_from (task_units it) u (subst (λ (t : Task). Contains (task_units t) u) (sym is_run) m)))
 
-      its_cause : (wanted : List Sent) (xs : List Exchange) (why : FlowError) → IsFlowCause before after endpoints units block wanted xs why → IsFlowCause before after endpoints (units_in tasks) block wanted xs why
-      its_cause wanted xs why k = record {
-        unit = k.unit;
-        of_run = of_plan k.unit k.of_run;
-        batch = k.batch;
-        sized = k.sized;
-        allowed = k.allowed;
-        at = k.at;
-        member = k.member;
-        endpoint = k.endpoint;
-        found = k.found;
-        named = k.named;
-        cause = k.cause;
-      }
-
       has_cause : (wanted : List Sent) (xs : List Exchange) (why : FlowError) → HasFlowCause before after endpoints units block wanted xs why → HasFlowCause before after endpoints (units_in tasks) block wanted xs why
-      has_cause wanted xs (flow.Member at) k = its_cause wanted xs (flow.Member at) k
-      has_cause wanted xs (flow.BadReply at bad) k = its_cause wanted xs (flow.BadReply at bad) k
-      has_cause wanted xs (flow.RequestTooLong at size) k = its_cause wanted xs (flow.RequestTooLong at size) k
-      has_cause wanted xs flow.Memory k = tt
+      has_cause = cause_of_more before after endpoints units (units_in tasks) block of_plan
 
       abbrev Given : List (List Triple) → List Sent → List Row → Type 0
       Given = RunGiven endpoints block tasks next (next + 1) rows
@@ -207,7 +116,6 @@ module _ (tells alone : Bool) (before after : List Seen) (endpoints : List Endpo
       run_asked found h = record {
         exchanges = h.exchanges;
         failed = h.failed;
-        few = h.few;
         unfailed = h.unfailed;
         went = record { gained = h.gained; after_all = h.after_all; counted = h.counted };
         wanted = h.wanted;
@@ -217,12 +125,12 @@ module _ (tells alone : Bool) (before after : List Seen) (endpoints : List Endpo
         faultless = read_of_more (Contains units) (Contains (units_in tasks)) of_plan h.exchanges h.faultless;
         known = λ graphs told ps filters known gone defined rest moved is.
             let here = first_is _ _ _ _ (sym is ∙ next_is) in
-            let all_sound = sound graphs ps filters known here.0 in (
+            let all_sound = sound endpoints block rows it units is_run fit graphs ps filters known here.0 in (
               record {
                 behind = sym here.1;
-                sent = sent_alone endpoints graphs block (station.run ps filters known) defined h.wanted (sent_so graphs ps filters known gone defined h.wanted moved here.0 (h.of_run graphs told all_sound));
+                sent = sent_alone endpoints graphs block (station.run ps filters known) defined h.wanted (sent_so endpoints block rows it units is_run fit graphs ps filters known gone defined h.wanted moved here.0 (h.of_run graphs told all_sound));
               },
-              found_so graphs ps filters known found here.0 (h.done graphs told all_sound),
+              found_so endpoints block rows it units is_run fit graphs ps filters known found here.0 (h.done graphs told all_sound),
             );
         cause = tt;
       }
@@ -232,7 +140,6 @@ module _ (tells alone : Bool) (before after : List Seen) (endpoints : List Endpo
       run_refused why h = record {
         exchanges = h.exchanges;
         failed = h.failed;
-        few = h.few;
         unfailed = tt;
         went = record { gained = h.gained; after_all = h.after_all; counted = h.counted };
         wanted = h.wanted;
@@ -242,6 +149,6 @@ module _ (tells alone : Bool) (before after : List Seen) (endpoints : List Endpo
         faultless = tt;
         known = λ graphs told ps filters known gone defined rest moved is.
             let here = first_is _ _ _ _ (sym is ∙ next_is) in
-            sent_alone endpoints graphs block (station.run ps filters known) defined h.wanted (sent_so graphs ps filters known gone defined h.wanted moved here.0 (h.of_run graphs told (sound graphs ps filters known here.0)));
+            sent_alone endpoints graphs block (station.run ps filters known) defined h.wanted (sent_so endpoints block rows it units is_run fit graphs ps filters known gone defined h.wanted moved here.0 (h.of_run graphs told (sound endpoints block rows it units is_run fit graphs ps filters known here.0)));
         cause = has_cause h.wanted h.exchanges why h.cause;
       }

@@ -44,7 +44,7 @@ module _ (endpoints : List EndpointParts) (graphs : List (List Triple)) (block :
   none_unless true P h = refl
   none_unless false P h = h
 
-  nothing_of : (s : Station) (rows : List Bindings) → IsSentForRun endpoints graphs block s rows []
+  pub nothing_of : (s : Station) (rows : List Bindings) → IsSentForRun endpoints graphs block s rows []
   nothing_of (station.run ps filters before) rows =
       let us = plan ps (map (sources graphs) ps) filters before in
       none_unless (list_any is_empty_list (map (sources graphs) ps)) (IsRunSent endpoints (union graphs) block 1 us (numbered 0 rows) []) (batch_laws.nothing endpoints (union graphs) block 1 us (numbered 0 rows))

@@ -1,5 +1,5 @@
 -- What asking over several wires leaves of them, whatever was asked for.
-use Rattle.std.specs.Prelude.{◌≡◌, ◌≤◌, ℕ, Bool, List, length, IfErr, All, Contains, Result, Ok, Err}
+use Rattle.std.specs.Prelude.{◌≡◌, ℕ, Bool, List, IfErr, All, Contains, Result, Ok, Err}
 use Rattle.fx_terms.specs.declared.triples.Triple.{Triple}
 use Rattle.fx_outside.specs.Endpoints.{EndpointParts}
 use Rattle.fx_traffic.specs.Batches.{IsBatchText}
@@ -36,11 +36,10 @@ HasRowsCause before after endpoints tasks block wanted xs rows_error.Refused = C
 
 -- Something was asked for, by units of these tasks: what was exchanged, what was wanted of it, which is texts of batches of no more rows than so many,
 -- and what is known of that and of the result where the graphs of the endpoints are told. Where no batch was refused each reply was read, without a fault.
--- At each address no more faults were counted, together, than there are wires, and none where no batch was refused.
+-- At each address no more faults were counted, together, than exchanges failed, and none did where no batch was refused.
 pub record Asked {X : Type 0} (tells alone : Bool) (before after : List Seen) (endpoints : List EndpointParts) (tasks : List Task) (block : ℕ) (Given : List (List Triple) → List Sent → X → Type 0) (Due : List (List Triple) → List Sent → Type 0) (result : Result X RowsError) : Type 0 where
   pub exchanges : List Exchange
   pub failed : ℕ
-  pub few : failed ≤ length before
   pub unfailed : IfGiven result (failed ≡ 0)
   pub went : Went tells alone failed before after exchanges
   pub wanted : List Sent

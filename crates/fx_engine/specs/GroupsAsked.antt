@@ -1,5 +1,5 @@
 -- The rows of groups, asked for over wires by the tasks of their query.
-use Rattle.std.specs.Prelude.{if◌then◌else◌, ◌≡◌, ◌<◌, ◌+◌, ℕ, Bool, true, false, List, [], ◌∷◌, ◌++◌, map, drop, length, All, Contains, IfSome, IsPermutation, Option, None, Some, Result, Ok, Err}
+use Rattle.std.specs.Prelude.{if◌then◌else◌, ◌≡◌, ◌+◌, ℕ, Bool, true, false, List, [], ◌∷◌, ◌++◌, map, drop, length, All, Contains, IfSome, IsPermutation, Option, None, Some, Result, Ok, Err}
 use Rattle.std.specs.List.{flat_map, list_any}
 use Rattle.std.specs.declared.vec.Vec.{Vec}
 use Rattle.std.specs.declared.alloc.Global.{Global}
@@ -23,7 +23,7 @@ use Rattle.fx_algebra.specs.declared.units.Row.{Row}
 use Rattle.fx_algebra.specs.declared.units.Unit as unit
 use Rattle.fx_plan.specs.Plans.{plan}
 use Rattle.fx_flows.specs.declared.flows.FlowError.TheVariants as flow
-use Rattle.fx_spelling.specs.Units.{IsFit}
+use Rattle.fx_side_by_side.specs.SideBySide.{CanAsk}
 use Rattle.fx_steps.specs.Fewer.{AreFewer}
 use Rattle.fx_steps.specs.Steps.{numbered, stepped}
 use Rattle.fx_traffic.specs.Sent.{Sent}
@@ -69,12 +69,6 @@ task_units task.Refused = []
 -- the units of tasks that may be asked for: nothing is behind an occurrence of SERVICE that was refused
 abbrev pub units_in : List Task → List unit.Unit
 units_in tasks = flat_map task_units (front_of tasks)
-
--- units that can be asked for: there is one, they are fit, and their members are endpoints
-pub record CanAsk (count : ℕ) (units : List unit.Unit) : Type 0 where
-  pub some : 0 < length units
-  pub fit : All IsFit units
-  pub within : All (λ u. All (λ at. at < count) u.members) units
 
 -- a task whose units can be asked for, if it is a run that has any
 abbrev pub CanBeAsked : ℕ → Task → Type 0

@@ -16,4 +16,5 @@ pub mod RunsSent
 pub mod SectionSteps
 pub mod Sections
 pub mod Tasks
+pub mod Together
 pub mod Unknown

@@ -12,6 +12,9 @@ ghost use Rattle.fx_engine.specs.SectionSteps.{group_of, part_of, part_patterns}
 use crate::optionals::or_themselves;
 use crate::sections::{filters_of, is_simple, keeps_run};
 use crate::tasks::{RowsError, Task, Tasks};
+use crate::together::{
+    BehindRun, behind_run, is_one_empty, next_runs, run_and_minus, run_and_union, union_rows,
+};
 use fx_algebra::{Element, Expr, Group, Inline, Row, Solution};
 use fx_flows::{FlowError, run_flow};
 use fx_outside::Endpoint;
@@ -126,6 +129,21 @@ fn after_element<R: Threads + Wait + Sync, W: Wire + Send>(
     }
     if keeps_run(element) {
         return Ok(before);
+    }
+    if *in_run && is_one_empty(before.as_slice()) {
+        match behind_run(element, tasks, *next) {
+            BehindRun::Union { groups, next: them } => {
+                *in_run = false;
+                *next = them.end;
+                return run_and_union(rt, alloc, groups, them.its, endpoints, block, wires);
+            }
+            BehindRun::Minus { group, next: them } => {
+                *in_run = false;
+                *next = them.end;
+                return run_and_minus(rt, alloc, group, them.its, endpoints, block, wires);
+            }
+            BehindRun::Apart => {}
+        }
     }
     match end_run(
         rt, alloc, before, *in_run, tasks, next, endpoints, block, wires,
@@ -246,6 +264,12 @@ fn alternatives<R: Threads + Wait + Sync, W: Wire + Send>(
     requires asked { All (CanBeAsked (length endpoints.now)) tasks.now }
     ensures { Asked W.tells_log W.counts_alone (map W.seen wires.old) (map W.seen wires.new) endpoints.now tasks.now block (spec.AlternativesGiven endpoints.now block tasks.now next.old next.new groups.now) (spec.AlternativesDue endpoints.now block tasks.now next.old groups.now) (solutions_in result) }
 {
+    if groups.len() > 1 {
+        if let Some(them) = next_runs(groups, 0, tasks, *next) {
+            *next = them.end;
+            return union_rows(rt, alloc, groups, them.its, endpoints, block, wires);
+        }
+    }
     let mut rows = Vec::new(alloc);
     for group in groups {
         match group_rows(rt, alloc, group, tasks, next, endpoints, block, wires) {
@@ -421,7 +445,7 @@ fn is_pattern(element: &Element) -> bool
 }
 
 // Whether a group has a triple pattern of its own.
-fn has_pattern(group: &Group) -> bool
+pub(crate) fn has_pattern(group: &Group) -> bool
     ensures { result ≡ spec.is_run (spec.own_patterns group.now) }
 {
     for element in group.elements.as_slice() {
@@ -447,7 +471,11 @@ fn solutions(alloc: Global, rows: Vec<Row>) -> Result<Vec<Solution>, RowsError>
 }
 
 // The rows on which the filters of a group hold.
-fn filtered(alloc: Global, group: &Group, rows: Vec<Solution>) -> Result<Vec<Solution>, RowsError>
+pub(crate) fn filtered(
+    alloc: Global,
+    group: &Group,
+    rows: Vec<Solution>,
+) -> Result<Vec<Solution>, RowsError>
     ensures given { IfOk result (λ kept. kept.items ≡ filtered_of (group_of group.now).filters rows.items) }
     ensures memory { IfErr result (λ e. e ≡ RowsError.Flow FlowError.Memory) }
 {
@@ -455,7 +483,7 @@ fn filtered(alloc: Global, group: &Group, rows: Vec<Solution>) -> Result<Vec<Sol
     Ok(filter(alloc, rows, filters.as_slice())?)
 }
 
-fn joined(
+pub(crate) fn joined(
     alloc: Global,
     before: &[Solution],
     found: Vec<Solution>,
@@ -478,7 +506,7 @@ fn with_rows(
     Ok(join(alloc, before, found)?)
 }
 
-fn lessened(
+pub(crate) fn lessened(
     alloc: Global,
     before: Vec<Solution>,
     found: Vec<Solution>,

@@ -16,6 +16,7 @@ mod parts;
 mod planning;
 mod sections;
 mod tasks;
+mod together;
 mod unknown;
 
 pub use fault_texts::{fault_code, fault_words};
