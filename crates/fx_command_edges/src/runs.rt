@@ -36,6 +36,10 @@ const TWO_UNITS: &str =
 // One row, which is one batch for four endpoints.
 const FOUR_MEMBERS: &str = "SELECT * WHERE { VALUES ?x { <http://e/a> } ?x <http://e/r> ?y }";
 
+// Four groups of a UNION, each of which has one batch for one endpoint.
+const FOUR_GROUPS: &str =
+    "SELECT * WHERE { { ?x <http://e/p> <http://e/a> } UNION { ?x <http://e/p> <http://e/b> } UNION { ?x <http://e/p> <http://e/c> } UNION { ?x <http://e/p> <http://e/d> } }";
+
 // A wire whose exchange of the batch with one row, or with one endpoint, ends only when those of the three others have ended, and fails where it never sees that. All others are
 // answered at once: an ASK by whether the endpoint has the pattern, Amsterdam for `q`, Berlin for `p` and each for `r`; a batch for `q` with four rows, and one for
 // `p` or `r` with none.
@@ -151,17 +155,39 @@ fn first_slow_member_amiss<R: Threads + Wait + Sync>(
         "127.0.0.1:8003",
         "127.0.0.1:8004",
     ] {
-        if code_of_members(rt, alloc, slow) != Some(0) {
+        if code_over_four(rt, alloc, FOUR_MEMBERS, slow) != Some(0) {
             return Some(slow);
         }
     }
     None
 }
 
-// How `query` ends over four wires, where the endpoint at this address waits for the others.
-fn code_of_members<R: Threads + Wait + Sync>(rt: &R, alloc: Global, slow: &str) -> Option<u8> {
+// Whichever of the batches of four groups of a UNION waits for the three others, four wires ask for them all. A body that asks for one group after the other fails where any
+// but the last waits.
+#[test]
+fn four_groups_of_a_union_at_once(rt: HostRuntime) {
+    assert_eq!(rt; first_slow_group_amiss(&rt, rt.alloc()), None);
+}
+
+// The object of the first of the four groups whose batch can't wait for the others without a failure.
+fn first_slow_group_amiss<R: Threads + Wait + Sync>(rt: &R, alloc: Global) -> Option<&'static str> {
+    for slow in ["http://e/a", "http://e/b", "http://e/c", "http://e/d"] {
+        if code_over_four(rt, alloc, FOUR_GROUPS, slow) != Some(0) {
+            return Some(slow);
+        }
+    }
+    None
+}
+
+// How `query` ends over four wires, where the batch with this text waits for the others.
+fn code_over_four<R: Threads + Wait + Sync>(
+    rt: &R,
+    alloc: Global,
+    query: &str,
+    slow: &str,
+) -> Option<u8> {
     let ended = AtomicU64::new(0);
-    let mut files = files(alloc, REGISTRY, FOUR_MEMBERS)?;
+    let mut files = files(alloc, REGISTRY, query)?;
     let mut wires = [
         wire(&ended, slow),
         wire(&ended, slow),
