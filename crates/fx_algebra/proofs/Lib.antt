@@ -14,3 +14,4 @@ pub mod OperatorLemmas
 pub mod MoveLemmas
 pub mod RunLemmas
 pub mod JoinOrderLemmas
+pub mod KeptLemmas

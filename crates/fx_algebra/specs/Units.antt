@@ -1,10 +1,11 @@
 -- What a unit of a run gives from rows, which filters may go with it, and which members have anything for a pattern.
-use Rattle.std.specs.Prelude.{ℕ, Bool, true, false, not, ◌&&◌, ◌||◌, List, [], ◌∷◌, ◌++◌, map, filter, length, get_or, nat_le}
+use Rattle.std.specs.Prelude.{◌≡◌, ◌<◌, ℕ, Bool, true, false, not, ◌&&◌, ◌||◌, List, [], ◌∷◌, ◌++◌, map, filter, length, get_or, nat_le, if◌then◌else◌}
 use Rattle.std.specs.List.{flat_map, list_all, list_any, range_with_len}
 use Rattle.fx_terms.specs.declared.triples.Triple.{Triple}
 use Rattle.fx_terms.specs.declared.patterns.Pattern.{Pattern}
 use Rattle.fx_algebra.specs.Answers.{has_rows}
 use Rattle.fx_algebra.specs.BasicGraphPatterns.{bgp, variables}
+use Rattle.fx_algebra.specs.Graphs.{union}
 use Rattle.fx_algebra.specs.Measures.{measured, condition_nest}
 use Rattle.fx_algebra.specs.Operators.{merges, filtered}
 use Rattle.fx_algebra.specs.Scopes.{all_of, is_among}
@@ -102,3 +103,47 @@ graph_of graphs at = get_or graphs at []
 -- the sources of a pattern: the members, by number, whose graph it fits
 abbrev pub sources : List (List Triple) → Pattern → List ℕ
 sources graphs p = filter (λ at. fits p (graph_of graphs at)) (range_with_len 0 (length graphs))
+
+-- ---- members that are left out
+
+-- whether a member is kept; one that the list is too short for isn't
+abbrev pub is_kept : List Bool → ℕ → Bool
+is_kept kept at = get_or kept at false
+
+-- the graphs with an empty one in the place of each member that isn't kept, so that each member keeps its number
+abbrev pub of_kept : List Bool → List (List Triple) → List (List Triple)
+of_kept kept [] = []
+of_kept [] (graph ∷ graphs) = [] ∷ of_kept [] graphs
+of_kept (k ∷ kept) (graph ∷ graphs) = (if k then graph else []) ∷ of_kept kept graphs
+
+-- each of so many members is kept
+abbrev pub AreAllKept : List Bool → ℕ → Type 0
+AreAllKept kept members = (at : ℕ) → at < members → is_kept kept at ≡ true
+
+-- the graphs of the kept members alone
+abbrev pub kept_alone : List Bool → List (List Triple) → List (List Triple)
+kept_alone [] graphs = []
+kept_alone (k ∷ kept) [] = []
+kept_alone (k ∷ kept) (graph ∷ graphs) = if k then graph ∷ kept_alone kept graphs else kept_alone kept graphs
+
+-- ---- laws
+
+-- there are as many graphs
+abbrev pub KeptHaveTheirNumbers : Type 0
+KeptHaveTheirNumbers = (kept : List Bool) (graphs : List (List Triple)) → length (of_kept kept graphs) ≡ length graphs
+
+-- a kept member has its graph, and each other one the empty graph
+abbrev pub KeptHaveTheirGraphs : Type 0
+KeptHaveTheirGraphs = (kept : List Bool) (graphs : List (List Triple)) (at : ℕ) → graph_of (of_kept kept graphs) at ≡ (if is_kept kept at then graph_of graphs at else [])
+
+-- the sources of a pattern are those of its sources that are kept
+abbrev pub SourcesAreKept : Type 0
+SourcesAreKept = (kept : List Bool) (graphs : List (List Triple)) (p : Pattern) → sources (of_kept kept graphs) p ≡ filter (is_kept kept) (sources graphs p)
+
+-- the union is that of the kept members' graphs alone
+abbrev pub UnionIsOfTheKept : Type 0
+UnionIsOfTheKept = (kept : List Bool) (graphs : List (List Triple)) → union (of_kept kept graphs) ≡ union (kept_alone kept graphs)
+
+-- where each member is kept, the graphs are as they were
+abbrev pub AllKeptAreAll : Type 0
+AllKeptAreAll = (kept : List Bool) (graphs : List (List Triple)) → AreAllKept kept (length graphs) → of_kept kept graphs ≡ graphs

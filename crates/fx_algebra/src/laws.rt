@@ -3,6 +3,7 @@ ghost use Rattle.fx_algebra.specs.BasicGraphPatterns.{BgpLaw};
 ghost use Rattle.fx_algebra.specs.Cuts.{CutHasTheNames, MeaningHasTheTree, SeedsForEachStation, StationsAreFixed};
 ghost use Rattle.fx_algebra.specs.Orders.{JoinsInAnyOrder, RunsInAnyOrder};
 ghost use Rattle.fx_algebra.specs.Sequences.{OneSequence};
+ghost use Rattle.fx_algebra.specs.Units.{AllKeptAreAll, KeptHaveTheirGraphs, KeptHaveTheirNumbers, SourcesAreKept, UnionIsOfTheKept};
 
 /// The solutions of a basic graph pattern (SPARQL 1.1 section 18.3.1). Over a graph whose triples rise, each stands once, and
 /// they are exactly those that bind the variables of the patterns, and no others, and turn each pattern into a triple of the
@@ -37,4 +38,14 @@ pub fn one_run()
 /// first.
 pub fn one_join()
     ensures { JoinsInAnyOrder }
+{}
+
+/// Graphs with an empty one in the place of each member that isn't kept. Each member keeps its number; the sources of a pattern are those
+/// of its sources that are kept; and the union is that of the kept members' graphs alone. Where all are kept, nothing changes.
+pub fn kept_graphs()
+    ensures numbers { KeptHaveTheirNumbers }
+    ensures graphs { KeptHaveTheirGraphs }
+    ensures sources { SourcesAreKept }
+    ensures union { UnionIsOfTheKept }
+    ensures all { AllKeptAreAll }
 {}

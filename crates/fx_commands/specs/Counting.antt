@@ -6,7 +6,7 @@ use Rattle.fx_terms.specs.declared.patterns.PatternTerm.TheVariants as part
 use Rattle.fx_terms.specs.declared.terms.Term.{Term}
 use Rattle.fx_terms.specs.declared.terms.Term.TheVariants.{Iri, Literal}
 use Rattle.fx_terms.specs.declared.triples.Triple.{Triple}
-use Rattle.fx_outside.specs.Endpoints.{EndpointParts}
+use Rattle.fx_outside.specs.Endpoints.{EndpointParts, endpoint_of}
 use Rattle.fx_algebra.specs.Answers.{answer_alone}
 use Rattle.fx_algebra.specs.Graphs.{union}
 use Rattle.fx_algebra.specs.Solutions.{Bindings}
@@ -85,7 +85,7 @@ third_address = codes "http://127.0.0.1:9002/sparql"
 
 -- an endpoint of this machine
 abbrev pub here : List ℕ → List ℕ → ℕ → EndpointParts
-here name address port = record { name = name; iri = address; host = codes "127.0.0.1"; port = port; target = codes "/sparql" }
+here name address port = endpoint_of name address (codes "127.0.0.1") port (codes "/sparql")
 
 abbrev pub generated_members : List EndpointParts
 generated_members = here (codes "M0") first_address 9000 ∷ here (codes "M1") second_address 9001 ∷ here (codes "M2") third_address 9002 ∷ []

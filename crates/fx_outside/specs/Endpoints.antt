@@ -2,17 +2,26 @@
 use Rattle.std.specs.Prelude.{ℕ, ◌+◌, Bool, false, List, [], ◌∷◌, length, codes, ◌&&◌, ◌||◌, ◌==◌, nat_le, not}
 use Rattle.std.specs.List.{list_all, list_any}
 use Rattle.fx_terms.specs.Iris.{is_letter, is_digit}
+use Rattle.fx_outside.specs.declared.endpoints.Flags.{Flags}
 
--- a name, an address, and the host, port and target that the address gives
+-- a name, an address, the host, port and target that the address gives, whether queries may do without the endpoint, and whether it takes
+-- batches of rows as VALUES
 pub record EndpointParts : Type 0 where
   pub name : List ℕ
   pub iri : List ℕ
   pub host : List ℕ
   pub port : ℕ
   pub target : List ℕ
+  pub optional : Bool
+  pub values : Bool
 
+-- an endpoint without flags
 abbrev pub endpoint_of : List ℕ → List ℕ → List ℕ → ℕ → List ℕ → EndpointParts
-endpoint_of name iri host port target = record { name = name; iri = iri; host = host; port = port; target = target }
+endpoint_of name iri host port target = record { name = name; iri = iri; host = host; port = port; target = target; optional = false; values = false }
+
+-- the endpoint with these flags in place of its own
+abbrev pub flagged : Flags → EndpointParts → EndpointParts
+flagged flags e = record { name = e.name; iri = e.iri; host = e.host; port = e.port; target = e.target; optional = flags.optional; values = flags.values }
 
 -- U+0021 to U+007E
 abbrev pub is_host_byte : ℕ → Bool

@@ -7,7 +7,17 @@ use fx_terms::{Iri, Memory};
 use std::alloc::Global;
 use std::marker::Model;
 
-/// A SPARQL endpoint: its name, its address, and the host, port and target of the address. Contracts see these parts.
+/// What else is said of an endpoint.
+#[derive(Clone, Copy, Debug)]
+pub struct Flags {
+    /// Whether queries may do without it where it doesn't answer.
+    pub optional: bool,
+    /// Whether it takes batches of rows as VALUES.
+    pub values: bool,
+}
+
+/// A SPARQL endpoint: its name, its address, the host, port and target of the address, and its flags. Contracts see these
+/// parts.
 #[derive(Debug, Drop)]
 pub struct Endpoint {
     name: String,
@@ -15,19 +25,20 @@ pub struct Endpoint {
     host: String,
     port: u16,
     target: String,
+    flags: Flags,
 }
 
 impl Model for Endpoint {
     ghost use Rattle.std.specs.Prelude.{string_bytes};
-    ghost use Rattle.fx_outside.specs.Endpoints.{EndpointParts, endpoint_of};
+    ghost use Rattle.fx_outside.specs.Endpoints.{EndpointParts, endpoint_of, flagged};
 
     ghost Value = { EndpointParts };
 
-    ghost view = { λ e. endpoint_of (string_bytes e.name) e.iri (string_bytes e.host) e.port (string_bytes e.target) };
+    ghost view = { λ e. flagged e.flags (endpoint_of (string_bytes e.name) e.iri (string_bytes e.host) e.port (string_bytes e.target)) };
 }
 
 impl Endpoint {
-    /// The endpoint of these parts. It takes no memory.
+    /// The endpoint of these parts, without flags. It takes no memory.
     pub fn new(name: String, iri: Iri, host: String, port: u16, target: String) -> Endpoint
         ensures { result ≡ spec.endpoint_of (string_bytes name) iri (string_bytes host) port (string_bytes target) }
     {
@@ -37,7 +48,19 @@ impl Endpoint {
             host,
             port,
             target,
+            flags: Flags {
+                optional: false,
+                values: false,
+            },
         }
+    }
+
+    /// The same endpoint with these flags in place of its own. It takes no memory.
+    pub fn with_flags(mut self, flags: Flags) -> Endpoint
+        ensures { result ≡ spec.flagged flags self }
+    {
+        self.flags = flags;
+        self
     }
 
     /// The name, by which messages speak of it.
@@ -75,6 +98,20 @@ impl Endpoint {
         self.target.as_str()
     }
 
+    /// Whether queries may do without it where it doesn't answer.
+    pub fn is_optional(&self) -> bool
+        ensures { result ≡ self.now.optional }
+    {
+        self.flags.optional
+    }
+
+    /// Whether it takes batches of rows as VALUES.
+    pub fn takes_values(&self) -> bool
+        ensures { result ≡ self.now.values }
+    {
+        self.flags.values
+    }
+
     /// An equal endpoint.
     pub fn copy(&self, alloc: Global) -> Result<Endpoint, Memory>
         ensures { IfOk result (λ copy. copy ≡ self.now) }
@@ -85,6 +122,7 @@ impl Endpoint {
             host: String::from_str(alloc, self.host.as_str())?,
             port: self.port,
             target: String::from_str(alloc, self.target.as_str())?,
+            flags: self.flags,
         })
     }
 

@@ -23,7 +23,7 @@ pub mod system_streams;
 pub mod writing;
 
 pub use doors::{Door, DoorError};
-pub use endpoints::Endpoint;
+pub use endpoints::{Endpoint, Flags};
 use fx_terms::shareable;
 pub use memory_doors::MemoryDoor;
 pub use memory_links::MemoryLink;
@@ -45,6 +45,7 @@ pub use writing::write_all;
 /// where that may.
 pub fn all_shareable<T: Send + Sync>() {
     shareable::<Endpoint>();
+    shareable::<Flags>();
     shareable::<ReadFailed>();
     shareable::<WriteFailed>();
     shareable::<FileError>();
