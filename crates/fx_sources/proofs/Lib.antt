@@ -5,3 +5,4 @@ mod PartLemmas
 mod LineLemmas
 mod RegistryLemmas
 pub mod SourceLemmas
+pub mod KeptLemmas

@@ -1,5 +1,5 @@
 -- Entries and lines.
-use Rattle.std.proofs.Common.{◌≡◌, ◌∙◌, ℕ, ◌<◌, Bool, true, false, ◌&&◌, nat_le, List, [], ◌∷◌, Option, Some, None, Result, Ok, Err, length, cond, refl, ap, sym, arith, unwrap_or}
+use Rattle.std.proofs.Common.{◌≡◌, ◌∙◌, ℕ, ◌<◌, Bool, true, false, ◌&&◌, nat_le, List, [], ◌∷◌, Option, Some, None, Result, Ok, Err, length, cond, refl, ap, sym, subst, arith, unwrap_or, option_and_then}
 use Rattle.std.specs.Prelude.{All, MatchResult, is_ok}
 use Rattle.std.specs.List.{list_all}
 use Rattle.std.specs.Str.{IsUtf8, is_utf8}
@@ -10,9 +10,10 @@ use Rattle.std.proofs.lemmas.Str.Ascii.{IsAscii-from_all}
 use Rattle.url.specs.Parser.{parse_url}
 use Rattle.url.specs.Parts.{Parts, serialize}
 use Rattle.fx_terms.specs.Iris.{IsIri, read_iri, iri_after, iri_with_scheme, has_scheme}
-use Rattle.fx_outside.specs.Endpoints.{EndpointParts, endpoint_of, is_sendable}
+use Rattle.fx_outside.specs.Endpoints.{EndpointParts, endpoint_of, flagged, is_sendable}
+use Rattle.fx_outside.specs.declared.endpoints.Flags.{Flags}
 use Rattle.fx_sources.specs.Addresses.{IsEntry, endpoint_at, url_text, text_of, is_name, is_name_byte, is_iri, starts_with_letter}
-use Rattle.fx_sources.specs.Lines.{entry, entry_at}
+use Rattle.fx_sources.specs.Lines.{entry, entry_at, with_flag, flags_of}
 use Rattle.fx_sources.specs.declared.lines.Line.TheVariants.{Malformed}
 
 keeps_iri : (name address : List ℕ) (url : Parts) (host : Option (List ℕ)) (endpoint : EndpointParts) → endpoint_at name address url host ≡ Some endpoint → endpoint.iri ≡ address
@@ -34,6 +35,17 @@ entry_is name address url host endpoint text at iri reads is sendable =
       iri = rw same iri;
       reads = is ∙ sym (url_text_is address url reads) ∙ ap url_text (sym same);
     }
+
+-- flags change nothing that makes it an entry
+pub flagged_is : (flags : Flags) (endpoint with_flags : EndpointParts) (text : List ℕ) → with_flags ≡ flagged flags endpoint → IsEntry endpoint text → IsEntry with_flags text
+flagged_is flags endpoint with_flags text same is = subst (λ (e : EndpointParts). IsEntry e text) (sym same) (record { sendable = is.sendable; iri = is.iri; reads = is.reads })
+
+-- a word that adds a flag, and one that adds none
+pub flags_go_on : (flags next : Flags) (word : List ℕ) (rest line : List (List ℕ)) → line ≡ word ∷ rest → with_flag flags word ≡ Some next → flags_of flags line ≡ flags_of next rest
+flags_go_on flags next word rest line is adds = ap (flags_of flags) is ∙ ap (option_and_then (λ more. flags_of more rest)) adds
+
+pub flags_end : (flags : Flags) (word : List ℕ) (rest line : List (List ℕ)) → line ≡ word ∷ rest → with_flag flags word ≡ None → flags_of flags line ≡ None
+flags_end flags word rest line is adds = ap (flags_of flags) is ∙ ap (option_and_then (λ more. flags_of more rest)) adds
 
 ascii_byte : (b : ℕ) → is_name_byte b ≡ true → b < 128
 ascii_byte b is = grind (arith, nat_tests)
@@ -71,12 +83,12 @@ and_false true = refl
 and_false false = refl
 
 -- an address that isn't UTF-8
-pub entry_not_utf8 : (name address : List ℕ) → (IsUtf8 address → ⊥) → Malformed ≡ entry name address
+pub entry_not_utf8 : (name address : List ℕ) (flags : Flags) → (IsUtf8 address → ⊥) → Malformed ≡ entry name address flags
 unfolding entry
-entry_not_utf8 name address isnt =
+entry_not_utf8 name address flags isnt =
     let iri : is_iri address ≡ false = ap (λ b. b && is_ok (read_iri address)) (no_utf8 address isnt) in
     let out : is_name name && is_iri address ≡ false = ap (λ b. is_name name && b) iri ∙ and_false (is_name name) in
-    sym (ap (λ (b : Bool). cond b (entry_at name address (parse_url None address)) Malformed) out)
+    sym (ap (λ (b : Bool). cond b (entry_at name address (parse_url None address) flags) Malformed) out)
 
 same_iri : (text iri : List ℕ) (b : Bool) → iri_with_scheme text b ≡ Ok iri → text ≡ iri
 same_iri text iri true e = cc
@@ -87,13 +99,13 @@ reads_itself text iri (Some place) e = cc
 reads_itself text iri None e = same_iri text iri (has_scheme text) e
 
 -- a name and an IRI
-pub entry_is_at : (name address iri name' address' : List ℕ) → true ≡ is_name name → IsUtf8 address → name' ≡ name → address' ≡ address → read_iri address' ≡ Ok iri
-    → entry name address ≡ entry_at name' iri (parse_url None iri)
+pub entry_is_at : (name address iri name' address' : List ℕ) (flags : Flags) → true ≡ is_name name → IsUtf8 address → name' ≡ name → address' ≡ address → read_iri address' ≡ Ok iri
+    → entry name address flags ≡ entry_at name' iri (parse_url None iri) flags
 unfolding entry
-entry_is_at name address iri name' address' named utf8 is_name' is_address' reads =
+entry_is_at name address iri name' address' flags named utf8 is_name' is_address' reads =
     let same : address ≡ iri = sym is_address' ∙ reads_itself address' iri _ reads in
     let ok : is_ok (read_iri address) ≡ true = ap (λ t. is_ok (read_iri t)) (sym is_address') ∙ ap is_ok reads in
     let is : is_iri address ≡ true = ap (λ b. b && is_ok (read_iri address)) (is_utf8-from_IsUtf8 address utf8) ∙ ok in
     let both : is_name name && is_iri address ≡ true = ap (λ b. b && is_iri address) (sym named) ∙ is in
-    ap (λ (b : Bool). cond b (entry_at name address (parse_url None address)) Malformed) both
+    ap (λ (b : Bool). cond b (entry_at name address (parse_url None address) flags) Malformed) both
     ∙ rw (same, is_name') refl

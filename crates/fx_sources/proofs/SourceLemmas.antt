@@ -20,7 +20,7 @@ use Rattle.fx_sources.proofs.KeyLemmas.{key_fits}
 
 -- ---- lists
 
-all_from : {X : Type 0} (P : X → Type 0) (xs : List X) → ((x : X) → Among x xs → P x) → AllByRecursion P xs
+pub all_from : {X : Type 0} (P : X → Type 0) (xs : List X) → ((x : X) → Among x xs → P x) → AllByRecursion P xs
 all_from P [] f = tt
 all_from P (x ∷ xs) f = (f x (inl refl), all_from P xs (λ y m. f y (inr m)))
 
@@ -28,11 +28,11 @@ all_append : {X : Type 0} (P : X → Type 0) (xs ys : List X) → AllByRecursion
 all_append P [] ys h k = k
 all_append P (x ∷ xs) ys h k = (h.0, all_append P xs ys h.1 k)
 
-map_among : {X Y : Type 0} (f g : X → Y) (xs : List X) → ((x : X) → Among x xs → f x ≡ g x) → map f xs ≡ map g xs
+pub map_among : {X Y : Type 0} (f g : X → Y) (xs : List X) → ((x : X) → Among x xs → f x ≡ g x) → map f xs ≡ map g xs
 map_among f g [] same = refl
 map_among f g (x ∷ xs) same = λ i. same x (inl refl) i ∷ map_among f g xs (λ y m. same y (inr m)) i
 
-filter_among : (f g : ℕ → Bool) (xs : List ℕ) → ((x : ℕ) → Among x xs → f x ≡ g x) → filter f xs ≡ filter g xs
+pub filter_among : (f g : ℕ → Bool) (xs : List ℕ) → ((x : ℕ) → Among x xs → f x ≡ g x) → filter f xs ≡ filter g xs
 filter_among f g [] same = refl
 filter_among f g (x ∷ xs) same = λ i. cond (same x (inl refl) i) (x ∷ filter_among f g xs (λ y m. same y (inr m)) i) (filter_among f g xs (λ y m. same y (inr m)) i)
 
@@ -45,7 +45,7 @@ module _ {X : Type 0} where
   here_if x y true rest e h = inl e
   here_if x y false rest e h = cc
 
-  in_filter : (test : X → Bool) (y : X) (xs : List X) → Among y xs → test y ≡ true → Among y (filter test xs)
+  pub in_filter : (test : X → Bool) (y : X) (xs : List X) → Among y xs → test y ≡ true → Among y (filter test xs)
   in_filter test y [] m h = absurd m
   in_filter test y (x ∷ xs) (inl e) h = here_if x y (test x) (filter test xs) e (ap test e ∙ h)
   in_filter test y (x ∷ xs) (inr m) h = in_if x y (test x) (filter test xs) (in_filter test y xs m h)
@@ -55,7 +55,7 @@ module _ {X : Type 0} where
   from_if test x y true xs rest h f (inr m) = let r = f m in (inr r.0, r.1)
   from_if test x y false xs rest h f m = let r = f m in (inr r.0, r.1)
 
-  from_filter : (test : X → Bool) (y : X) (xs : List X) → Among y (filter test xs) → Among y xs × (test y ≡ true)
+  pub from_filter : (test : X → Bool) (y : X) (xs : List X) → Among y (filter test xs) → Among y xs × (test y ≡ true)
   from_filter test y [] m = absurd m
   from_filter test y (x ∷ xs) m = from_if test x y (test x) xs (filter test xs) refl (from_filter test y xs) m
 
@@ -63,7 +63,7 @@ module _ {X : Type 0} where
   once_if x true rest new h = (new, h)
   once_if x false rest new h = h
 
-  once_filter : (test : X → Bool) (xs : List X) → IsOnce xs → IsOnce (filter test xs)
+  pub once_filter : (test : X → Bool) (xs : List X) → IsOnce xs → IsOnce (filter test xs)
   once_filter test [] h = tt
   once_filter test (x ∷ xs) h = once_if x (test x) (filter test xs) (λ m. h.0 (from_filter test x xs m).0) (once_filter test xs h.1)
 
@@ -138,7 +138,7 @@ there_if : (k : AskKey) (ks : List AskKey) (b : Bool) → list_any (same_key k) 
 there_if k ks true e = any_among k ks e
 there_if k ks false e = among_right k ks (k ∷ []) (inl refl)
 
-is_added : (a : AskKey) (more ks : List AskKey) → Among a more → Among a (fold with_key ks more)
+pub is_added : (a : AskKey) (more ks : List AskKey) → Among a more → Among a (fold with_key ks more)
 is_added a [] ks m = absurd m
 is_added a (k ∷ more) ks (inl e) = stays a more (with_key ks k) (subst (λ (v : AskKey). Among v (with_key ks k)) e (there_if k ks (list_any (same_key k) ks) refl))
 is_added a (k ∷ more) ks (inr m) = is_added a more (with_key ks k) m
@@ -161,17 +161,17 @@ not_true : (b : Bool) → not b ≡ true → b ≡ false
 not_true true h = cc
 not_true false h = refl
 
-in_missing : (query : Query) (members : ℕ) (entries : List Entry) (p : Probe) → Among p (missing query members entries) → is_held entries p ≡ false
+pub in_missing : (query : Query) (members : ℕ) (entries : List Entry) (p : Probe) → Among p (missing query members entries) → is_held entries p ≡ false
 in_missing query members entries p m =
     let t = among_from_flat_map (missing_at entries (keys_of query)) p (range_with_len 0 members) m in
     not_true (is_held entries p) (from_filter (λ q. not (is_held entries q)) p (map (probe t.0) (keys_of query)) t.2).1
 
-member_is : (entries : List Entry) (keys : List AskKey) (at : ℕ) (p : Probe) → Among p (missing_at entries keys at) → at ≡ p.at
+pub member_is : (entries : List Entry) (keys : List AskKey) (at : ℕ) (p : Probe) → Among p (missing_at entries keys at) → at ≡ p.at
 member_is entries keys at p m =
     let t = among_from_map (probe at) p keys (from_filter (λ q. not (is_held entries q)) p (map (probe at) keys) m).0 in
     ap (λ q. q.at) t.2
 
-once_missing : (query : Query) (members : ℕ) (entries : List Entry) → IsOnce (missing query members entries)
+pub once_missing : (query : Query) (members : ℕ) (entries : List Entry) → IsOnce (missing query members entries)
 once_missing query members entries =
     let keys = keys_of query in
     once_flat (missing_at entries keys) (range_with_len 0 members) (range_once 0 members)
@@ -188,22 +188,26 @@ missing_new query members entries ps e =
     All-from_recursion (λ p. is_held entries p ≡ false) ps
     (all_from (λ p. is_held entries p ≡ false) ps (λ p m. in_missing query members entries p (subst (λ (v : List Probe). Among p v) e m)))
 
+pub below_missing : (query : Query) (members : ℕ) (entries : List Entry) (p : Probe) → Among p (missing query members entries) → p.at < members
+below_missing query members entries p m =
+    let t = among_from_flat_map (missing_at entries (keys_of query)) p (range_with_len 0 members) m in
+    let low = range_below 0 members t.0 t.1 in
+    let same = member_is entries (keys_of query) t.0 p t.2 in
+    omega arith
+
 -- and their members are those of the registry
 pub missing_within : (query : Query) (members : ℕ) (entries : List Entry) (ps : List Probe) → ps ≡ missing query members entries → All (λ p. p.at < members) ps
 missing_within query members entries ps e =
     All-from_recursion (λ p. p.at < members) ps
-    (all_from (λ p. p.at < members) ps
-    (λ p m.
-    let t = among_from_flat_map (missing_at entries (keys_of query)) p (range_with_len 0 members) (subst (λ (v : List Probe). Among p v) e m) in
-    let low = range_below 0 members t.0 t.1 in
-    let same = member_is entries (keys_of query) t.0 p t.2 in
-    omega arith))
+    (all_from (λ p. p.at < members) ps (λ p m. below_missing query members entries p (subst (λ (v : List Probe). Among p v) e m)))
+
+pub below_members : (entries : List Entry) (members : ℕ) (k : AskKey) (at : ℕ) → Among at (members_of entries members k) → at < members
+below_members entries members k at m =
+    let low = range_below 0 members at (from_filter (λ x. is_yes (known entries (probe x k))) at (range_with_len 0 members) m).0 in
+    omega arith
 
 members_within : (entries : List Entry) (members : ℕ) (k : AskKey) → All (λ at. at < members) (members_of entries members k)
-members_within entries members k =
-    All-from_recursion (λ at. at < members) (members_of entries members k)
-    (all_from (λ at. at < members) (members_of entries members k)
-    (λ at m. let low = range_below 0 members at (from_filter (λ x. is_yes (known entries (probe x k))) at (range_with_len 0 members) m).0 in omega arith))
+members_within entries members k = All-from_recursion (λ at. at < members) (members_of entries members k) (all_from (λ at. at < members) (members_of entries members k) (below_members entries members k))
 
 -- and rise by number
 rises_if : (x : ℕ) (b : Bool) (rest : List ℕ) → ((y : ℕ) → Among y rest → x < y) → Rises rest → Rises (cond b (x ∷ rest) rest)
@@ -235,7 +239,7 @@ held_if : (b x : Bool) (o r : Option Bool) → (is_some o ≡ true → is_some r
 held_if true x o r f h = refl
 held_if false x o r f h = f h
 
-held_before : (a b : List Entry) (p : Probe) → is_held a p ≡ true → is_held (a ++ b) p ≡ true
+pub held_before : (a b : List Entry) (p : Probe) → is_held a p ≡ true → is_held (a ++ b) p ≡ true
 held_before [] b p h = cc
 held_before (e ∷ a) b p h = held_if (same_probe p e.0) e.1 (known a p) (known (a ++ b) p) (held_before a b p) h
 
@@ -243,7 +247,7 @@ held_later : (b x : Bool) (o : Option Bool) → is_some o ≡ true → is_some (
 held_later true x o h = refl
 held_later false x o h = h
 
-held_behind : (a b : List Entry) (p : Probe) → is_held b p ≡ true → is_held (a ++ b) p ≡ true
+pub held_behind : (a b : List Entry) (p : Probe) → is_held b p ≡ true → is_held (a ++ b) p ≡ true
 held_behind [] b p h = h
 held_behind (e ∷ a) b p h = held_later (same_probe p e.0) e.1 (known (a ++ b) p) (held_behind a b p h)
 
@@ -262,7 +266,7 @@ among_zip p (q ∷ ps) [] e m = absurd (omega arith)
 among_zip p (q ∷ ps) (truth ∷ truths) e (inl same) = (truth, inl (ap (λ (v : Probe). (v, truth)) same))
 among_zip p (q ∷ ps) (truth ∷ truths) e (inr m) = let t = among_zip p ps truths (omega arith) m in (t.0, inr t.1)
 
-told_held : (p : Probe) (ps : List Probe) (truths : List Bool) → length truths ≡ length ps → Among p ps → is_held (told ps truths) p ≡ true
+pub told_held : (p : Probe) (ps : List Probe) (truths : List Bool) → length truths ≡ length ps → Among p ps → is_held (told ps truths) p ≡ true
 told_held p ps truths e m = let t = among_zip p ps truths e m in held_among p t.0 (told ps truths) (aux_left (p, t.0) (zip ps truths) [] t.1)
 
 module _ (query : Query) (members : ℕ) (entries : List Entry) (truths : List Bool) (long : length truths ≡ length (missing query members entries)) where
@@ -296,11 +300,11 @@ module _ (graphs : List (List Triple)) where
   yes_is p [] t h = cc
   yes_is p (e ∷ es) t h = yes_at (same_probe p e.0) p e (known es p) refl t.0 h (yes_is p es t.1)
 
-  source_is : (es : List Entry) (at : ℕ) (p : Pattern) → AllByRecursion (Tells graphs) es → is_held es (probe at (key_of p)) ≡ true → is_yes (known es (probe at (key_of p))) ≡ fits p (graph_of graphs at)
+  pub source_is : (es : List Entry) (at : ℕ) (p : Pattern) → AllByRecursion (Tells graphs) es → is_held es (probe at (key_of p)) ≡ true → is_yes (known es (probe at (key_of p))) ≡ fits p (graph_of graphs at)
   unfolding truth_of
   source_is es at p t h = yes_is (probe at (key_of p)) es t h ∙ key_fits p (graph_of graphs at)
 
-  told_tells : (entries : List Entry) (ps : List Probe) (truths : List Bool) → All (Tells graphs) entries → All (Tells graphs) (zip ps truths) → AllByRecursion (Tells graphs) (told ps truths ++ entries)
+  pub told_tells : (entries : List Entry) (ps : List Probe) (truths : List Bool) → All (Tells graphs) entries → All (Tells graphs) (zip ps truths) → AllByRecursion (Tells graphs) (told ps truths ++ entries)
   told_tells entries ps truths held answers =
       all_append (Tells graphs) (told ps truths) entries
       (all_reversed (Tells graphs) (zip ps truths) [] (recursion_from_All (Tells graphs) (zip ps truths) answers) tt)

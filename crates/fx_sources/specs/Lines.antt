@@ -1,12 +1,13 @@
 -- What a line of a registry says.
-use Rattle.std.specs.Prelude.{ℕ, Bool, false, List, [], ◌∷◌, length, Option, Some, None, Ok, Err, option_map, ◌&&◌, ◌==◌, not, filter, if◌then◌else◌}
+use Rattle.std.specs.Prelude.{ℕ, Bool, false, List, [], ◌∷◌, length, Option, Some, None, Ok, Err, option_map, option_and_then, ◌&&◌, ◌==◌, not, filter, if◌then◌else◌}
 use Rattle.std.specs.List.{slice_split}
 use Rattle.std.specs.Str.{is_utf8}
 use Rattle.url.specs.Parser.{Parsed, parse_url}
 use Rattle.url.specs.Parts.{Parts, nonempty_host}
 use Rattle.url.specs.Host.{host_text}
 pub use Rattle.fx_terms.specs.Blanks.{is_blank}
-use Rattle.fx_outside.specs.Endpoints.{EndpointParts, is_sendable}
+use Rattle.fx_outside.specs.Endpoints.{EndpointParts, flagged, is_sendable}
+use Rattle.fx_outside.specs.declared.endpoints.Flags.{Flags}
 use Rattle.fx_sources.specs.Addresses.{is_name, is_iri, is_plain, endpoint_at}
 use Rattle.fx_sources.specs.declared.lines.Line.{Line}
 use Rattle.fx_sources.specs.declared.lines.Line.TheVariants.{Passed, Entry, Malformed}
@@ -23,25 +24,45 @@ abbrev pub is_comment : List ℕ → Bool
 is_comment [] = false
 is_comment (b ∷ bs) = b == 35
 
--- an endpoint that a request can be written for
-abbrev pub entry_of : Option EndpointParts → Line
-entry_of None = Malformed
-entry_of (Some endpoint) = if is_sendable endpoint then Entry endpoint else Malformed
+-- ---- flags
+
+abbrev pub no_flags : Flags
+no_flags = record { optional = false; values = false }
+
+-- one more flag by its word, or nothing where the word is no flag's, or its flag stands; no word is a flag's yet
+abbrev pub with_flag : Flags → List ℕ → Option Flags
+with_flag flags word = None
+
+-- the flags with those that the words name, or nothing where a word adds none
+abbrev pub flags_of : Flags → List (List ℕ) → Option Flags
+flags_of flags [] = Some flags
+flags_of flags (word ∷ rest) = option_and_then (λ more. flags_of more rest) (with_flag flags word)
+
+-- ---- entries
+
+-- an endpoint that a request can be written for, with its flags
+abbrev pub entry_of : Option EndpointParts → Flags → Line
+entry_of None flags = Malformed
+entry_of (Some endpoint) flags = if is_sendable endpoint then Entry (flagged flags endpoint) else Malformed
 
 -- by what the address reads to
-abbrev pub entry_at : List ℕ → List ℕ → Parsed Parts → Line
-entry_at name address (Ok url) = if is_plain url then entry_of (endpoint_at name address url (option_map host_text (nonempty_host url))) else Malformed
-entry_at name address (Err e) = Malformed
+abbrev pub entry_at : List ℕ → List ℕ → Parsed Parts → Flags → Line
+entry_at name address (Ok url) flags = if is_plain url then entry_of (endpoint_at name address url (option_map host_text (nonempty_host url))) flags else Malformed
+entry_at name address (Err e) flags = Malformed
 
--- a name, and the address of an endpoint
-unfoldable pub entry : List ℕ → List ℕ → Line
-entry name address = if is_name name && is_iri address then entry_at name address (parse_url None address) else Malformed
+-- a name, the address of an endpoint, and its flags
+unfoldable pub entry : List ℕ → List ℕ → Flags → Line
+entry name address flags = if is_name name && is_iri address then entry_at name address (parse_url None address) flags else Malformed
 
--- a first word that begins no comment is a name, and one address alone stands behind it
+-- the entry with the flags that are named, where each word names one
+abbrev pub flagged_entry : List ℕ → List ℕ → Option Flags → Line
+flagged_entry name address None = Malformed
+flagged_entry name address (Some flags) = entry name address flags
+
+-- a first word that begins no comment is a name, an address stands behind it, and each word behind that names a flag
 abbrev pub named_line : List ℕ → List (List ℕ) → Line
 named_line name [] = Malformed
-named_line name (address ∷ []) = entry name address
-named_line name (address ∷ more ∷ rest) = Malformed
+named_line name (address ∷ rest) = flagged_entry name address (flags_of no_flags rest)
 
 abbrev pub line_of_words : List (List ℕ) → Line
 line_of_words [] = Passed

@@ -2,6 +2,7 @@
 use Rattle.std.specs.Prelude.{ℕ, Bool, false, not, if◌then◌else◌, List, [], ◌∷◌, ◌++◌, map, filter, fold, take, reverse, Option, Some, None, is_some}
 use Rattle.std.specs.List.{flat_map, list_any, range_with_len, zip}
 use Rattle.std.specs.Map.{lookup}
+use Rattle.fx_algebra.specs.Units.{is_kept}
 use Rattle.fx_algebra.specs.declared.queries.Query.{Query}
 use Rattle.fx_keys.specs.Probes.{key_of, probe, same_key, same_probe}
 use Rattle.fx_keys.specs.declared.keys.AskKey.{AskKey}
@@ -60,3 +61,13 @@ members_of entries members k = filter (λ at. is_yes (known entries (probe at k)
 -- these members for each pattern of a query
 abbrev pub chosen : Query → ℕ → List Entry → List (List ℕ)
 chosen query members entries = map (λ p. members_of entries members (key_of p)) (patterns query)
+
+-- ---- members that are left out
+
+-- the probes of members that are kept
+abbrev pub kept_probes : List Bool → List Probe → List Probe
+kept_probes kept probes = filter (λ p. is_kept kept p.at) probes
+
+-- those of some members that are kept
+abbrev pub kept_members : List Bool → List ℕ → List ℕ
+kept_members kept members = filter (is_kept kept) members

@@ -5,7 +5,7 @@ use Rattle.fx_terms.specs.declared.patterns.Pattern.{Pattern}
 use Rattle.fx_terms.specs.declared.triples.Triple.{Triple}
 use Rattle.fx_algebra.specs.Answers.{answer_alone}
 use Rattle.fx_algebra.specs.Printed.{printed_query}
-use Rattle.fx_algebra.specs.Units.{fits, graph_of, sources}
+use Rattle.fx_algebra.specs.Units.{fits, graph_of, sources, of_kept, AreAllKept}
 use Rattle.fx_algebra.specs.declared.answers.Answer.TheVariants.{Truth}
 use Rattle.fx_algebra.specs.declared.queries.Element.TheVariants as element
 use Rattle.fx_algebra.specs.declared.queries.Form.TheVariants as form
@@ -13,7 +13,7 @@ use Rattle.fx_algebra.specs.declared.queries.Group.{roll-Group}
 use Rattle.fx_algebra.specs.declared.queries.Query.{Query}
 use Rattle.fx_keys.specs.Keys.{key}
 use Rattle.fx_sources.specs.Patterns.{patterns}
-use Rattle.fx_sources.specs.Probes.{Entry, chosen, missing, told}
+use Rattle.fx_sources.specs.Probes.{Entry, chosen, missing, told, kept_probes, kept_members}
 
 -- ---- asking
 
@@ -46,3 +46,23 @@ ChoosesSources = (query : Query) (graphs : List (List Triple)) (entries : List E
     → All (Tells graphs) entries
     → All (Tells graphs) (zip (missing query (length graphs) entries) truths)
     → chosen query (length graphs) (told (missing query (length graphs) entries) truths ++ entries) ≡ map (sources graphs) (patterns query)
+
+-- where each entry tells that, and each answer to what is missing of the kept members, those of the chosen members that are kept are the
+-- sources over the graphs with an empty one in the place of each other member
+abbrev pub ChoosesKeptSources : Type 0
+ChoosesKeptSources = (query : Query) (kept : List Bool) (graphs : List (List Triple)) (entries : List Entry) (truths : List Bool)
+    → length truths ≡ length (kept_probes kept (missing query (length graphs) entries))
+    → All (Tells graphs) entries
+    → All (Tells graphs) (zip (kept_probes kept (missing query (length graphs) entries)) truths)
+    → map (kept_members kept) (chosen query (length graphs) (told (kept_probes kept (missing query (length graphs) entries)) truths ++ entries))
+    ≡ map (sources (of_kept kept graphs)) (patterns query)
+
+-- where each member is kept, so is each probe that is missing
+abbrev pub AllProbesAreKept : Type 0
+AllProbesAreKept = (query : Query) (kept : List Bool) (members : ℕ) (entries : List Entry) → AreAllKept kept members
+    → kept_probes kept (missing query members entries) ≡ missing query members entries
+
+-- and each member that is chosen
+abbrev pub AllChosenAreKept : Type 0
+AllChosenAreKept = (query : Query) (kept : List Bool) (members : ℕ) (entries : List Entry) → AreAllKept kept members
+    → map (kept_members kept) (chosen query members entries) ≡ chosen query members entries

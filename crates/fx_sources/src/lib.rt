@@ -20,7 +20,7 @@ mod words;
 
 pub use asks::ask_text;
 pub use caches::AskCache;
-pub use choices::{Sources, choose, missing};
+pub use choices::{Sources, choose, choose_of_kept, missing, missing_of_kept};
 pub use errors::RegistryError;
 pub use fx_keys::{AskKey, Probe};
 use fx_terms::shareable;

@@ -7,6 +7,7 @@ ghost use Rattle.fx_sources.specs.Lines as spec;
 use crate::addresses::{endpoint_at, is_name, is_plain};
 use crate::entries::Entry;
 use crate::words::first_word;
+use fx_outside::Flags;
 use fx_terms::{Iri, Memory, TermError};
 use std::alloc::Global;
 use std::str;
@@ -40,10 +41,33 @@ pub fn read_line(alloc: Global, line: &[u8]) -> Result<Line, Memory>
     let Some((address, behind)) = first_word(behind) else {
         return Ok(Line::Malformed);
     };
-    if first_word(behind).is_some() {
+    let Some(flags) = read_flags(behind) else {
         return Ok(Line::Malformed);
+    };
+    read_entry(alloc, name, address, flags)
+}
+
+// The flags that the words at the end of a line name, where each word names one.
+fn read_flags(words: &[u8]) -> Option<Flags>
+    ensures { result ≡ spec.flags_of spec.no_flags (spec.words words.now) }
+{
+    let mut flags = Flags {
+        optional: false,
+        values: false,
+    };
+    let mut left = words;
+    while let Some((word, behind)) = first_word(left) {
+        flags = with_flag(flags, word)?;
+        left = behind;
     }
-    read_entry(alloc, name, address)
+    Some(flags)
+}
+
+// One more flag by its word, unless the word is no flag's, or its flag stands. No word is a flag's yet.
+fn with_flag(_flags: Flags, _word: &[u8]) -> Option<Flags>
+    ensures { result ≡ spec.with_flag _flags _word.now }
+{
+    None
 }
 
 fn is_utf8(bytes: &[u8]) -> bool
@@ -61,10 +85,10 @@ fn is_comment(word: &[u8]) -> bool
     }
 }
 
-// The entry of a name and an address.
+// The entry of a name, an address and flags.
 #[tactic(auto, unfolding(crate::specs::Lines::entry))]
-fn read_entry(alloc: Global, name: &[u8], address: &[u8]) -> Result<Line, Memory>
-    ensures { IfOk result (λ says. says ≡ spec.entry name.now address.now) }
+fn read_entry(alloc: Global, name: &[u8], address: &[u8], flags: Flags) -> Result<Line, Memory>
+    ensures { IfOk result (λ says. says ≡ spec.entry name.now address.now flags) }
 {
     if !is_name(name) {
         return Ok(Line::Malformed);
@@ -76,15 +100,15 @@ fn read_entry(alloc: Global, name: &[u8], address: &[u8]) -> Result<Line, Memory
         return Ok(Line::Malformed);
     };
     match Iri::read(alloc, address) {
-        Ok(iri) => entry_at(alloc, name, iri),
+        Ok(iri) => entry_at(alloc, name, iri, flags),
         Err(TermError::Memory) => Err(Memory),
         Err(_) => Ok(Line::Malformed),
     }
 }
 
-// The entry of a name and an address that is an IRI.
-fn entry_at(alloc: Global, name: &str, iri: Iri) -> Result<Line, Memory>
-    ensures { IfOk result (λ says. says ≡ spec.entry_at name.now iri (parse_url None iri)) }
+// The entry of a name, an address that is an IRI, and flags.
+fn entry_at(alloc: Global, name: &str, iri: Iri, flags: Flags) -> Result<Line, Memory>
+    ensures { IfOk result (λ says. says ≡ spec.entry_at name.now iri (parse_url None iri) flags) }
 {
     let url = match Url::parse(alloc, iri.text()) {
         Ok(url) => url,
@@ -101,5 +125,6 @@ fn entry_at(alloc: Global, name: &str, iri: Iri) -> Result<Line, Memory>
         return Ok(Line::Malformed);
     }
     let url = String::from_str(alloc, url.as_str())?;
+    let endpoint = endpoint.with_flags(flags);
     Ok(Line::Entry(Entry { endpoint, url }))
 }

@@ -1,20 +1,19 @@
-use Rattle.std.proofs.Common.{◌≡◌, ◌∙◌, ◌++◌, length, map, ap}
-use Rattle.fx_keys.specs.Probes.{key_of}
+use Rattle.std.proofs.Common.{◌∙◌, ◌++◌, ap, length, sym}
 use Rattle.fx_sources.specs.Probes as spec
-use Rattle.fx_sources.specs.Patterns.{patterns}
-use Rattle.fx_sources.proofs.EntryLemmas.{known_before, same_choice}
-use Rattle.fx_sources.proofs.SourceLemmas.{choice_within}
+use Rattle.fx_sources.proofs.KeptLemmas.{all_chosen_kept, all_kept_by, all_probes_kept}
 use Rattle.fx_sources.proofs.choices.choose.Goals as goal
 
-pub returns : goal.returns
-returns c =
-    let count = length c.args.registry.now in
-    let here = c.in_ok-answers.answers.entries in
-    let told = spec.told c.args.probes.now c.args.truths.now in
-    let same = same_choice (here ++ c.args.cache.now) (told ++ c.args.cache.now) count (patterns c.args.query.now) (λ p. known_before here told c.args.cache.now p (c.in_ok-answers.ensures p)) in
-    let found : c.in_ok-members_for_all.field-0 ≡ spec.chosen c.args.query.now count (told ++ c.args.cache.now) =
-    c.in_ok-members_for_all.ensures
-    ∙ ap (λ n. map (λ p. spec.members_of (here ++ c.args.cache.now) n (key_of p)) c.as_slice.result.now) (ap length c.endpoints.ensures.value)
-    ∙ ap (map (λ p. spec.members_of (here ++ c.args.cache.now) count (key_of p))) (c.as_slice.ensures.value ∙ c.in_ok-patterns.ensures)
-    ∙ same in
-    record { chosen = found; within = choice_within c.args.query.now count (told ++ c.args.cache.now) _ found }
+pub choose_of_kept-requires-clause-asked : goal.choose_of_kept-requires-clause-asked
+choose_of_kept-requires-clause-asked c =
+    let members = length c.args.registry.now in
+    let kept = c.as_slice.result.now in
+    c.requires.asked
+    ∙ sym (all_probes_kept c.args.query.now kept members c.args.cache.now (all_kept_by kept c.in_ok-kept.kept.items _ members c.as_slice.ensures.value (ap length c.endpoints.ensures.value) c.in_ok-kept.ensures))
+
+pub returns-clause-chosen : goal.returns-clause-chosen
+returns-clause-chosen c =
+    let members = length c.args.registry.now in
+    let kept = c.as_slice.result.now in
+    c.in_ok-sources.ensures.chosen
+    ∙ all_chosen_kept c.args.query.now kept members (spec.told c.args.probes.now c.args.truths.now ++ c.args.cache.now)
+    (all_kept_by kept c.in_ok-kept.kept.items _ members c.as_slice.ensures.value (ap length c.endpoints.ensures.value) c.in_ok-kept.ensures)

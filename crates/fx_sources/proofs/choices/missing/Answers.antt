@@ -1,6 +1,7 @@
 use Rattle.std.proofs.Common.{◌≡◌, ◌∙◌, ap, length}
+use Rattle.fx_algebra.specs.Units.{AreAllKept}
 use Rattle.fx_sources.specs.Probes as spec
-use Rattle.fx_sources.proofs.SourceLemmas.{missing_distinct, missing_new, missing_within}
+use Rattle.fx_sources.proofs.KeptLemmas.{all_kept_by, all_probes_kept}
 use Rattle.fx_sources.proofs.choices.missing.Goals as goal
 
 pub returns : goal.returns
@@ -8,5 +9,7 @@ returns c =
     let query = c.args.query.now in
     let members = length c.args.registry.now in
     let held = c.args.cache.now in
-    let found : c.in_ok-probes.probes.items ≡ spec.missing query members held = c.in_ok-probes.ensures ∙ ap (λ n. spec.missing query n held) (ap length c.endpoints.ensures.value) in
-    record { probes = found; distinct = missing_distinct query members held _ found; news = missing_new query members held _ found; within = missing_within query members held _ found }
+    let kept = c.as_slice.result.now in
+    let all : AreAllKept kept members = all_kept_by kept c.in_ok-kept.kept.items _ members c.as_slice.ensures.value (ap length c.endpoints.ensures.value) c.in_ok-kept.ensures in
+    let found : c.in_ok-probes.probes.items ≡ spec.missing query members held = c.in_ok-probes.ensures.probes ∙ all_probes_kept query kept members held all in
+    record { probes = found; distinct = c.in_ok-probes.ensures.distinct; news = c.in_ok-probes.ensures.news; within = c.in_ok-probes.ensures.within }

@@ -7,5 +7,6 @@ use Rattle.fx_sources.proofs.choices.missing_probes.Given as goal
 abbrev pub invariant-loop-at : goal.invariant-loop-at
 invariant-loop-at l = record {
   keys : l.keys.items ≡ spec.keys_of l.query;
-  probes : l.probes.items ++ flat_map (spec.missing_at l.cache (spec.keys_of l.query)) (range_with_len l.at (l.members - l.at)) ≡ spec.missing l.query l.members l.cache;
+  probes : l.probes.items ++ spec.kept_probes l.kept (flat_map (spec.missing_at l.cache (spec.keys_of l.query)) (range_with_len l.at (l.members - l.at)))
+      ≡ spec.kept_probes l.kept (spec.missing l.query l.members l.cache);
 }
