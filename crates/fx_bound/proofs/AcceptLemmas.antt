@@ -45,7 +45,7 @@ use Rattle.fx_spelling.proofs.Columns.{fine_columns}
 use Rattle.fx_spelling.proofs.Saying.{fine_both}
 use Rattle.fx_spelling.proofs.Terms.{fine_triple, verb_good}
 use Rattle.fx_bound.specs.Batches.{batch_query, branch_elements, branch_group, check_elements}
-use Rattle.fx_bound.specs.Branches.{bound_expr, bound_part, bound_pattern, bound_word, is_hopeless, is_literal, part_by, word_by}
+use Rattle.fx_renaming.specs.Branches.{bound_expr, bound_part, bound_pattern, bound_word, is_hopeless, is_literal, part_by, word_by}
 use Rattle.fx_bound.specs.Reading.{all_columns, check_name, columns_by, columns_of, free_names, place_of, renamed, unit_names}
 use Rattle.fx_spelling.specs.Units.{IsFit, IsPushed}
 use Rattle.fx_spelling.proofs.Columns.{names_both}
@@ -53,14 +53,14 @@ use Rattle.fx_spelling.proofs.Queries.{printed_is_accepted}
 use Rattle.fx_grammar.specs.Accepted.{Accepted}
 use Rattle.fx_algebra.specs.Printed.{column_words, form_words, order_words, printed_query, query_words}
 use Rattle.fx_bound.specs.Texts.{BatchHasTheWords, BatchIsAccepted, HasTerms, branch_words, check_words}
-use Rattle.fx_bound.specs.Uniting.{Place, branches, is_worth_asking, places_from}
+use Rattle.fx_founds.specs.Uniting.{Place, branches, is_worth_asking, places_from}
 use Rattle.fx_bound.proofs.NamingLemmas.{among_from_test, among_once, place_apart, place_low, sent_apart, test_from}
 use Rattle.fx_bound.proofs.ReadingLemmas.{is_column, left, low, no_free, one_number, pattern_left, places_once}
 use Rattle.fx_bound.proofs.TextNames.{columns_are_names}
-use Rattle.fx_bound.proofs.UnionLemmas.{in_kept, once_kept, once_mapped}
-use Rattle.fx_bound.proofs.UniteLemmas.{its_row, one_place}
-use Rattle.fx_bound.proofs.WordLemmas.{bound_has_the_words}
-use Rattle.fx_bound.proofs.MeasureLemmas.{bound_keeps_the_measure}
+use Rattle.fx_founds.proofs.UnionLemmas.{in_kept, once_kept, once_mapped}
+use Rattle.fx_founds.proofs.UniteLemmas.{its_row, one_place}
+use Rattle.fx_renaming.proofs.WordLemmas.{bound_has_the_words}
+use Rattle.fx_renaming.proofs.MeasureLemmas.{bound_keeps_the_measure}
 
 -- ---- the terms of a row
 

@@ -20,7 +20,7 @@ use Rattle.fx_bound.specs.Answers.{AnswersBatch, AreReadOf, IsAnswered, Tells, b
 use Rattle.fx_bound.specs.Batches.{AreAnswered}
 use Rattle.fx_bound.specs.Parts.{IsBatch, IsKnown, Parts, places}
 use Rattle.fx_bound.specs.Reading.{AreRead, all_columns, binds_all, binds_one, columns_of, read_bound, read_row}
-use Rattle.fx_bound.specs.Uniting.{AreAll, AreToldBy, Place, tells, united}
+use Rattle.fx_founds.specs.Uniting.{AreAll, AreToldBy, Place, tells, united}
 use Rattle.fx_bound.specs.declared.faults.BatchError.{BatchError}
 use Rattle.fx_bound.specs.declared.faults.BatchError.TheVariants as error
 use Rattle.fx_bound.specs.declared.faults.RowFault.{RowFault}
@@ -28,8 +28,8 @@ use Rattle.fx_bound.specs.declared.faults.RowFault.TheVariants.{Foreign, Partial
 use Rattle.fx_founds.specs.declared.founds.Found.{Found}
 use Rattle.fx_bound.proofs.BatchLemmas.{answer_read_as}
 use Rattle.fx_bound.proofs.SentLemmas.{found_of}
-use Rattle.fx_bound.proofs.UnionLemmas.{in_kept}
-use Rattle.fx_bound.proofs.UniteLemmas.{united_is_the_step}
+use Rattle.fx_founds.proofs.UnionLemmas.{in_kept}
+use Rattle.fx_founds.proofs.UniteLemmas.{united_is_the_step}
 
 -- ---- rows, one after another
 

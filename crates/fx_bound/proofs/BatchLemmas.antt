@@ -41,14 +41,14 @@ use Rattle.fx_spelling.specs.Units.{IsFit, IsPushed}
 use Rattle.fx_algebra.specs.declared.answers.Answer.TheVariants.{Table}
 use Rattle.fx_algebra.specs.Units.{graph_of}
 use Rattle.fx_bound.specs.Batches.{AreAnswered, AreAnswersOf, AreReadAs, BatchHasTheRows, BatchIsTheStep, HasTheRows, batch_query, branch_elements, branch_group, check_elements}
-use Rattle.fx_bound.specs.Branches.{bound_expr, bound_pattern}
+use Rattle.fx_renaming.specs.Branches.{bound_expr, bound_pattern}
 use Rattle.fx_bound.specs.Reading.{AreRead, all_columns, branch_rows, branch_solutions, check_name, checked_by, columns_of, free_names, renamed, unit_names}
-use Rattle.fx_bound.specs.Uniting.{AreAll, AreToldBy, Place, branches}
+use Rattle.fx_founds.specs.Uniting.{AreAll, AreToldBy, Place, branches}
 use Rattle.fx_founds.specs.declared.founds.Found.{Found}
-use Rattle.fx_bound.proofs.BranchLemmas.{AreTold, holds_kept, value_rises}
+use Rattle.fx_renaming.proofs.BranchLemmas.{AreTold, holds_kept, value_rises}
 use Rattle.fx_bound.proofs.NamingLemmas.{among_from_test, among_once, test_from}
 use Rattle.fx_bound.proofs.ReadingLemmas.{BindsJust, answer_tells_branches, found_some, no_free, row_binds, solution_rises}
-use Rattle.fx_bound.proofs.UniteLemmas.{all_covered, united_is_the_step}
+use Rattle.fx_founds.proofs.UniteLemmas.{all_covered, united_is_the_step}
 
 to_T : (b : Bool) → b ≡ true → T b
 to_T true h = tt

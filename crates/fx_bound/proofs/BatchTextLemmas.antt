@@ -14,7 +14,7 @@ use Rattle.fx_bound.specs.Parts.{AreKnown, IsBatch, IsKnown, Parts, branch_of, p
 use Rattle.fx_bound.specs.Reading.{unit_names}
 use Rattle.fx_bound.specs.Sent.{all_words}
 use Rattle.fx_bound.specs.Texts.{HasTerms}
-use Rattle.fx_bound.specs.Uniting.{Place, branches}
+use Rattle.fx_founds.specs.Uniting.{Place, branches}
 use Rattle.fx_bound.specs.declared.branches.Branch.{Branch}
 use Rattle.fx_bound.proofs.AcceptLemmas.{batch_is_accepted}
 use Rattle.fx_bound.proofs.TextLemmas.{text_is}

@@ -8,7 +8,7 @@ use Rattle.fx_algebra.specs.declared.units.Row.{Row}
 use Rattle.fx_algebra.specs.declared.units.Unit as unit
 use Rattle.fx_bound.specs.Examples.{RowsAreRead, TextsAreWritten, linked, of_patterns, with_terms, iri, text}
 use Rattle.fx_bound.specs.Texts.{batch_words}
-use Rattle.fx_bound.specs.Uniting.{branches}
+use Rattle.fx_founds.specs.Uniting.{branches}
 use Rattle.fx_bound.proofs.AcceptLemmas.{batch_has_the_words}
 
 by_words : (u : unit.Unit) (rows : List Row) (written : List ℕ) → joined (batch_words u (branches u rows)) ≡ written → text u rows ≡ written

@@ -1,17 +1,11 @@
-pub mod BranchLemmas
-pub mod UnionLemmas
-pub mod UniteLemmas
 pub mod NamingLemmas
 pub mod ReadingLemmas
 pub mod BatchLemmas
-pub mod MeasureLemmas
-pub mod WordLemmas
 pub mod TextNames
 pub mod AcceptLemmas
 pub mod ExampleLemmas
 pub mod SentLemmas
 pub mod TextLemmas
 pub mod AnswerLemmas
-pub mod FoundLemmas
 pub mod PlaceLemmas
 pub mod BatchTextLemmas

@@ -30,17 +30,18 @@ use Rattle.fx_algebra.proofs.BgpLemmas.{solution_of}
 use Rattle.fx_algebra.proofs.ForcedLemmas.{name_from, with_pair_has}
 use Rattle.fx_algebra.proofs.MemberLemmas.{IsOnce, among_flat_map, among_from_map, among_map}
 use Rattle.fx_spelling.specs.Units.{IsFit, IsPushed}
-use Rattle.fx_bound.specs.Branches.{TellsApart, bound_expr, bound_part, bound_pattern, part_by, told}
+use Rattle.fx_renaming.specs.Branches.{TellsApart, bound_expr, bound_part, bound_pattern, part_by, told}
 use Rattle.fx_bound.specs.Reading.{AnswerTellsBranches, AreRead, all_columns, binds_all, binds_one, branch_rows, branch_solutions, check_name, checked_by, columns_by, columns_of, free_names, place_of, read_bound, read_row, renamed, unit_names}
-use Rattle.fx_bound.specs.Unions.{beside}
-use Rattle.fx_bound.specs.Uniting.{Place, branches, is_worth_asking, places_from, tells}
+use Rattle.fx_founds.specs.Unions.{beside}
+use Rattle.fx_founds.specs.Uniting.{Place, branches, is_worth_asking, places_from, tells}
 use Rattle.fx_bound.specs.declared.faults.RowFault.{RowFault}
 use Rattle.fx_bound.specs.declared.faults.RowFault.TheVariants.{Foreign, Partial}
 use Rattle.fx_founds.specs.declared.founds.Found.{Found}
-use Rattle.fx_bound.proofs.BranchLemmas.{branch_tells_its_row, told_rises, told_term}
+use Rattle.fx_renaming.proofs.BranchLemmas.{branch_tells_its_row, told_rises, told_term}
 use Rattle.fx_bound.proofs.NamingLemmas.{among_from_test, among_once, check_apart, place_apart, place_low, sent_apart, sent_is_no_check, test_from}
-use Rattle.fx_bound.proofs.UnionLemmas.{in_kept, kept_in, once_kept}
-use Rattle.fx_bound.proofs.UniteLemmas.{all_covered, its_row, number_above, one_place, permuted}
+use Rattle.fx_founds.proofs.RowLemmas.{flat_each, map_both, map_flat}
+use Rattle.fx_founds.proofs.UnionLemmas.{in_kept, kept_in, once_kept}
+use Rattle.fx_founds.proofs.UniteLemmas.{all_covered, its_row, number_above, one_place, permuted}
 
 to_T : (b : Bool) → b ≡ true → T b
 to_T true h = tt
@@ -51,18 +52,6 @@ to_T false h = cc
 pub map_each : {X Y : Type 0} (f g : X → Y) (xs : List X) → ((x : X) → Among x xs → f x ≡ g x) → map f xs ≡ map g xs
 map_each f g [] h = refl
 map_each f g (x ∷ xs) h = let here : f x ≡ g x = h x (inl refl) in let rest : map f xs ≡ map g xs = map_each f g xs (λ y m. h y (inr m)) in λ i. here i ∷ rest i
-
-pub map_both : {X Y Z : Type 0} (f : X → Y) (g : Y → Z) (xs : List X) → map g (map f xs) ≡ map (λ x. g (f x)) xs
-map_both f g [] = refl
-map_both f g (x ∷ xs) = ap (λ v. g (f x) ∷ v) (map_both f g xs)
-
-pub map_flat : {X Y Z : Type 0} (f : X → List Y) (g : Y → Z) (xs : List X) → map g (flat_map f xs) ≡ flat_map (λ x. map g (f x)) xs
-map_flat f g [] = refl
-map_flat f g (x ∷ xs) = map-append g (f x) (flat_map f xs) ∙ ap (λ v. map g (f x) ++ v) (map_flat f g xs)
-
-pub flat_each : {X Y : Type 0} (f g : X → List Y) (xs : List X) → ((x : X) → Among x xs → f x ≡ g x) → flat_map f xs ≡ flat_map g xs
-flat_each f g [] h = refl
-flat_each f g (x ∷ xs) h = let here : f x ≡ g x = h x (inl refl) in let rest : flat_map f xs ≡ flat_map g xs = flat_each f g xs (λ y m. h y (inr m)) in λ i. here i ++ rest i
 
 pub all_pass : {X : Type 0} (p : X → Bool) (xs : List X) → ((x : X) → Among x xs → p x ≡ true) → list_all p xs ≡ true
 all_pass p [] h = refl

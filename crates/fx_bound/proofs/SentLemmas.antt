@@ -18,21 +18,21 @@ use Rattle.fx_algebra.specs.declared.units.Row.{Row}
 use Rattle.fx_algebra.specs.declared.units.Unit as unit
 use Rattle.fx_algebra.proofs.ForcedLemmas.{name_from}
 use Rattle.fx_algebra.proofs.MemberLemmas.{among_from_map, among_map}
-use Rattle.fx_bound.specs.Branches.{told}
+use Rattle.fx_renaming.specs.Branches.{told}
 use Rattle.fx_bound.specs.Parts.{IsBatch, IsKnown, Parts, branch_of, branches_of, checked_when, places}
 use Rattle.fx_bound.specs.Reading as reading
 use Rattle.fx_bound.specs.Reading.{binds_all, binds_one, columns_of, free_among, free_names, named, read_bound, read_row, renamed, unit_names}
 use Rattle.fx_bound.specs.Sent.{IsOf, binds_just, bound_ones, branch_bound, branch_in, columns, columns_by, columns_of_all, found_by, has_columns, others, with_told}
-use Rattle.fx_bound.specs.Uniting.{Place, is_worth_asking, places_from}
+use Rattle.fx_founds.specs.Uniting.{Place, is_worth_asking, places_from}
 use Rattle.fx_bound.specs.declared.branches.Branch.{Branch}
 use Rattle.fx_bound.specs.declared.faults.RowFault.{RowFault}
 use Rattle.fx_bound.specs.declared.faults.RowFault.TheVariants.{Foreign, Partial}
 use Rattle.fx_founds.specs.declared.founds.Found.{Found}
-use Rattle.fx_bound.proofs.BranchLemmas.{told_rises, told_term, value_rises}
+use Rattle.fx_renaming.proofs.BranchLemmas.{told_rises, told_term, value_rises}
 use Rattle.fx_bound.proofs.NamingLemmas.{among_from_test, test_from}
 use Rattle.fx_bound.proofs.ReadingLemmas.{BindsJust, all_pass, found_some, row_read}
-use Rattle.fx_bound.proofs.UnionLemmas.{in_kept, kept_in}
-use Rattle.fx_bound.proofs.UniteLemmas.{its_row}
+use Rattle.fx_founds.proofs.UnionLemmas.{in_kept, kept_in}
+use Rattle.fx_founds.proofs.UniteLemmas.{its_row}
 
 to_T : (b : Bool) → b ≡ true → T b
 to_T true h = tt

@@ -8,17 +8,17 @@ use Rattle.fx_algebra.specs.Solutions.{Bindings}
 use Rattle.fx_algebra.specs.declared.expressions.Expr.{Expr}
 use Rattle.fx_algebra.specs.declared.units.Unit as unit
 use Rattle.fx_bound.specs.Batches.{batch_query}
-use Rattle.fx_bound.specs.Branches.{bound_pattern, bound_word}
+use Rattle.fx_renaming.specs.Branches.{bound_pattern, bound_word}
 use Rattle.fx_bound.specs.Parts.{branch_of, checked_when, printed_by, printed_words}
 use Rattle.fx_bound.specs.Reading.{all_columns, columns_by, columns_of, free_names, renamed, unit_names}
 use Rattle.fx_bound.specs.Sent as sent
 use Rattle.fx_bound.specs.Sent.{all_words, branch_words, filter_words}
 use Rattle.fx_bound.specs.Texts as texts
 use Rattle.fx_bound.specs.Texts.{batch_words}
-use Rattle.fx_bound.specs.Uniting.{Place}
+use Rattle.fx_founds.specs.Uniting.{Place}
 use Rattle.fx_bound.proofs.AcceptLemmas.{batch_has_the_words}
 use Rattle.fx_bound.proofs.SentLemmas.{columns_are}
-use Rattle.fx_bound.proofs.WordLemmas.{bound_has_the_words}
+use Rattle.fx_renaming.proofs.WordLemmas.{bound_has_the_words}
 
 filters_are : (rename : List ℕ → List ℕ) (row : Bindings) (es : List Expr)
     → filter_words rename row es ≡ flat_map (λ e. fixed (codes "FILTER") ∷ map (bound_word rename row) (condition (printed e))) es

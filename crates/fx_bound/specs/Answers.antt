@@ -1,17 +1,16 @@
 -- What is read of the answer of a batch, and what is united of that.
-use Rattle.std.specs.Prelude.{◌≡◌, ℕ, List, [], ◌∷◌, ◌++◌, map, slice_get, Option, Some, None, Result, Ok, Err, IsPermutation}
+use Rattle.std.specs.Prelude.{◌≡◌, ℕ, List, [], ◌∷◌, ◌++◌, Result, Ok, Err, IsPermutation}
 use Rattle.std.specs.List.{flat_map}
 use Rattle.std.proofs.Common.{suc}
 use Rattle.fx_terms.specs.declared.triples.Triple.{Triple}
 use Rattle.fx_algebra.specs.Solutions.{Bindings}
-use Rattle.fx_algebra.specs.Units.{graph_of, row_of}
+use Rattle.fx_algebra.specs.Units.{graph_of}
 use Rattle.fx_algebra.specs.declared.answers.Answer.{Answer}
 use Rattle.fx_algebra.specs.declared.answers.Answer.TheVariants.{Table, Truth}
-use Rattle.fx_algebra.specs.declared.units.Row.{Row}
 use Rattle.fx_bound.specs.Batches.{AreAnswered}
 use Rattle.fx_bound.specs.Parts.{Parts, places}
 use Rattle.fx_bound.specs.Reading.{read_row}
-use Rattle.fx_bound.specs.Uniting.{tells}
+use Rattle.fx_founds.specs.Uniting.{numbers_of, tells}
 use Rattle.fx_bound.specs.declared.faults.BatchError.{BatchError}
 use Rattle.fx_bound.specs.declared.faults.BatchError.TheVariants as error
 use Rattle.fx_bound.specs.declared.faults.RowFault.{RowFault}
@@ -82,18 +81,6 @@ AreReadOf graphs p [] (list ∷ lists) = ⊥
 AreReadOf graphs p (at ∷ members) [] = ⊥
 AreReadOf graphs p (at ∷ members) (list ∷ lists) = IsRead (graph_of graphs at) p list × AreReadOf graphs p members lists
 
--- the number that the row at a place came with
-abbrev pub origin_by : Option Row → ℕ
-origin_by None = 0
-origin_by (Some row) = row.origin
-
-abbrev pub origin_at : List Row → ℕ → ℕ
-origin_at rows place = origin_by (slice_get rows place)
-
--- what was found, as a row between two units
-abbrev pub row_by : List Row → Found → Row
-row_by rows f = row_of (origin_at rows f.branch) f.solution
-
 -- the numbers of its branches
 abbrev pub numbers : Parts → List ℕ
-numbers p = map (λ b. b.number) (places p)
+numbers p = numbers_of p.unit p.rows

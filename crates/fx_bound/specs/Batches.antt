@@ -17,9 +17,9 @@ use Rattle.fx_algebra.specs.declared.queries.Query.{Query}
 use Rattle.fx_algebra.specs.declared.units.Row.{Row}
 use Rattle.fx_algebra.specs.declared.units.Unit as unit
 use Rattle.fx_spelling.specs.Units.{IsFit, IsSound}
-use Rattle.fx_bound.specs.Branches.{bound_expr, bound_pattern}
+use Rattle.fx_renaming.specs.Branches.{bound_expr, bound_pattern}
 use Rattle.fx_bound.specs.Reading.{all_columns, branch_rows, check_name, free_names, read_row, renamed, unit_names}
-use Rattle.fx_bound.specs.Uniting.{Place, branches, united}
+use Rattle.fx_founds.specs.Uniting.{Place, branches, united}
 use Rattle.fx_founds.specs.declared.founds.Found.{Found}
 
 -- where no variable is left, the branch says that it has a solution

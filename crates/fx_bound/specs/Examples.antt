@@ -11,7 +11,7 @@ use Rattle.fx_algebra.specs.declared.units.Row.{Row}
 use Rattle.fx_algebra.specs.declared.units.Unit as unit
 use Rattle.fx_bound.specs.Batches.{batch_query}
 use Rattle.fx_bound.specs.Reading.{read_row}
-use Rattle.fx_bound.specs.Uniting.{branches}
+use Rattle.fx_founds.specs.Uniting.{branches}
 use Rattle.fx_bound.specs.declared.faults.RowFault.{RowFault}
 use Rattle.fx_bound.specs.declared.faults.RowFault.TheVariants.{Foreign, Mixed, Partial}
 use Rattle.fx_founds.specs.declared.founds.Found.{Found}

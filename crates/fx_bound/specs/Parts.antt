@@ -9,7 +9,7 @@ use Rattle.fx_spelling.specs.Units.{IsFit}
 use Rattle.fx_bound.specs.Batches.{batch_query}
 use Rattle.fx_bound.specs.Reading.{check_name, free_among, named, unit_names}
 use Rattle.fx_bound.specs.Texts.{HasTerms}
-use Rattle.fx_bound.specs.Uniting.{Place, branches}
+use Rattle.fx_founds.specs.Uniting.{Place, branches}
 use Rattle.fx_bound.specs.declared.branches.Branch.{Branch}
 
 -- what a batch is made of

@@ -15,8 +15,8 @@ use Rattle.fx_algebra.specs.Values.{integer}
 use Rattle.fx_algebra.specs.declared.units.Row.{Row}
 use Rattle.fx_algebra.specs.declared.units.Unit as unit
 use Rattle.fx_spelling.specs.Units.{IsFit}
-use Rattle.fx_bound.specs.Branches.{bound_expr, bound_pattern, told}
-use Rattle.fx_bound.specs.Uniting.{Place, branches, tells}
+use Rattle.fx_renaming.specs.Branches.{bound_expr, bound_pattern, told}
+use Rattle.fx_founds.specs.Uniting.{Place, branches, tells}
 use Rattle.fx_bound.specs.declared.faults.RowFault.{RowFault}
 use Rattle.fx_bound.specs.declared.faults.RowFault.TheVariants.{Foreign, Mixed, Partial}
 use Rattle.fx_founds.specs.declared.founds.Found.{Found}

@@ -9,7 +9,7 @@ use Rattle.fx_algebra.specs.Solutions.{Bindings, term_of}
 use Rattle.fx_algebra.specs.Values.{integer}
 use Rattle.fx_algebra.specs.declared.expressions.Expr.{Expr}
 use Rattle.fx_algebra.specs.declared.units.Unit as unit
-use Rattle.fx_bound.specs.Branches.{bound_expr, bound_pattern}
+use Rattle.fx_renaming.specs.Branches.{bound_expr, bound_pattern}
 use Rattle.fx_bound.specs.Reading.{binds_all, binds_one, named}
 use Rattle.fx_bound.specs.declared.branches.Branch.{Branch}
 use Rattle.fx_bound.specs.declared.faults.RowFault.{RowFault}

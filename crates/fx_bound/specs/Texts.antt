@@ -11,9 +11,9 @@ use Rattle.fx_algebra.specs.declared.units.Unit as unit
 use Rattle.fx_grammar.specs.Accepted.{Accepted}
 use Rattle.fx_spelling.specs.Units.{IsFit}
 use Rattle.fx_bound.specs.Batches.{batch_query}
-use Rattle.fx_bound.specs.Branches.{bound_pattern, bound_word}
+use Rattle.fx_renaming.specs.Branches.{bound_pattern, bound_word}
 use Rattle.fx_bound.specs.Reading.{all_columns, check_name, free_names, renamed, unit_names}
-use Rattle.fx_bound.specs.Uniting.{Place, branches}
+use Rattle.fx_founds.specs.Uniting.{Place, branches}
 
 -- the terms of a row are terms
 abbrev pub HasTerms : Bindings → Type 0

@@ -1,9 +1,9 @@
 //! The branches of a batch.
 ghost use Rattle.std.specs.Prelude.{◌≡◌, ◌≤◌, false, IfOk, length, map};
-ghost use Rattle.fx_bound.specs.Branches.{bound_pattern, is_hopeless as is_hopeless_list, is_literal as is_literal_part, bound_part};
+ghost use Rattle.fx_renaming.specs.Branches.{bound_pattern, is_hopeless as is_hopeless_list, is_literal as is_literal_part, bound_part};
 ghost use Rattle.fx_bound.specs.Parts as parts;
 ghost use Rattle.fx_bound.specs.Reading as reading;
-ghost use Rattle.fx_bound.specs.Uniting.{branches};
+ghost use Rattle.fx_founds.specs.Uniting.{branches};
 
 use crate::names::{Names, check_name, sent_name};
 use fx_algebra::{Row, Solution, Unit};

@@ -1,7 +1,7 @@
 //! Filters with a row's terms in them.
 ghost use Rattle.std.specs.Prelude.{◌≡◌, IfOk, map};
 ghost use Rattle.fx_algebra.specs.declared.expressions.Expr.TheVariants as expr;
-ghost use Rattle.fx_bound.specs.Branches.{bound_expr};
+ghost use Rattle.fx_renaming.specs.Branches.{bound_expr};
 ghost use Rattle.fx_bound.specs.Reading.{named};
 
 use crate::names::{Names, sent_name};

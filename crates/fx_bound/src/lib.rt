@@ -5,12 +5,9 @@
 #![tactic(auto)]
 
 ghost use Rattle.fx_bound.specs.Batches.{BatchHasTheRows, BatchIsTheStep};
-ghost use Rattle.fx_bound.specs.Branches.{BoundHasTheWords, BoundKeepsTheMeasure, BranchTellsItsRow, HopelessBranchHasNone};
 ghost use Rattle.fx_bound.specs.Examples.{RowsAreRead, TextsAreWritten};
 ghost use Rattle.fx_bound.specs.Reading.{AnswerTellsBranches, ColumnsAreNames};
 ghost use Rattle.fx_bound.specs.Texts.{BatchHasTheWords, BatchIsAccepted};
-ghost use Rattle.fx_bound.specs.Unions.{MembersHaveTheUnion};
-ghost use Rattle.fx_bound.specs.Uniting.{UnitedIsTheStep};
 
 pub mod batches;
 pub mod branches;
@@ -38,27 +35,6 @@ pub fn all_shareable() {
     shareable::<Found>();
     shareable::<BatchError>();
 }
-
-/// The solutions of a branch over a graph tell what its row merges to with each solution of the unit's patterns that it agrees with
-/// and on which the unit's filters hold, in their order.
-pub fn branch_tells_its_row()
-    ensures { BranchTellsItsRow }
-{}
-
-/// Where a row puts a literal in the place of a subject or of a predicate, it merges to nothing, so its branch may be left out.
-pub fn hopeless_branch_has_none()
-    ensures { HopelessBranchHasNone }
-{}
-
-/// A row's terms in an expression without BOUND open no bracket in its text, and the grammar has it as before.
-pub fn bound_keeps_the_measure()
-    ensures { BoundKeepsTheMeasure }
-{}
-
-/// A condition with a row's terms in it is printed in the words that it had, with a term or another name in the place of each variable.
-pub fn bound_has_the_words()
-    ensures { BoundHasTheWords }
-{}
 
 /// Each column of a batch is the name of a variable.
 pub fn columns_are_names()
@@ -94,17 +70,6 @@ pub fn batch_has_the_rows()
 /// what the graph has for each branch.
 pub fn answer_tells_branches()
     ensures { AnswerTellsBranches }
-{}
-
-/// Where a unit is sound over graphs, what its members have beside a row, each solution once, is what the union of the graphs has.
-pub fn members_have_the_union()
-    ensures { MembersHaveTheUnion }
-{}
-
-/// Where a unit is sound over graphs, what its members have for the branches of rows unites to what the unit makes of the rows over the
-/// union of the graphs.
-pub fn united_is_the_step()
-    ensures { UnitedIsTheStep }
 {}
 
 /// Where a unit is sound over graphs, the answers of its members to the batch of at most 64 rows, each in any order, are read without a

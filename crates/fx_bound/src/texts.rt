@@ -3,7 +3,7 @@ ghost use Rattle.std.specs.Prelude.{◌≡◌, ◌++◌, ◌∷◌, [], codes, I
 ghost use Rattle.std.specs.List.{flat_map};
 ghost use Rattle.fx_algebra.specs.Printed.{condition, fixed, in_brackets, joined, part_word, pattern_words, printed, separated, spaced, spelling, term, variable};
 ghost use Rattle.fx_algebra.specs.Values.{integer};
-ghost use Rattle.fx_bound.specs.Branches.{bound_part, bound_pattern};
+ghost use Rattle.fx_renaming.specs.Branches.{bound_part, bound_pattern};
 ghost use Rattle.fx_bound.specs.Reading.{named, sent_name};
 ghost use Rattle.fx_bound.specs.Sent as spec;
 

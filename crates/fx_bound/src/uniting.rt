@@ -6,11 +6,11 @@ ghost use Rattle.fx_algebra.specs.Units.{step};
 ghost use Rattle.fx_spelling.specs.Units.{IsSound};
 ghost use Rattle.fx_bound.specs.Answers as spec;
 ghost use Rattle.fx_bound.specs.Parts.{places};
-ghost use Rattle.fx_bound.specs.Uniting.{united};
+ghost use Rattle.fx_founds.specs.Uniting.{united};
 
 use crate::batches::Batch;
 use fx_algebra::Row;
-use fx_founds::{Found, each_once};
+use fx_founds::{Found, unite_rows};
 use fx_terms::{Items, Memory};
 use std::alloc::Global;
 
@@ -26,37 +26,5 @@ pub fn unite(alloc: Global, batch: &Batch, lists: &[Items<Found>]) -> Result<Vec
         → IfOk result (λ rows. IsPermutation rows.items (step (union graphs) batch.now.unit batch.now.rows)) }
 {
     let _branches = batch.branches();
-    let founds = each_once(alloc, lists)?;
-    rows_of(alloc, batch.rows(), founds)
-}
-
-// The solutions, each under the number that the row of its branch came with.
-fn rows_of(alloc: Global, rows: &[Row], founds: Vec<Found>) -> Result<Vec<Row>, Memory>
-    ensures { IfOk result (λ united. united.items ≡ map (spec.row_by rows.now) founds.items) }
-{
-    let mut united = Vec::with_capacity(alloc, founds.len())?;
-    for found in founds {
-        united.push(row_of(rows, found))?;
-    }
-    Ok(united)
-}
-
-fn row_of(rows: &[Row], found: Found) -> Row
-    ensures { result ≡ spec.row_by rows.now found }
-{
-    let Found { branch, solution } = found;
-    Row {
-        origin: origin(rows, branch),
-        solution,
-    }
-}
-
-// The number that the row at a place came with, or 0 where there is none.
-fn origin(rows: &[Row], place: u32) -> u64
-    ensures { result ≡ spec.origin_at rows.now place }
-{
-    match rows.get(place as usize) {
-        Some(row) => row.origin,
-        None => 0,
-    }
+    unite_rows(alloc, batch.rows(), lists)
 }

@@ -20,10 +20,10 @@ use Rattle.fx_results.specs.Meanings.{SameAnswer}
 use Rattle.fx_wire.specs.Honest.{IsHonest}
 use Rattle.fx_bound.specs.Answers.{IsAnswered, IsRead}
 use Rattle.fx_bound.specs.Batches.{branch_elements, branch_group, check_elements}
-use Rattle.fx_bound.specs.Branches.{bound_expr, bound_pattern}
+use Rattle.fx_renaming.specs.Branches.{bound_expr, bound_pattern}
 use Rattle.fx_bound.specs.Parts.{IsBatch, Parts, places, query_of}
 use Rattle.fx_bound.specs.Reading.{all_columns, branch_rows, free_names, renamed}
-use Rattle.fx_bound.specs.Uniting.{Place}
+use Rattle.fx_founds.specs.Uniting.{Place}
 use Rattle.fx_founds.specs.declared.founds.Found.{Found}
 use Rattle.fx_bound.proofs.BatchLemmas.{batch_has_the_rows}
 use Rattle.fx_pool.specs.Reading.{HasFound, HasResults}

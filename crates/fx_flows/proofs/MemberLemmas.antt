@@ -18,7 +18,7 @@ use Rattle.fx_wire.specs.Honest.{IsHonest}
 use Rattle.fx_bound.specs.Answers.{IsRead, numbers}
 use Rattle.fx_bound.specs.Batches.{batch_query}
 use Rattle.fx_bound.specs.Parts.{IsBatch, Parts, places, printed_by, query_of, text_of}
-use Rattle.fx_bound.specs.Uniting.{Place}
+use Rattle.fx_founds.specs.Uniting.{Place}
 use Rattle.fx_founds.specs.declared.founds.Found.{Found}
 use Rattle.fx_traffic.specs.Batches.{member_sent, text_sent, to_endpoint}
 use Rattle.fx_traffic.specs.Sent.{Sent, Sends}

@@ -1,1 +1,4 @@
 pub mod FoundLemmas
+pub mod UnionLemmas
+pub mod UniteLemmas
+pub mod RowLemmas

@@ -1,1 +1,3 @@
 pub mod FoundOrder
+pub mod Unions
+pub mod Uniting

@@ -34,7 +34,7 @@ use Rattle.fx_algebra.proofs.MemberLemmas.{among_flat_map}
 use Rattle.fx_http.specs.Requests.{request_of}
 use Rattle.fx_bound.specs.Batches.{batch_query}
 use Rattle.fx_bound.specs.Parts.{printed_by, text_of}
-use Rattle.fx_bound.specs.Uniting.{Place, branches}
+use Rattle.fx_founds.specs.Uniting.{Place, branches}
 use Rattle.fx_sources.specs.Probes.{Entry, missing}
 use Rattle.fx_sources.specs.Sources.{ask_text}
 use Rattle.fx_traffic.specs.Batches.{member_sent, text_sent, to_endpoint, unit_sent}

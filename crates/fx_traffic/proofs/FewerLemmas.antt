@@ -30,7 +30,7 @@ use Rattle.fx_plan.specs.Plans.{plan}
 use Rattle.fx_http.specs.Requests.{request_of}
 use Rattle.fx_bound.specs.Batches.{batch_query, branch_group}
 use Rattle.fx_bound.specs.Reading.{all_columns, columns_of}
-use Rattle.fx_bound.specs.Uniting.{Place, branches, is_worth_asking, places_from}
+use Rattle.fx_founds.specs.Uniting.{Place, branches, is_worth_asking, places_from}
 use Rattle.fx_steps.specs.Steps.{numbered, solutions_of}
 use Rattle.fx_steps.proofs.StepLemmas.{numbered_solutions, step_solutions}
 use Rattle.fx_traffic.specs.Batches.{IsRunSent, IsSized, IsStepSent, batches_sent, joined, text_sent, to_endpoint, unit_sent}

@@ -10,7 +10,7 @@ use Rattle.fx_algebra.specs.declared.units.Row.{Row}
 use Rattle.fx_algebra.specs.declared.units.Unit as unit
 use Rattle.fx_http.specs.Requests.{request_of}
 use Rattle.fx_bound.specs.Batches.{batch_query}
-use Rattle.fx_bound.specs.Uniting.{Place, branches}
+use Rattle.fx_founds.specs.Uniting.{Place, branches}
 use Rattle.fx_traffic.specs.Sent.{Sent}
 
 -- ---- batches of rows

@@ -1,6 +1,6 @@
 use Rattle.std.proofs.Common.{◌≡◌, ◌++◌, drop, filter, map}
 use Rattle.fx_bound.specs.Parts.{branch_of}
-use Rattle.fx_bound.specs.Uniting.{branches, is_worth_asking, places_from}
+use Rattle.fx_founds.specs.Uniting.{branches, is_worth_asking, places_from}
 use Rattle.fx_bound.proofs.branches.branches_of.Given as goal
 
 abbrev pub invariant-loop-row : goal.invariant-loop-row

@@ -1,5 +1,5 @@
 use Rattle.std.proofs.Common.{◌≡◌, drop, map}
-use Rattle.fx_bound.specs.Branches.{bound_pattern, is_hopeless}
+use Rattle.fx_renaming.specs.Branches.{bound_pattern, is_hopeless}
 use Rattle.fx_bound.proofs.branches.is_hopeless.Given as goal
 
 abbrev pub invariant-loop-pattern : goal.invariant-loop-pattern

@@ -1,5 +1,5 @@
 use Rattle.std.proofs.Common.{◌≡◌, map, take}
-use Rattle.fx_bound.specs.Branches.{bound_expr}
+use Rattle.fx_renaming.specs.Branches.{bound_expr}
 use Rattle.fx_bound.specs.Reading.{named}
 use Rattle.fx_bound.proofs.filters.+bound.Given as goal
 

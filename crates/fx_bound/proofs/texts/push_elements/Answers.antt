@@ -1,7 +1,7 @@
 use Rattle.std.proofs.Common.{◌≡◌, ℕ, List, OnOk, string_bytes, subst}
 use Rattle.std.specs.List.{flat_map}
 use Rattle.fx_algebra.specs.Printed.{pattern_words}
-use Rattle.fx_bound.specs.Branches.{bound_pattern}
+use Rattle.fx_renaming.specs.Branches.{bound_pattern}
 use Rattle.fx_bound.specs.Reading.{named}
 use Rattle.fx_bound.specs.Sent.{check_words, filter_words}
 use Rattle.fx_bound.proofs.BatchTextLemmas.{three}

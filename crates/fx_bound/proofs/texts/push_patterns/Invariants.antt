@@ -1,7 +1,7 @@
 use Rattle.std.proofs.Common.{◌≡◌, ◌++◌, take, string_bytes}
 use Rattle.std.specs.List.{flat_map}
 use Rattle.fx_algebra.specs.Printed.{pattern_words, spaced}
-use Rattle.fx_bound.specs.Branches.{bound_pattern}
+use Rattle.fx_renaming.specs.Branches.{bound_pattern}
 use Rattle.fx_bound.specs.Reading.{named}
 use Rattle.fx_bound.proofs.texts.push_patterns.Given as goal
 

@@ -18,12 +18,12 @@ use Rattle.fx_algebra.specs.declared.units.Unit as unit
 use Rattle.fx_algebra.proofs.JoinLemmas.{exact_solutions}
 use Rattle.fx_algebra.proofs.MemberLemmas.{among_cases, among_flat_map, among_from_flat_map, among_left, among_right, among_from_map, among_map}
 use Rattle.fx_spelling.specs.Units.{IsPushed}
-use Rattle.fx_bound.specs.Branches.{bound_pattern, is_hopeless}
-use Rattle.fx_bound.specs.Unions.{beside, of_members}
-use Rattle.fx_bound.specs.Uniting.{AreAll, AreToldBy, Place, UnitedIsTheStep, branches, found_for, is_worth_asking, places_from, tells, united}
+use Rattle.fx_renaming.specs.Branches.{bound_pattern, is_hopeless}
+use Rattle.fx_founds.specs.Unions.{beside, of_members}
+use Rattle.fx_founds.specs.Uniting.{AreAll, AreToldBy, Place, UnitedIsTheStep, branches, found_for, is_worth_asking, places_from, tells, united}
 use Rattle.fx_founds.specs.declared.founds.Found.{Found}
-use Rattle.fx_bound.proofs.BranchLemmas.{hopeless_branch_has_none}
-use Rattle.fx_bound.proofs.UnionLemmas.{each_of, in_kept, kept_in, members_have_the_union}
+use Rattle.fx_renaming.proofs.BranchLemmas.{hopeless_branch_has_none}
+use Rattle.fx_founds.proofs.UnionLemmas.{each_of, in_kept, kept_in, members_have_the_union}
 
 -- ---- lists
 

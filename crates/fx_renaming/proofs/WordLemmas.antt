@@ -7,7 +7,7 @@ use Rattle.fx_algebra.specs.Printed.{Printed, Word, fixed, among, chained, compa
 use Rattle.fx_algebra.specs.Solutions.{Bindings, term_of}
 use Rattle.fx_algebra.specs.declared.expressions.Expr.{Expr, Expr-F, fold-roll-Expr, ind-Expr, map-Expr, roll-Expr}
 use Rattle.fx_algebra.specs.declared.expressions.Sign.{Sign}
-use Rattle.fx_bound.specs.Branches.{BoundHasTheWords, bound_expr, bound_step, bound_word, expr_by, word_by}
+use Rattle.fx_renaming.specs.Branches.{BoundHasTheWords, bound_expr, bound_step, bound_word, expr_by, word_by}
 
 module _ (rename : List ℕ → List ℕ) (row : Bindings) where
   abbrev bound : Expr → Expr

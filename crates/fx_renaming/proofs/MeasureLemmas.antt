@@ -11,7 +11,7 @@ use Rattle.fx_algebra.specs.declared.expressions.Expr.{Expr, Expr-F, fold-roll-E
 use Rattle.fx_algebra.specs.declared.expressions.Function.{Function}
 use Rattle.fx_algebra.specs.declared.expressions.Function.TheVariants as function
 use Rattle.fx_algebra.specs.declared.expressions.Sign.{Sign}
-use Rattle.fx_bound.specs.Branches.{BoundKeepsTheMeasure, bound_expr, bound_step, expr_by}
+use Rattle.fx_renaming.specs.Branches.{BoundKeepsTheMeasure, bound_expr, bound_step, expr_by}
 
 -- two measures of one size
 pub record SameMeasure (m n : Measured) : Type 0 where

@@ -1,5 +1,5 @@
 -- What members told of the branches of a batch, united into the rows behind its unit.
-use Rattle.std.specs.Prelude.{ℕ, Bool, not, ◌==◌, List, [], ◌∷◌, map, filter, All, IsTrue, IsPermutation}
+use Rattle.std.specs.Prelude.{ℕ, Bool, not, ◌==◌, List, [], ◌∷◌, map, filter, slice_get, Option, Some, None, All, IsTrue, IsPermutation}
 use Rattle.std.specs.List.{flat_map}
 use Rattle.std.proofs.Common.{suc}
 use Rattle.fx_terms.specs.Graphs.{set_of}
@@ -10,8 +10,8 @@ use Rattle.fx_algebra.specs.Units.{graph_of, row_of, step}
 use Rattle.fx_algebra.specs.declared.units.Row.{Row}
 use Rattle.fx_algebra.specs.declared.units.Unit as unit
 use Rattle.fx_spelling.specs.Units.{IsSound}
-use Rattle.fx_bound.specs.Branches.{bound_pattern, is_hopeless}
-use Rattle.fx_bound.specs.Unions.{beside}
+use Rattle.fx_renaming.specs.Branches.{bound_pattern, is_hopeless}
+use Rattle.fx_founds.specs.Unions.{beside}
 use Rattle.fx_founds.specs.declared.founds.Found.{Found}
 
 -- ---- the branches of rows
@@ -33,6 +33,10 @@ is_worth_asking u b = not (is_hopeless (map (bound_pattern (λ name. name) b.row
 abbrev pub branches : unit.Unit → List Row → List Place
 branches u rows = filter (is_worth_asking u) (places_from 0 rows)
 
+-- their numbers
+abbrev pub numbers_of : unit.Unit → List Row → List ℕ
+numbers_of u rows = map (λ b. b.number) (branches u rows)
+
 -- ---- what was found
 
 -- what a member with this graph has for a branch
@@ -46,6 +50,18 @@ found_for number founds = map (λ f. f.solution) (filter (λ f. f.branch == numb
 -- all that was found, branch by branch, each solution of a branch once, under the number that its row came with
 abbrev pub united : List Place → List (List Found) → List Row
 united bs lists = flat_map (λ b. map (row_of b.row.origin) (set_of solution_cmp (found_for b.number (flat_map (λ list. list) lists)))) bs
+
+-- the number that the row at a place came with
+abbrev pub origin_by : Option Row → ℕ
+origin_by None = 0
+origin_by (Some row) = row.origin
+
+abbrev pub origin_at : List Row → ℕ → ℕ
+origin_at rows place = origin_by (slice_get rows place)
+
+-- what was found, as a row between two units
+abbrev pub row_by : List Row → Found → Row
+row_by rows f = row_of (origin_at rows f.branch) f.solution
 
 -- ---- the law
 

@@ -31,7 +31,7 @@ use Rattle.fx_algebra.proofs.BgpLemmas.{rows_beside, rows_from-bgp, rows_from-fl
 use Rattle.fx_algebra.proofs.ForcedLemmas.{name_from, with_pair_has}
 use Rattle.fx_algebra.proofs.JoinLemmas.{join_run}
 use Rattle.fx_algebra.proofs.PairLemmas.{rises_new, rises_with}
-use Rattle.fx_bound.specs.Branches.{BranchTellsItsRow, HopelessBranchHasNone, TellsApart, is_hopeless, is_literal, bound_expr, bound_part, bound_pattern, bound_step, expr_by, part_by, told}
+use Rattle.fx_renaming.specs.Branches.{BranchTellsItsRow, HopelessBranchHasNone, TellsApart, is_hopeless, is_literal, bound_expr, bound_part, bound_pattern, bound_step, expr_by, part_by, told}
 
 to_T : (b : Bool) → b ≡ true → T b
 to_T true h = tt

@@ -26,7 +26,7 @@ use Rattle.fx_algebra.proofs.JoinLemmas.{exact_solutions, merge_extends_right}
 use Rattle.fx_algebra.proofs.MemberLemmas.{IsOnce, among_filter_map, among_flat_map, among_from_flat_map, among_from_map, among_map, once_rising}
 use Rattle.fx_algebra.proofs.UnionLemmas.{AmongOne, from_union, in_union, once_is_set, union_rises}
 use Rattle.fx_spelling.specs.Units.{IsExclusive, IsSingle}
-use Rattle.fx_bound.specs.Unions.{MembersHaveTheUnion, beside, of_members}
+use Rattle.fx_founds.specs.Unions.{MembersHaveTheUnion, beside, of_members}
 
 to_T : (b : Bool) → b ≡ true → T b
 to_T true h = tt

@@ -8,23 +8,34 @@ use Rattle.std.specs.declared.cmp.Ordering.TheVariants.{Less}
 use Rattle.std.specs.Ordering.{nat_cmp, ordering_then}
 use Rattle.std.proofs.lemmas.Bool.Decides.{nat_tests}
 use Rattle.std.proofs.lemmas.Cmp.{nat_cmp_total, tied_itself}
+use Rattle.std.proofs.lemmas.List.{map-append}
 use Rattle.std.proofs.lemmas.List.Elements.{recursion_from_All}
 use Rattle.fx_terms.specs.Graphs.{set_of}
 use Rattle.fx_terms.proofs.SetLemmas.{Among, among_from, among_from_set, among_set, one_rising, rises_set}
 use Rattle.fx_algebra.specs.Solutions.{Bindings, solution_cmp, solutions_total}
 use Rattle.fx_algebra.specs.Units.{row_of}
 use Rattle.fx_algebra.specs.declared.units.Row.{Row}
+use Rattle.fx_algebra.specs.declared.units.Unit as unit
 use Rattle.fx_algebra.proofs.JoinLemmas.{exact_solutions}
 use Rattle.fx_algebra.proofs.MemberLemmas.{among_flat_map, among_from_flat_map, among_from_map, among_map}
-use Rattle.fx_bound.specs.Answers.{numbers, origin_by, row_by}
 use Rattle.fx_founds.specs.FoundOrder.{found_cmp, founds_total}
 use Rattle.fx_founds.proofs.FoundLemmas.{exact_founds}
-use Rattle.fx_bound.specs.Parts.{Parts, places}
-use Rattle.fx_bound.specs.Uniting.{Place, found_for, is_worth_asking, places_from, united}
+use Rattle.fx_founds.specs.Uniting.{Place, branches, found_for, is_worth_asking, numbers_of, origin_by, places_from, row_by, united}
 use Rattle.fx_founds.specs.declared.founds.Found.{Found}
-use Rattle.fx_bound.proofs.ReadingLemmas.{flat_each, map_both, map_flat}
-use Rattle.fx_bound.proofs.UnionLemmas.{each_of, in_kept, kept_in}
-use Rattle.fx_bound.proofs.UniteLemmas.{number_above}
+use Rattle.fx_founds.proofs.UnionLemmas.{each_of, in_kept, kept_in}
+use Rattle.fx_founds.proofs.UniteLemmas.{number_above}
+
+pub map_both : {X Y Z : Type 0} (f : X → Y) (g : Y → Z) (xs : List X) → map g (map f xs) ≡ map (λ x. g (f x)) xs
+map_both f g [] = refl
+map_both f g (x ∷ xs) = ap (λ v. g (f x) ∷ v) (map_both f g xs)
+
+pub map_flat : {X Y Z : Type 0} (f : X → List Y) (g : Y → Z) (xs : List X) → map g (flat_map f xs) ≡ flat_map (λ x. map g (f x)) xs
+map_flat f g [] = refl
+map_flat f g (x ∷ xs) = map-append g (f x) (flat_map f xs) ∙ ap (λ v. map g (f x) ++ v) (map_flat f g xs)
+
+pub flat_each : {X Y : Type 0} (f g : X → List Y) (xs : List X) → ((x : X) → Among x xs → f x ≡ g x) → flat_map f xs ≡ flat_map g xs
+flat_each f g [] h = refl
+flat_each f g (x ∷ xs) h = let here : f x ≡ g x = h x (inl refl) in let rest : flat_map f xs ≡ flat_map g xs = flat_each f g xs (λ y m. h y (inr m)) in λ i. here i ++ rest i
 
 below_number : (m n : ℕ) → m < n → nat_cmp m n ≡ Less
 below_number m n h = grind (arith, nat_tests)
@@ -141,21 +152,21 @@ origin_found n zero (r ∷ rows) b (inr m) e = let low = number_above (suc n) ro
 origin_found n (suc k) (r ∷ rows) b (inl same) e = let number : n ≡ b.number = ap (λ (v : Place). v.number) same in absurd (omega (arith, number, e))
 origin_found n (suc k) (r ∷ rows) b (inr m) e = origin_found (suc n) k rows b m (omega (arith, e))
 
-pub united_is : (p : Parts) (lists : List (List Found)) → All (λ (list : List Found). All (λ (f : Found). Contains (numbers p) f.branch) list) lists
-    → map (row_by p.rows) (set_of found_cmp (flat_map (λ list. list) lists)) ≡ united (places p) lists
-united_is p lists known =
+pub united_is : (u : unit.Unit) (rows : List Row) (lists : List (List Found)) → All (λ (list : List Found). All (λ (f : Found). Contains (numbers_of u rows) f.branch) list) lists
+    → map (row_by rows) (set_of found_cmp (flat_map (λ list. list) lists)) ≡ united (branches u rows) lists
+united_is u rows lists known =
     let founds = flat_map (λ list. list) lists in
-    let asks = is_worth_asking p.unit in
+    let asks = is_worth_asking u in
     let of = λ (b : Place). map (found b.number) (set_of solution_cmp (found_for b.number founds)) in
-    ap (map (row_by p.rows)) (set_by_branch asks founds p.rows each)
-    ∙ map_flat of (row_by p.rows) (places p)
-    ∙ flat_each (λ b. map (row_by p.rows) (of b)) (λ b. map (row_of b.row.origin) (set_of solution_cmp (found_for b.number founds))) (places p)
+    ap (map (row_by rows)) (set_by_branch asks founds rows each)
+    ∙ map_flat of (row_by rows) (branches u rows)
+    ∙ flat_each (λ b. map (row_by rows) (of b)) (λ b. map (row_of b.row.origin) (set_of solution_cmp (found_for b.number founds))) (branches u rows)
     (λ b m.
-    map_both (found b.number) (row_by p.rows) (set_of solution_cmp (found_for b.number founds))
-    ∙ ap (λ (n : ℕ). map (row_of n) (set_of solution_cmp (found_for b.number founds))) (origin_found 0 b.number p.rows b (in_kept asks b (places_from 0 p.rows) m).0 (omega arith)))
+    map_both (found b.number) (row_by rows) (set_of solution_cmp (found_for b.number founds))
+    ∙ ap (λ (n : ℕ). map (row_of n) (set_of solution_cmp (found_for b.number founds))) (origin_found 0 b.number rows b (in_kept asks b (places_from 0 rows) m).0 (omega arith)))
   where
-    each : (f : Found) → Among f (flat_map (λ list. list) lists) → Among f.branch (numbers p)
+    each : (f : Found) → Among f (flat_map (λ list. list) lists) → Among f.branch (numbers_of u rows)
     each f m =
         let list = among_from_flat_map (λ (l : List Found). l) f lists m in
-        let all = each_of (λ (l : List Found). All (λ (g : Found). Contains (numbers p) g.branch) l) lists (recursion_from_All (λ (l : List Found). All (λ (g : Found). Contains (numbers p) g.branch) l) lists known) list.0 list.1 in
-        among_from (numbers p) f.branch (each_of (λ (g : Found). Contains (numbers p) g.branch) list.0 (recursion_from_All (λ (g : Found). Contains (numbers p) g.branch) list.0 all) f list.2)
+        let all = each_of (λ (l : List Found). All (λ (g : Found). Contains (numbers_of u rows) g.branch) l) lists (recursion_from_All (λ (l : List Found). All (λ (g : Found). Contains (numbers_of u rows) g.branch) l) lists known) list.0 list.1 in
+        among_from (numbers_of u rows) f.branch (each_of (λ (g : Found). Contains (numbers_of u rows) g.branch) list.0 (recursion_from_All (λ (g : Found). Contains (numbers_of u rows) g.branch) list.0 all) f list.2)

@@ -1,6 +1,0 @@
--- The law is the lemma of `MeasureLemmas`.
-use Rattle.fx_bound.proofs.MeasureLemmas.{bound_keeps_the_measure}
-use Rattle.fx_bound.proofs.bound_keeps_the_measure.Goals as goal
-
-pub returns : goal.returns
-returns c = bound_keeps_the_measure
