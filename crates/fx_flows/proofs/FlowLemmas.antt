@@ -5,7 +5,7 @@ use Rattle.std.specs.declared.vec.Vec.{Vec}
 use Rattle.std.proofs.lemmas.Grind.{flat_map-append}
 use Rattle.std.proofs.lemmas.List.{map-append}
 use Rattle.std.proofs.lemmas.List.Elements.{All-append, All-contains, All-contains_itself, All-from_recursion, All-nil, All-weaker, recursion_from_All}
-use Rattle.std.proofs.lemmas.List.Sorted.{All-permutation, Contains-permutation, IsPermutation-refl, IsPermutation-trans}
+use Rattle.std.proofs.lemmas.List.Sorted.{All-permutation, Contains-permutation, IsPermutation-append, IsPermutation-refl, IsPermutation-trans}
 use Rattle.std.proofs.lemmas.List.Sums.{sum_by-append, sum_by-cons}
 use Rattle.fx_terms.specs.declared.allocation.Memory.{Memory}
 use Rattle.fx_terms.specs.declared.triples.Triple.{Triple}
@@ -22,13 +22,13 @@ use Rattle.fx_bound.specs.Parts.{Parts}
 use Rattle.fx_steps.specs.Steps.{numbered, stepped}
 use Rattle.fx_traffic.specs.Batches.{AreCut, IsBatchText}
 use Rattle.fx_traffic.specs.Gains.{AreAfter, Tell, TellAll, faults_at}
-use Rattle.fx_traffic.specs.Sent.{Sent}
+use Rattle.fx_traffic.specs.Sent.{Sent, Sends}
 use Rattle.fx_traffic.proofs.CutLemmas.{batch_laws}
 use Rattle.fx_traffic.proofs.GainLemmas.{gain_laws}
-use Rattle.fx_traffic.proofs.SentLemmas.{sent_laws}
+use Rattle.fx_traffic.proofs.SentLemmas.{middle_changes, sent_laws}
 use Rattle.fx_wire.specs.Exchanges.{Exchange, Seen}
 use Rattle.fx_flows.specs.Flows.{AreTold, IsBatchCause, IsBatchRead, IsCause, IsMemberCause, IsShort, rows_in}
-use Rattle.fx_flows.specs.Followed.{AreOfBoth, ArePut, HasFlowed, HasTriedCause, HaveFlowed, IsEven, IsTriedCause, WireFlowed, WiresFlowed, all_sent}
+use Rattle.fx_flows.specs.Followed.{AreOfBoth, ArePut, HasFlowed, HasTriedCause, HaveFlowed, IsEven, IsTriedCause, WireFlowed, WiresFlowed}
 use Rattle.fx_flows.specs.Lines.{hand}
 use Rattle.fx_flows.specs.Parcels.{Finished, IsFinished, IsParcelOf, IsStepOf, SameParcels, created, made, of_finished, parcel_sent, parcels, parcels_sent, sent_for, sent_in_turn}
 use Rattle.fx_pool.specs.Posting.{IsHonestAt}
@@ -40,7 +40,7 @@ use Rattle.fx_flows.specs.declared.lines.Hand.{Hand}
 use Rattle.fx_flows.specs.declared.parcels.RunShape.{RunShape}
 use Rattle.fx_flows.specs.declared.parcels.Parcel.{Parcel}
 use Rattle.fx_pool.proofs.BesideLemmas.{after_beside, back_all, front_all}
-use Rattle.fx_flows.proofs.FollowLemmas.{made_both, sent_by_both, weight_created, weight_finished}
+use Rattle.fx_flows.proofs.FollowLemmas.{all_passed, begun_by_both, cause_in_turn, ended_by_both, made_both, none_tried, weight_created, weight_finished}
 use Rattle.fx_flows.proofs.ParcelLemmas.{all_rows, finished_of_run, may_be_sent, stepped_none, texts_in_turn, turned}
 use Rattle.fx_pool.proofs.WireLemmas.{after_itself, honest_over}
 use Rattle.fx_pool.proofs.WiresLemmas.{AllTell, all_after, as_many, gained_both, still_tell, still_tell_all}
@@ -156,26 +156,31 @@ module _ (tells alone : Bool) (w t : Seen) (others : List Seen) (es : List Endpo
 
   first_flows : (from to : Hand) (tried held : List Parcel) (rows : List Row) → w.tells_log ≡ tells → WireFlowed alone w t es us c from to [] tried held rows
       → WiresFlowed tells alone (w ∷ others) (t ∷ others) es us c from to tried held rows
-  first_flows from to tried held rows same h = record {
-    exchanges = h.exchanges;
-    gained = λ told. (h.exchanges, [], sym (append-nil h.exchanges), h.passed.logged (subst IsTrue (sym same) told), gain_laws.nothing others);
-    honest = All-from_recursion (IsHonestOver (w ∷ others)) h.exchanges (honest_over w others h.exchanges (recursion_from_All (IsHonestAt w.graph) h.exchanges h.passed.honest));
-    after_all = (record { logged = λ told. (h.exchanges, h.passed.logged told); same = h.passed.same; kept = h.passed.kept }, after_itself others);
-    failed = h.failed;
-    few = h.few;
-    counted = λ is address. let few : t.faults address ≤ w.faults address + h.failed = h.passed.counted is address in omega (arith, few, counts w address, counts t address);
-    spent = h.spent;
-    finished = h.finished;
-    of_run = h.of_run;
-    even = h.even;
-    rows_are = h.rows_are;
-    left = h.left;
-    sent = h.sent;
-    whole = h.whole;
-    short = h.short;
-    faultless = h.faultless;
-    steps = λ graphs told sound. h.steps graphs (first_told es graphs told) sound;
-  }
+  first_flows from to tried held rows same h =
+      let passed = all_passed alone es us c w t from to [] tried held rows h in
+      record {
+        exchanges = h.exchanges;
+        gained = λ told. (h.exchanges, [], sym (append-nil h.exchanges), passed.logged (subst IsTrue (sym same) told), gain_laws.nothing others);
+        honest = All-from_recursion (IsHonestOver (w ∷ others)) h.exchanges (honest_over w others h.exchanges (recursion_from_All (IsHonestAt w.graph) h.exchanges passed.honest));
+        after_all = (record { logged = λ told. (h.exchanges, passed.logged told); same = passed.same; kept = passed.kept }, after_itself others);
+        ended = h.ended;
+        begun = h.begun;
+        parted = subst (IsPermutation (h.ended ++ h.begun)) (sym h.parted) (IsPermutation-refl (h.ended ++ h.begun));
+        failed = h.failed;
+        few = h.few;
+        counted = λ is address. let few : t.faults address ≤ w.faults address + h.failed = passed.counted is address in omega (arith, few, counts w address, counts t address);
+        spent = h.spent;
+        finished = h.finished;
+        of_run = h.of_run;
+        even = h.even;
+        rows_are = h.rows_are;
+        sent = h.sent;
+        left = h.left;
+        tied = h.tied;
+        short = h.short;
+        faultless = h.faultless;
+        steps = λ graphs told sound. h.steps graphs (first_told es graphs told) sound;
+      }
 
   -- a cause at a parcel that was tried is one of the run
   first_cause : (tried : List Parcel) (xs : List Exchange) → All (IsParcelOf c) tried → (why : FlowError) → HasTriedCause w t es us tried xs why
@@ -222,9 +227,9 @@ module _ (tells alone : Bool) (w t : Seen) (others : List Seen) (es : List Endpo
     cause = cause r h.cause;
   }
     where
-      cause : (o : Result (Vec Row Global) FlowError) → IfErr o (HasTriedCause w t es us h.tried h.did.exchanges) → IfErr o (HasFlowCause (w ∷ others) (t ∷ others) es us c.block (parcels_sent es us h.tried) h.did.exchanges)
+      cause : (o : Result (Vec Row Global) FlowError) → IfErr o (HasTriedCause h.did.between t es us h.tried h.did.begun) → IfErr o (HasFlowCause (w ∷ others) (t ∷ others) es us c.block (parcels_sent es us h.tried) h.did.exchanges)
       cause (Ok found) k = tt
-      cause (Err why) k = first_cause h.tried h.did.exchanges h.did.of_run why k
+      cause (Err why) k = first_cause h.tried h.did.exchanges h.did.of_run why (subst (λ (xs : List Exchange). HasTriedCause w t es us h.tried xs why) (sym h.did.parted) (cause_in_turn alone w h.did.between t es us h.tried h.did.ended h.did.begun why h.did.unfailed k))
 
 -- the first of the wires was worked with
 pub first_flowed : {W : Type 0} (see : W → Seen) (tells alone : Bool) (wires : List W) (x new : W) (es : List EndpointParts) (us : List unit.Unit) (c : RunShape) (from to : Hand) (r : Result (Vec Row Global) FlowError)
@@ -237,6 +242,11 @@ first_flowed see tells alone (w ∷ others) x new es us c from to r same some h 
 
 abbrev RowList : Type 0
 RowList = Vec Row Global
+
+-- what both ended and what both began
+parts_of_both : (one two begun more xs ys : List Exchange) → IsPermutation (one ++ begun) xs → IsPermutation (two ++ more) ys → IsPermutation ((one ++ two) ++ (begun ++ more)) (xs ++ ys)
+parts_of_both one two begun more xs ys h k =
+    IsPermutation-trans ((one ++ two) ++ (begun ++ more)) ((one ++ begun) ++ (two ++ more)) (xs ++ ys) (middle_changes one two begun more) (IsPermutation-append (one ++ begun) xs (two ++ more) ys h k)
 
 module _ (tells alone : Bool) (es : List EndpointParts) (us : List unit.Unit) (c : RunShape) where
   -- the view of a pass that was split, between its two halves
@@ -263,6 +273,9 @@ module _ (tells alone : Bool) (es : List EndpointParts) (us : List unit.Unit) (c
         (All-weaker (IsHonestOver s) (IsHonestOver (s ++ u)) (λ x honest graph tell. honest graph (front_all (λ (w : Seen). w.graph x.at.iri ≡ Some graph) s u tell)) h.exchanges h.honest)
         (All-weaker (IsHonestOver u) (IsHonestOver (s ++ u)) (λ x honest graph tell. honest graph (back_all (λ (w : Seen). w.graph x.at.iri ≡ Some graph) s u tell)) k.exchanges k.honest);
     after_all = after_beside s t u v h.after_all k.after_all;
+    ended = h.ended ++ k.ended;
+    begun = h.begun ++ k.begun;
+    parted = parts_of_both h.ended k.ended h.begun k.begun h.exchanges k.exchanges h.parted k.parted;
     failed = h.failed + k.failed;
     few = (let one : h.failed ≤ length tx = h.few in let two : k.failed ≤ length ty = k.few in omega (arith, one, two, length-append tx ty));
     counted = λ is address. omega (arith, h.counted is address, k.counted is address, gain_laws.add_up s u address, gain_laws.add_up t v address);
@@ -271,18 +284,14 @@ module _ (tells alone : Bool) (es : List EndpointParts) (us : List unit.Unit) (c
     of_run = All-append (IsParcelOf c) tx ty h.of_run k.of_run;
     even = even;
     rows_are = ap (λ (w : List Row). w ++ more) h.rows_are ∙ ap (λ (w : List Row). made c h.spent ++ w) k.rows_are ∙ sym (made_both c h.spent k.spent);
+    sent = ended_by_both es us h.spent k.spent h.ended k.ended h.sent k.sent;
     left = h.left ++ k.left;
-    sent = sent_by_both es us h.spent k.spent tx ty h.left k.left h.exchanges k.exchanges h.sent k.sent;
+    tied = begun_by_both es us tx ty h.left k.left h.begun k.begun h.tied k.tied;
     short = All-append IsShort h.exchanges k.exchanges h.short k.short;
-    whole = λ e. ap (λ (v : List Sent). v ++ k.left) (h.whole (none_of_both tx ty e).0) ∙ k.whole (none_of_both tx ty e).1;
-    faultless = λ e. All-append (IsBatchRead (Contains us)) h.exchanges k.exchanges (h.faultless (none_of_both tx ty e).0) (k.faultless (none_of_both tx ty e).1);
+    faultless = All-append (IsBatchRead (Contains us)) h.ended k.ended h.faultless k.faultless;
     steps = λ graphs told sound.
         All-append (IsStepOf (union graphs) us) h.spent k.spent (h.steps graphs (told_front s u es graphs told) sound) (k.steps graphs (told_back s u es graphs told) sound);
   }
-    where
-      none_of_both : (xs ys : List Parcel) → xs ++ ys ≡ [] → (xs ≡ []) × (ys ≡ [])
-      none_of_both [] ys e = (refl, e)
-      none_of_both (x ∷ xs) ys e = cc
 
   -- of the result of both there is a cause where there was one of either
   both_cause : (a b o : Result RowList FlowError) (P Q R : FlowError → Type 0) → AreOfBoth a b o → ((why : FlowError) → P why → R why) → ((why : FlowError) → Q why → R why) → R flow.Memory → IfErr a P → IfErr b Q → IfErr o R
@@ -362,6 +371,9 @@ idle_flowed tells alone es us c wires view = record {
   gained = λ told. gain_laws.nothing wires;
   honest = All-nil (IsHonestOver wires);
   after_all = after_itself wires;
+  ended = [];
+  begun = [];
+  parted = IsPermutation-refl [];
   failed = 0;
   few = zero-le;
   counted = λ is address. omega arith;
@@ -370,11 +382,11 @@ idle_flowed tells alone es us c wires view = record {
   of_run = All-nil (IsParcelOf c);
   even = λ w. (let nil : sum_by w [] ≡ 0 = refl in omega (arith, nil));
   rows_are = refl;
-  left = [];
   sent = IsPermutation-refl [];
-  whole = λ e. refl;
+  left = [];
+  tied = IsPermutation-refl [];
   short = All-nil IsShort;
-  faultless = λ e. All-nil (IsBatchRead (Contains us));
+  faultless = All-nil (IsBatchRead (Contains us));
   steps = λ graphs told sound. All-nil (IsStepOf (union graphs) us);
 }
 
@@ -430,6 +442,11 @@ then_flowed tells alone es us c from mid to s t v made_rows b o s_tells t_tells 
           (All-append (IsHonestOver s) h.did.exchanges k.did.exchanges h.did.honest
           (All-weaker (IsHonestOver t) (IsHonestOver s) (λ x honest graph tell. honest graph (still_tell s t x.at.iri graph h.did.after_all tell)) k.did.exchanges k.did.honest));
       after_all = all_after tells s t v s_tells t_tells h.did.after_all k.did.after_all;
+      ended = h.did.ended ++ k.did.ended;
+      begun = h.did.begun ++ k.did.begun;
+      parted =
+          IsPermutation-trans ((h.did.ended ++ k.did.ended) ++ (h.did.begun ++ k.did.begun)) (h.did.exchanges ++ k.did.exchanges) gained.all
+          (parts_of_both h.did.ended k.did.ended h.did.begun k.did.begun h.did.exchanges k.did.exchanges h.did.parted k.did.parted) gained.same;
       failed = k.did.failed;
       few = (let few : k.did.failed ≤ length k.tried = k.did.few in omega (arith, few, length-append h.tried k.tried));
       counted = λ is address.
@@ -446,14 +463,11 @@ then_flowed tells alone es us c from mid to s t v made_rows b o s_tells t_tells 
           let held : sum_by w h.held ≡ 0 = ap (sum_by w) empty in
           omega (arith, one, two, nil, held, weight_created w h.did.spent k.did.spent, weight_finished w h.did.spent k.did.spent, sum_by-append w h.tried k.tried, sum_by-append w h.held k.held);
       rows_are = ap (λ (l : List Row). l ++ k.rows) h.did.rows_are ∙ ap (λ (l : List Row). made c h.did.spent ++ l) k.did.rows_are ∙ sym (made_both c h.did.spent k.did.spent);
+      sent = ended_by_both es us h.did.spent k.did.spent h.did.ended k.did.ended h.did.sent k.did.sent;
       left = h.did.left ++ k.did.left;
-      sent = sent_laws.any_order _ (h.did.left ++ k.did.left) (h.did.exchanges ++ k.did.exchanges) gained.all gained.same
-          (sent_by_both es us h.did.spent k.did.spent h.tried k.tried h.did.left k.did.left h.did.exchanges k.did.exchanges h.did.sent k.did.sent);
+      tied = begun_by_both es us h.tried k.tried h.did.left k.did.left h.did.begun k.did.begun h.did.tied k.did.tied;
       short = All-permutation IsShort (h.did.exchanges ++ k.did.exchanges) gained.all gained.same (All-append IsShort h.did.exchanges k.did.exchanges h.did.short k.did.short);
-      whole = λ e. ap (λ (l : List Sent). l ++ k.did.left) (h.did.whole none) ∙ k.did.whole (sym (ap (λ (l : List Parcel). l ++ k.tried) none) ∙ e);
-      faultless = λ e.
-          All-permutation (IsBatchRead (Contains us)) (h.did.exchanges ++ k.did.exchanges) gained.all gained.same
-          (All-append (IsBatchRead (Contains us)) h.did.exchanges k.did.exchanges (h.did.faultless none) (k.did.faultless (sym (ap (λ (l : List Parcel). l ++ k.tried) none) ∙ e)));
+      faultless = All-append (IsBatchRead (Contains us)) h.did.ended k.did.ended h.did.faultless k.did.faultless;
       steps = λ graphs told sound.
           All-append (IsStepOf (union graphs) us) h.did.spent k.did.spent (h.did.steps graphs told sound) (k.did.steps graphs (still_tell_all s t h.did.after_all es graphs told) sound);
     } in
@@ -494,11 +508,11 @@ module _ (tells alone : Bool) (es : List EndpointParts) (us : List unit.Unit) (c
     counted = h.did.counted;
     wanted = wanted;
     left = h.did.left;
-    sent = IsPermutation-trans _ (all_sent es us h.did.spent h.tried) wanted h.did.sent turned_sent;
+    sent = IsPermutation-trans _ all_sent wanted (sent_laws.any_order all_sent h.did.left (h.did.ended ++ h.did.begun) h.did.exchanges h.did.parted all_tied) turned_sent;
     of_batches = texts_in_turn es c (Contains us) asked of_run 0 us (recursion_from_All (Contains us) us (All-contains_itself us));
-    whole = by_ok r (λ tried. h.did.whole tried) h.ended;
+    whole = by_ok r (λ tried. (none_tried es us h.tried h.did.left h.did.begun h.did.tied tried).1) h.ended;
     short = h.did.short;
-    faultless = by_ok r (λ tried. h.did.faultless tried) h.ended;
+    faultless = by_ok r all_read h.ended;
     of_run = λ graphs told sound. may_be_sent es (union graphs) us c positive units first h.did.spent h.tried (h.held ++ rest) h.did.finished (h.did.steps graphs told sound) balance h.did.of_run rows cut;
     done = done r h.ended empty;
     cause = cause r h.cause;
@@ -510,7 +524,19 @@ module _ (tells alone : Bool) (es : List EndpointParts) (us : List unit.Unit) (c
       wanted : List Sent
       wanted = sent_in_turn es 0 us asked
 
-      turned_sent : IsPermutation (all_sent es us h.did.spent h.tried) wanted
+      all_sent : List Sent
+      all_sent = parcels_sent es us (of_finished h.did.spent) ++ parcels_sent es us h.tried
+
+      all_tied : Sends all_sent h.did.left (h.did.ended ++ h.did.begun)
+      all_tied = sent_laws.together (parcels_sent es us (of_finished h.did.spent)) [] (parcels_sent es us h.tried) h.did.left h.did.ended h.did.begun h.did.sent h.did.tied
+
+      all_read : h.tried ≡ [] → All (IsBatchRead (Contains us)) h.did.exchanges
+      all_read tried =
+          All-permutation (IsBatchRead (Contains us)) (h.did.ended ++ h.did.begun) h.did.exchanges h.did.parted
+          (subst (λ (xs : List Exchange). All (IsBatchRead (Contains us)) (h.did.ended ++ xs)) (sym (none_tried es us h.tried h.did.left h.did.begun h.did.tied tried).0)
+          (All-append (IsBatchRead (Contains us)) h.did.ended [] h.did.faultless (All-nil (IsBatchRead (Contains us)))))
+
+      turned_sent : IsPermutation all_sent wanted
       turned_sent = subst (λ (l : List Sent). IsPermutation l wanted) (flat_map-append (parcel_sent es us) (of_finished h.did.spent) h.tried) (turned es us asked)
 
       balance : (w : Parcel → ℕ) → sum_by w (parcels c 0 first) + sum_by w (created h.did.spent) ≡ (sum_by w (of_finished h.did.spent) + sum_by w h.tried) + sum_by w (h.held ++ rest)
@@ -544,7 +570,7 @@ module _ (tells alone : Bool) (es : List EndpointParts) (us : List unit.Unit) (c
       cause (Ok found) k = tt
       cause (Err why) k =
           has_wider s t s t es us c.block (parcels_sent es us h.tried) wanted h.did.exchanges h.did.exchanges (λ address rose. rose) (λ address g tell. tell)
-          (λ x m. Contains-permutation (all_sent es us h.did.spent h.tried) wanted x turned_sent (behind (parcels_sent es us (of_finished h.did.spent)) (parcels_sent es us h.tried) x m))
+          (λ x m. Contains-permutation all_sent wanted x turned_sent (behind (parcels_sent es us (of_finished h.did.spent)) (parcels_sent es us h.tried) x m))
           (λ x m. m) why k
 
 -- nothing was asked for: there are no rows, or memory ran out

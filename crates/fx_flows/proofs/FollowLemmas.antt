@@ -1,11 +1,11 @@
 -- What one worker did, parcel after parcel.
-use Rattle.std.proofs.Common.{◌≡◌, ◌∙◌, ap, sym, subst, refl, ℕ, ◌+◌, ◌<◌, ◌≤◌, Bool, List, [], ◌∷◌, ◌++◌, Option, Some, None, Result, Ok, Err, All, Contains, IsPermutation, slice_get, sum_by, arith, append-nil, inl, inr}
+use Rattle.std.proofs.Common.{◌≡◌, ◌∙◌, ap, sym, subst, refl, ℕ, ◌+◌, ◌<◌, ◌≤◌, Bool, List, [], ◌∷◌, ◌++◌, Option, Some, None, Result, Ok, Err, All, Contains, IsPermutation, map, length, slice_get, sum_by, arith, append-nil, append_assoc, inl, inr}
 use Rattle.std.specs.declared.alloc.Global.{Global}
 use Rattle.std.specs.declared.vec.Vec.{Vec}
 use Rattle.std.proofs.lemmas.Grind.{flat_map-append}
 use Rattle.std.proofs.lemmas.List.{map-append}
 use Rattle.std.proofs.lemmas.List.Elements.{All-append, All-contains, All-from_recursion, All-nil, All-weaker, recursion_from_All}
-use Rattle.std.proofs.lemmas.List.Sorted.{IsPermutation-refl, IsPermutation-trans}
+use Rattle.std.proofs.lemmas.List.Sorted.{IsPermutation-refl, length_permutation}
 use Rattle.std.proofs.lemmas.List.Sums.{sum_by-append, sum_by-cons, sum_by_push}
 use Rattle.fx_terms.specs.declared.allocation.Memory.{Memory}
 use Rattle.fx_terms.specs.declared.triples.Triple.{Triple}
@@ -17,11 +17,11 @@ use Rattle.fx_algebra.specs.declared.units.Row.{Row}
 use Rattle.fx_algebra.specs.declared.units.Unit as unit
 use Rattle.fx_spelling.specs.Units.{IsSound}
 use Rattle.fx_traffic.specs.Batches.{AreCut}
-use Rattle.fx_traffic.specs.Sent.{Sent, Sends}
-use Rattle.fx_traffic.proofs.SentLemmas.{middle_changes, sent_laws}
+use Rattle.fx_traffic.specs.Sent.{Sent, Sends, sent_of}
+use Rattle.fx_traffic.proofs.SentLemmas.{sent_laws}
 use Rattle.fx_wire.specs.Exchanges.{Exchange, Seen}
 use Rattle.fx_flows.specs.Flows.{AreTold, AskedBatch, HasMemberCause, IsBatchRead, IsReadFor, IsShort, Passed}
-use Rattle.fx_flows.specs.Followed.{Followed, HasFlowed, HasPassedOn, HasTriedCause, IsEven, IsNext, IsPassedOn, IsSamePass, IsTriedCause, WireFlowed, all_sent, in_hand}
+use Rattle.fx_flows.specs.Followed.{Followed, HasFlowed, HasPassedOn, HasTriedCause, IsEven, IsNext, IsPassedOn, IsSamePass, IsTriedCause, WireFlowed, in_hand}
 use Rattle.fx_flows.specs.Lines.{IsOf, hand}
 use Rattle.fx_flows.specs.Parcels.{Finished, IsFinished, IsParcelOf, IsStepOf, created, made, made_by, next_of, of_finished, parcels, parcel_sent, parcels_sent, sent_for}
 use Rattle.fx_flows.specs.declared.flows.FlowError.{FlowError}
@@ -49,34 +49,62 @@ weight_created h xs ys = ap (sum_by h) (created_both xs ys) ∙ sum_by-append h 
 pub weight_finished : (h : Parcel → ℕ) (xs ys : List Finished) → sum_by h (of_finished (xs ++ ys)) ≡ sum_by h (of_finished xs) + sum_by h (of_finished ys)
 weight_finished h xs ys = ap (sum_by h) (finished_both xs ys) ∙ sum_by-append h (of_finished xs) (of_finished ys)
 
--- what was sent by two is what both sent
-pub sent_by_both : (es : List EndpointParts) (us : List unit.Unit) (xs ys : List Finished) (ps qs : List Parcel) (left more : List Sent) (es_x es_y : List Exchange)
-    → Sends (all_sent es us xs ps) left es_x → Sends (all_sent es us ys qs) more es_y → Sends (all_sent es us (xs ++ ys) (ps ++ qs)) (left ++ more) (es_x ++ es_y)
-sent_by_both es us xs ys ps qs left more es_x es_y h k =
-    let a : List Sent = parcels_sent es us (of_finished xs) in
-    let b : List Sent = parcels_sent es us ps in
-    let d : List Sent = parcels_sent es us (of_finished ys) in
-    let e : List Sent = parcels_sent es us qs in
-    let both : all_sent es us (xs ++ ys) (ps ++ qs) ≡ (a ++ d) ++ (b ++ e) =
-    ap (λ (v : List Parcel). parcels_sent es us v ++ parcels_sent es us (ps ++ qs)) (finished_both xs ys)
-    ∙ ap (λ (v : List Sent). v ++ parcels_sent es us (ps ++ qs)) (flat_map-append (parcel_sent es us) (of_finished xs) (of_finished ys))
-    ∙ ap (λ (v : List Sent). (a ++ d) ++ v) (flat_map-append (parcel_sent es us) ps qs) in
-    let together = sent_laws.together (a ++ b) left (d ++ e) more es_x es_y h k in
-    subst (λ (v : List Sent). Sends v (left ++ more) (es_x ++ es_y)) (sym both)
-    (IsPermutation-trans _ ((a ++ b) ++ (d ++ e)) ((a ++ d) ++ (b ++ e)) together (middle_changes a b d e))
+-- what was sent for the finished parcels of two, and what was begun for those that both tried
+pub ended_by_both : (es : List EndpointParts) (us : List unit.Unit) (xs ys : List Finished) (es_x es_y : List Exchange)
+    → Sends (parcels_sent es us (of_finished xs)) [] es_x → Sends (parcels_sent es us (of_finished ys)) [] es_y → Sends (parcels_sent es us (of_finished (xs ++ ys))) [] (es_x ++ es_y)
+ended_by_both es us xs ys es_x es_y h k =
+    let both : parcels_sent es us (of_finished (xs ++ ys)) ≡ parcels_sent es us (of_finished xs) ++ parcels_sent es us (of_finished ys) =
+    ap (parcels_sent es us) (finished_both xs ys) ∙ flat_map-append (parcel_sent es us) (of_finished xs) (of_finished ys) in
+    subst (λ (v : List Sent). Sends v [] (es_x ++ es_y)) (sym both)
+    (sent_laws.together (parcels_sent es us (of_finished xs)) [] (parcels_sent es us (of_finished ys)) [] es_x es_y h k)
+
+pub begun_by_both : (es : List EndpointParts) (us : List unit.Unit) (ps qs : List Parcel) (left more : List Sent) (es_x es_y : List Exchange)
+    → Sends (parcels_sent es us ps) left es_x → Sends (parcels_sent es us qs) more es_y → Sends (parcels_sent es us (ps ++ qs)) (left ++ more) (es_x ++ es_y)
+begun_by_both es us ps qs left more es_x es_y h k =
+    subst (λ (v : List Sent). Sends v (left ++ more) (es_x ++ es_y)) (sym (flat_map-append (parcel_sent es us) ps qs))
+    (sent_laws.together (parcels_sent es us ps) left (parcels_sent es us qs) more es_x es_y h k)
+
+-- where nothing is wanted, nothing was begun, and nothing is left
+pub none_begun : (left : List Sent) (xs : List Exchange) → Sends [] left xs → (xs ≡ []) × (left ≡ [])
+none_begun [] [] h = (refl, refl)
+none_begun (x ∷ left) [] h = (let long : 0 ≡ length (x ∷ left) = length_permutation (x ∷ left) [] h in absurd (omega (arith, long)))
+none_begun left (x ∷ xs) h = (let long : 0 ≡ length (map sent_of (x ∷ xs) ++ left) = length_permutation (map sent_of (x ∷ xs) ++ left) [] h in absurd (omega (arith, long)))
+
+-- where none was tried, either
+pub none_tried : (es : List EndpointParts) (us : List unit.Unit) (tried : List Parcel) (left : List Sent) (xs : List Exchange) → Sends (parcels_sent es us tried) left xs → tried ≡ [] → (xs ≡ []) × (left ≡ [])
+none_tried es us tried left xs h none = none_begun left xs (subst (λ (ps : List Parcel). Sends (parcels_sent es us ps) left xs) none h)
 
 -- ---- one thing after another
 
 module _ (alone : Bool) (es : List EndpointParts) (us : List unit.Unit) (c : RunShape) where
+  -- the wire went through all of it
+  pub all_passed : (s t : Seen) (from to : Hand) (given tried held : List Parcel) (rows : List Row) (h : WireFlowed alone s t es us c from to given tried held rows) → Passed alone h.failed s t h.exchanges
+  all_passed s t from to given tried held rows h =
+      subst (Passed alone h.failed s t) (sym h.parted) (passed_behind alone h.failed s h.between t h.ended h.begun h.unfailed h.stopped)
+
+  -- where none was tried it met no fault
+  pub passed_well : (s t : Seen) (from to : Hand) (given held : List Parcel) (rows : List Row) (h : WireFlowed alone s t es us c from to given [] held rows) → (h.exchanges ≡ h.ended) × Passed alone 0 s t h.ended
+  passed_well s t from to given held rows h =
+      let none : h.failed ≡ 0 = (let few : h.failed ≤ 0 = h.few in omega (arith, few)) in
+      let same : h.exchanges ≡ h.ended = h.parted ∙ ap (λ (v : List Exchange). h.ended ++ v) (none_begun h.left h.begun h.tied).0 ∙ append-nil h.ended in (
+        same,
+        subst (λ (n : ℕ). Passed alone n s t h.ended) none (subst (Passed alone h.failed s t) same (all_passed s t from to given [] held rows h)),
+      )
+
   pub in_turn : (s t v : Seen) (from mid to : Hand) (given held last tried : List Parcel) (rows more : List Row)
       → WireFlowed alone s t es us c from mid given [] held rows → WireFlowed alone t v es us c mid to held tried last more → WireFlowed alone s v es us c from to given tried last (rows ++ more)
   in_turn s t v from mid to given held last tried rows more h k =
-      let none : h.failed ≡ 0 = (let few : h.failed ≤ 0 = h.few in omega (arith, few)) in
+      let well = passed_well s t from mid given held rows h in
       record {
         exchanges = h.exchanges ++ k.exchanges;
+        ended = h.ended ++ k.ended;
+        begun = k.begun;
+        parted = ap (λ (l : List Exchange). l ++ k.exchanges) well.0 ∙ ap (λ (l : List Exchange). h.ended ++ l) k.parted ∙ sym (append_assoc h.ended k.ended k.begun);
+        between = k.between;
+        unfailed = passed_behind alone 0 s t k.between h.ended k.ended well.1 k.unfailed;
         failed = k.failed;
         few = k.few;
-        passed = passed_behind alone k.failed s t v h.exchanges k.exchanges (subst (λ (n : ℕ). Passed alone n s t h.exchanges) none h.passed) k.passed;
+        stopped = k.stopped;
         spent = h.spent ++ k.spent;
         finished = All-append (IsFinished c) h.spent k.spent h.finished k.finished;
         of_run = k.of_run;
@@ -86,33 +114,38 @@ module _ (alone : Bool) (es : List EndpointParts) (us : List unit.Unit) (c : Run
             let nil : sum_by w [] ≡ 0 = refl in
             omega (arith, one, two, nil, weight_created w h.spent k.spent, weight_finished w h.spent k.spent);
         rows_are = ap (λ (l : List Row). l ++ more) h.rows_are ∙ ap (λ (l : List Row). made c h.spent ++ l) k.rows_are ∙ sym (made_both c h.spent k.spent);
-        left = h.left ++ k.left;
-        sent = sent_by_both es us h.spent k.spent [] tried h.left k.left h.exchanges k.exchanges h.sent k.sent;
-        whole = λ e. ap (λ (v : List Sent). v ++ k.left) (h.whole refl) ∙ k.whole e;
+        sent = ended_by_both es us h.spent k.spent h.ended k.ended h.sent k.sent;
+        left = k.left;
+        tied = k.tied;
         short = All-append IsShort h.exchanges k.exchanges h.short k.short;
-        faultless = λ e. All-append (IsBatchRead (Contains us)) h.exchanges k.exchanges (h.faultless refl) (k.faultless e);
+        faultless = All-append (IsBatchRead (Contains us)) h.ended k.ended h.faultless k.faultless;
         steps = λ graphs told sound.
             All-append (IsStepOf (union graphs) us) h.spent k.spent (h.steps graphs told sound)
-            (k.steps graphs (same_told s.graph t.graph h.passed.same es graphs told) sound);
+            (k.steps graphs (same_told s.graph t.graph well.1.same es graphs told) sound);
       }
 
   -- nothing was asked for: parcels that were given or taken are those in hand
   pub at_rest : (s : Seen) (from to : Hand) (given held : List Parcel) → IsEven from to given [] [] held → WireFlowed alone s s es us c from to given [] held []
   at_rest s from to given held even = record {
     exchanges = [];
+    ended = [];
+    begun = [];
+    parted = refl;
+    between = s;
+    unfailed = passed_none alone s;
     failed = 0;
     few = omega arith;
-    passed = passed_none alone s;
+    stopped = passed_none alone s;
     spent = [];
     finished = All-nil (IsFinished c);
     of_run = All-nil (IsParcelOf c);
     even = even;
     rows_are = refl;
-    left = [];
     sent = IsPermutation-refl [];
-    whole = λ e. refl;
+    left = [];
+    tied = IsPermutation-refl [];
     short = All-nil IsShort;
-    faultless = λ e. All-nil (IsBatchRead (Contains us));
+    faultless = All-nil (IsBatchRead (Contains us));
     steps = λ graphs told sound. All-nil (IsStepOf (union graphs) us);
   }
 
@@ -151,9 +184,14 @@ module _ (alone : Bool) (es : List EndpointParts) (us : List unit.Unit) (c : Run
         let f : Finished = record { of = p; found = found; cut = cut } in
         record {
           exchanges = k.exchanges;
-          failed = k.failed;
-          few = (let none : k.failed ≡ 0 = k.unfailed in omega (arith, none));
-          passed = k.passed;
+          ended = k.exchanges;
+          begun = [];
+          parted = sym (append-nil k.exchanges);
+          between = t;
+          unfailed = subst (λ (n : ℕ). Passed alone n s t k.exchanges) k.unfailed k.passed;
+          failed = 0;
+          few = omega arith;
+          stopped = passed_none alone t;
           spent = f ∷ [];
           finished = All-from_recursion (IsFinished c) (f ∷ []) (record { of_run = of_run; last = fin.0; more = fin.1 }, tt);
           of_run = All-nil (IsParcelOf c);
@@ -165,11 +203,11 @@ module _ (alone : Bool) (es : List EndpointParts) (us : List unit.Unit) (c : Run
               let nil : sum_by w [] ≡ 0 = refl in
               omega (arith, balance, took_is, next, nil, sum_by-cons w p []);
           rows_are = sym (append-nil (made_by c f));
-          left = k.left;
-          sent = subst (λ (v : List Sent). Sends v k.left k.exchanges) (sym (append-nil (parcel_sent es us p ++ []))) (sent_is k.left k.exchanges k.sent);
-          whole = λ e. k.whole;
+          sent = subst (λ (v : List Sent). Sends (parcel_sent es us p ++ []) v k.exchanges) k.whole (sent_is k.left k.exchanges k.sent);
+          left = [];
+          tied = IsPermutation-refl [];
           short = k.short;
-          faultless = λ e. all_read k.exchanges k.faultless;
+          faultless = all_read k.exchanges k.faultless;
           steps = λ graphs told sound. All-from_recursion (IsStepOf (union graphs) us) (f ∷ []) ((λ v at'. its_step graphs told sound v (same_unit v at')), tt);
         }
       where
@@ -183,9 +221,14 @@ module _ (alone : Bool) (es : List EndpointParts) (us : List unit.Unit) (c : Run
     pub tried_one : (r : Result (List Row) FlowError) → AskedBatch alone s t es (record { unit = u; rows = p.rows }) r → to ≡ from → WireFlowed alone s t es us c from to (p ∷ []) (p ∷ []) [] []
     tried_one r k same = record {
       exchanges = k.exchanges;
+      ended = [];
+      begun = k.exchanges;
+      parted = refl;
+      between = s;
+      unfailed = passed_none alone s;
       failed = k.failed;
       few = k.once;
-      passed = k.passed;
+      stopped = k.passed;
       spent = [];
       finished = All-nil (IsFinished c);
       of_run = All-from_recursion (IsParcelOf c) (p ∷ []) (of_run, tt);
@@ -195,11 +238,11 @@ module _ (alone : Bool) (es : List EndpointParts) (us : List unit.Unit) (c : Run
           let nil : sum_by w [] ≡ 0 = refl in
           omega (arith, put, took, nil);
       rows_are = refl;
+      sent = IsPermutation-refl [];
       left = k.left;
-      sent = sent_is k.left k.exchanges k.sent;
-      whole = λ e. cc;
+      tied = sent_is k.left k.exchanges k.sent;
       short = k.short;
-      faultless = λ e. cc;
+      faultless = All-nil (IsBatchRead (Contains us));
       steps = λ graphs told sound. All-nil (IsStepOf (union graphs) us);
     }
 
@@ -307,7 +350,7 @@ module _ (alone : Bool) (es : List EndpointParts) (us : List unit.Unit) (c : Run
         (subst (λ (l : List Row). WireFlowed alone s v es us c from to [] f.tried f.held l) (sym f.ended.2) all))
 
     pub worked_until : (why : FlowError) → Followed alone t v es us c taken to p rows now (Err why) → HasFlowed alone s v es us c from to (Err why)
-    unfolding in_turn with_next
+    unfolding in_turn
     worked_until why f = record {
       tried = f.tried;
       one = f.one;
@@ -315,11 +358,8 @@ module _ (alone : Bool) (es : List EndpointParts) (us : List unit.Unit) (c : Run
       rows = rows ++ f.rows;
       did = in_turn alone es us c s t v from taken to [] (p ∷ []) f.held f.tried rows f.rows with_next f.did;
       ended = tt;
-      cause = cause_in_turn alone s t v es us f.tried with_next.exchanges f.did.exchanges why (in_no_fault with_next) f.cause;
+      cause = f.cause;
     }
-      where
-        in_no_fault : (w : WireFlowed alone s t es us c from taken [] [] (p ∷ []) rows) → Passed alone 0 s t w.exchanges
-        in_no_fault w = subst (λ (n : ℕ). Passed alone n s t w.exchanges) (let few : w.failed ≤ 0 = w.few in omega (arith, few)) w.passed
 
   -- nothing is in hand, and none came
   pub worked_out : (s t : Seen) (from mid to : Hand) (before : Option Parcel) (waits : Bool) (made_rows : Vec Row Global)

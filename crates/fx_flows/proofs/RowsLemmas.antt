@@ -1,5 +1,5 @@
 -- The rows behind units, unit by unit, and then those behind the units that are left.
-use Rattle.std.proofs.Common.{◌≡◌, ◌∙◌, ap, sym, subst, ℕ, ◌<◌, ◌≤◌, Bool, List, [], ◌∷◌, map, Result, Ok, Err, All, length, arith}
+use Rattle.std.proofs.Common.{◌≡◌, ◌∙◌, ap, sym, subst, ℕ, ◌≤◌, Bool, List, [], ◌∷◌, map, Result, Ok, Err, All, length, arith}
 use Rattle.std.proofs.lemmas.List.Elements.{All-from_recursion, All-weaker, recursion_from_All}
 use Rattle.fx_outside.specs.Endpoints.{EndpointParts}
 use Rattle.fx_algebra.specs.declared.units.Row.{Row}
@@ -8,11 +8,9 @@ use Rattle.fx_traffic.specs.Batches.{AreCut, IsSized, joined}
 use Rattle.fx_wire.specs.Exchanges.{Seen}
 use Rattle.fx_flows.specs.RunFlows.{RunFlowed}
 use Rattle.fx_flows.specs.RunLaws.{AllTell}
-use Rattle.fx_flows.specs.Teams.{StepAsked}
 use Rattle.fx_flows.specs.declared.flows.FlowError.{FlowError}
 use Rattle.fx_pool.proofs.WiresLemmas.{all_tell}
 use Rattle.fx_flows.proofs.FlowLemmas.{no_rows}
-use Rattle.fx_flows.proofs.TeamStepLemmas.{step_flowed}
 use Rattle.fx_flows.proofs.TurnLemmas.{run_in_turn, run_of_none, run_refused}
 
 pub of_first : {X : Type 0} (P : X → Type 0) (xs : List X) (x : X) (rest : List X) → xs ≡ x ∷ rest → All P xs → P x × All P rest

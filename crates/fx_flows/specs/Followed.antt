@@ -1,5 +1,5 @@
 -- What workers did with the parcels of a run: what they finished, what they were at when they ended, and what their wires exchanged.
-use Rattle.std.specs.Prelude.{◌≡◌, ◌<◌, ◌≤◌, ◌+◌, ◌++◌, ◌⊎◌, ℕ, Bool, false, true, List, [], ◌∷◌, Option, Some, None, IfOk, IfErr, IsTrue, All, Contains, Result, Ok, Err, length, slice_get, sum_by}
+use Rattle.std.specs.Prelude.{◌≡◌, ◌<◌, ◌≤◌, ◌+◌, ◌++◌, ◌⊎◌, ℕ, Bool, false, true, List, [], ◌∷◌, Option, Some, None, IfOk, IfErr, IsTrue, All, Contains, IsPermutation, Result, Ok, Err, length, slice_get, sum_by}
 use Rattle.std.specs.declared.alloc.Global.{Global}
 use Rattle.std.specs.declared.vec.Vec.{Vec}
 use Rattle.fx_terms.specs.declared.allocation.Memory.{Memory}
@@ -31,28 +31,30 @@ abbrev pub IsEven : Hand → Hand → List Parcel → List Finished → List Par
 IsEven from to given spent tried held = (h : Parcel → ℕ)
     → ((sum_by h to.took + sum_by h from.put) + sum_by h given) + sum_by h (created spent) ≡ ((sum_by h to.put + sum_by h from.took) + sum_by h (of_finished spent)) + (sum_by h tried + sum_by h held)
 
--- what these parcels send
-abbrev pub all_sent : List EndpointParts → List unit.Unit → List Finished → List Parcel → List Sent
-all_sent es us spent tried = parcels_sent es us (of_finished spent) ++ parcels_sent es us tried
-
 -- ---- one wire
 
--- With one wire these were finished and those were tried, which a fault or want of memory ended; each text was sent once at most, and once where none was tried.
+-- With one wire these were finished and those were tried, which a fault or want of memory ended. It went through what was exchanged for the finished ones first, without a fault: each of their
+-- texts once to each member, and each reply read. Behind that it went through what was begun for those that were tried: each of their texts once at most.
 pub record WireFlowed (alone : Bool) (before after : Seen) (es : List EndpointParts) (us : List unit.Unit) (c : RunShape) (from to : Hand) (given tried held : List Parcel) (rows : List Row) : Type 0 where
   pub exchanges : List Exchange
+  pub ended : List Exchange
+  pub begun : List Exchange
+  pub parted : exchanges ≡ ended ++ begun
+  pub between : Seen
+  pub unfailed : Passed alone 0 before between ended
   pub failed : ℕ
   pub few : failed ≤ length tried
-  pub passed : Passed alone failed before after exchanges
+  pub stopped : Passed alone failed between after begun
   pub spent : List Finished
   pub finished : All (IsFinished c) spent
   pub of_run : All (IsParcelOf c) tried
   pub even : IsEven from to given spent tried held
   pub rows_are : rows ≡ made c spent
+  pub sent : Sends (parcels_sent es us (of_finished spent)) [] ended
   pub left : List Sent
-  pub sent : Sends (all_sent es us spent tried) left exchanges
-  pub whole : tried ≡ [] → left ≡ []
+  pub tied : Sends (parcels_sent es us tried) left begun
   pub short : All IsShort exchanges
-  pub faultless : tried ≡ [] → All (IsBatchRead (Contains us)) exchanges
+  pub faultless : All (IsBatchRead (Contains us)) ended
   pub steps : (graphs : List (List Triple)) → AreTold before.graph es graphs → All (IsSound graphs) us → All (IsStepOf (union graphs) us) spent
 
 -- the cause at one of the parcels that were tried
@@ -91,7 +93,7 @@ pub record Followed (alone : Bool) (before after : Seen) (es : List EndpointPart
   pub rows : List Row
   pub did : WireFlowed alone before after es us c from to (p ∷ []) tried held rows
   pub ended : IfOk result (λ next. (tried ≡ []) × (held ≡ in_hand next) × (now ≡ was ++ rows) × All (IsParcelOf c) (in_hand next))
-  pub cause : IfErr result (HasTriedCause before after es us tried did.exchanges)
+  pub cause : IfErr result (HasTriedCause did.between after es us tried did.begun)
 
 -- The rows that were found for a parcel joined those behind the last unit, or were cut, put, and one batch of them kept in hand. Where memory ran out that was
 -- done in part, or not begun.
@@ -132,7 +134,7 @@ pub record HasFlowed (alone : Bool) (before after : Seen) (es : List EndpointPar
   pub rows : List Row
   pub did : WireFlowed alone before after es us c from to [] tried held rows
   pub ended : IfOk result (λ made. (tried ≡ []) × (held ≡ []) × (made.items ≡ rows))
-  pub cause : IfErr result (HasTriedCause before after es us tried did.exchanges)
+  pub cause : IfErr result (HasTriedCause did.between after es us tried did.begun)
 
 -- ---- several wires
 
@@ -140,12 +142,16 @@ pub record HasFlowed (alone : Bool) (before after : Seen) (es : List EndpointPar
 abbrev pub IsSamePass : Hand → Hand → Type 0
 IsSamePass from to = (to.parts ≡ from.parts) × (to.shape ≡ from.shape)
 
--- so it is of workers with several wires
+-- So it is of workers with several wires: what these exchanged, one wire's part behind the other's, is what was exchanged for the parcels that were finished, and what was begun for those that
+-- were tried.
 pub record WiresFlowed (tells alone : Bool) (before after : List Seen) (es : List EndpointParts) (us : List unit.Unit) (c : RunShape) (from to : Hand) (tried held : List Parcel) (rows : List Row) : Type 0 where
   pub exchanges : List Exchange
   pub gained : IsTrue tells → HaveGained before after exchanges
   pub honest : All (IsHonestOver before) exchanges
   pub after_all : AreAfter before after
+  pub ended : List Exchange
+  pub begun : List Exchange
+  pub parted : IsPermutation (ended ++ begun) exchanges
   pub failed : ℕ
   pub few : failed ≤ length tried
   pub counted : IsTrue alone → (address : List ℕ) → faults_at after address ≤ faults_at before address + failed
@@ -154,11 +160,11 @@ pub record WiresFlowed (tells alone : Bool) (before after : List Seen) (es : Lis
   pub of_run : All (IsParcelOf c) tried
   pub even : IsEven from to [] spent tried held
   pub rows_are : rows ≡ made c spent
+  pub sent : Sends (parcels_sent es us (of_finished spent)) [] ended
   pub left : List Sent
-  pub sent : Sends (all_sent es us spent tried) left exchanges
-  pub whole : tried ≡ [] → left ≡ []
+  pub tied : Sends (parcels_sent es us tried) left begun
   pub short : All IsShort exchanges
-  pub faultless : tried ≡ [] → All (IsBatchRead (Contains us)) exchanges
+  pub faultless : All (IsBatchRead (Contains us)) ended
   pub steps : (graphs : List (List Triple)) → TellAll before es graphs → All (IsSound graphs) us → All (IsStepOf (union graphs) us) spent
 
 pub record HaveFlowed (tells alone : Bool) (before after : List Seen) (es : List EndpointParts) (us : List unit.Unit) (c : RunShape) (from to : Hand) (result : Result (Vec Row Global) FlowError) : Type 0 where
