@@ -13,7 +13,7 @@ use Rattle.fx_terms.proofs.SetLemmas.{Among, among_from, contains_from}
 use Rattle.fx_outside.specs.Endpoints.{EndpointParts}
 use Rattle.fx_algebra.specs.Graphs.{union}
 use Rattle.fx_algebra.specs.Solutions.{Bindings}
-use Rattle.fx_algebra.specs.Units.{row_of}
+use Rattle.fx_algebra.specs.Units.{graph_of, row_of}
 use Rattle.fx_algebra.specs.declared.units.Row.{Row}
 use Rattle.fx_algebra.specs.declared.units.Unit as unit
 use Rattle.fx_algebra.proofs.MemberLemmas.{among_flat_map, among_left, among_right}
@@ -21,7 +21,7 @@ use Rattle.fx_spelling.specs.Units.{IsSound}
 use Rattle.fx_bound.specs.Parts.{Parts}
 use Rattle.fx_steps.specs.Steps.{numbered, stepped}
 use Rattle.fx_traffic.specs.Batches.{AreCut, IsBatchText}
-use Rattle.fx_traffic.specs.Gains.{AreAfter, Tell, TellAll, faults_at}
+use Rattle.fx_traffic.specs.Gains.{AreAfter, IsMemberIn, Tell, TellOf, faults_at}
 use Rattle.fx_traffic.specs.Sent.{Sent, Sends}
 use Rattle.fx_traffic.proofs.CutLemmas.{batch_laws}
 use Rattle.fx_traffic.proofs.GainLemmas.{gain_laws}
@@ -43,7 +43,7 @@ use Rattle.fx_pool.proofs.BesideLemmas.{after_beside, back_all, front_all}
 use Rattle.fx_flows.proofs.FollowLemmas.{all_passed, begun_by_both, cause_in_turn, ended_by_both, made_both, none_tried, weight_created, weight_finished}
 use Rattle.fx_flows.proofs.ParcelLemmas.{all_rows, finished_of_run, may_be_sent, stepped_none, texts_in_turn, turned}
 use Rattle.fx_pool.proofs.WireLemmas.{after_itself, honest_over}
-use Rattle.fx_pool.proofs.WiresLemmas.{AllTell, all_after, as_many, gained_both, still_tell, still_tell_all}
+use Rattle.fx_pool.proofs.WiresLemmas.{AllTell, all_after, as_many, gained_both, still_tell, still_tell_of}
 
 -- ---- rows under their numbers
 
@@ -59,17 +59,15 @@ numbered_length n (s ∷ solutions) = ap suc (numbered_length (suc n) solutions)
 
 -- ---- what wires tell
 
-pub told_front : (s u : List Seen) (es : List EndpointParts) (graphs : List (List Triple)) → TellAll (s ++ u) es graphs → TellAll s es graphs
-told_front s u [] [] h = tt
-told_front s u [] (g ∷ graphs) h = absurd h
-told_front s u (e ∷ es) [] h = absurd h
-told_front s u (e ∷ es) (g ∷ graphs) h = (front_all (λ (w : Seen). w.graph e.iri ≡ Some g) s u h.0, told_front s u es graphs h.1)
+pub told_front : (s u : List Seen) (es : List EndpointParts) (graphs : List (List Triple)) (Of : ℕ → Type 0) → TellOf (s ++ u) es graphs Of → TellOf s es graphs Of
+told_front s u es graphs Of h = λ at e of found. front_all (λ (w : Seen). w.graph e.iri ≡ Some (graph_of graphs at)) s u (h at e of found)
 
-pub told_back : (s u : List Seen) (es : List EndpointParts) (graphs : List (List Triple)) → TellAll (s ++ u) es graphs → TellAll u es graphs
-told_back s u [] [] h = tt
-told_back s u [] (g ∷ graphs) h = absurd h
-told_back s u (e ∷ es) [] h = absurd h
-told_back s u (e ∷ es) (g ∷ graphs) h = (back_all (λ (w : Seen). w.graph e.iri ≡ Some g) s u h.0, told_back s u es graphs h.1)
+pub told_back : (s u : List Seen) (es : List EndpointParts) (graphs : List (List Triple)) (Of : ℕ → Type 0) → TellOf (s ++ u) es graphs Of → TellOf u es graphs Of
+told_back s u es graphs Of h = λ at e of found. back_all (λ (w : Seen). w.graph e.iri ≡ Some (graph_of graphs at)) s u (h at e of found)
+
+-- so it is of fewer numbers
+pub told_fewer : (wires : List Seen) (es : List EndpointParts) (graphs : List (List Triple)) (Of Fewer : ℕ → Type 0) → ((at : ℕ) → Fewer at → Of at) → TellOf wires es graphs Of → TellOf wires es graphs Fewer
+told_fewer wires es graphs Of Fewer fewer h = λ at e of found. h at e (fewer at of) found
 
 -- ---- causes, of some of the wires and exchanges, are causes of all of them
 
@@ -130,11 +128,8 @@ module _ (tells alone : Bool) (w t : Seen) (others : List Seen) (es : List Endpo
   first_tells : (address : List ℕ) (g : List Triple) → Tell (w ∷ others) address g → w.graph address ≡ Some g
   first_tells address g told = (recursion_from_All (λ (s : Seen). s.graph address ≡ Some g) (w ∷ others) told).0
 
-  first_told : (all : List EndpointParts) (graphs : List (List Triple)) → TellAll (w ∷ others) all graphs → AreTold w.graph all graphs
-  first_told [] [] told = tt
-  first_told [] (g ∷ graphs) told = absurd told
-  first_told (e ∷ all) [] told = absurd told
-  first_told (e ∷ all) (g ∷ graphs) told = (first_tells e.iri g told.0, first_told all graphs told.1)
+  first_told : (graphs : List (List Triple)) → TellOf (w ∷ others) es graphs (IsMemberIn us) → AreTold w.graph es graphs (IsMemberIn us)
+  first_told graphs told = λ at e of found. first_tells e.iri (graph_of graphs at) (told at e of found)
 
   counts : (first : Seen) (address : List ℕ) → faults_at (first ∷ others) address ≡ first.faults address + faults_at others address
   counts first address = sum_by-cons (λ (s : Seen). s.faults address) first others
@@ -179,7 +174,7 @@ module _ (tells alone : Bool) (w t : Seen) (others : List Seen) (es : List Endpo
         tied = h.tied;
         short = h.short;
         faultless = h.faultless;
-        steps = λ graphs told sound. h.steps graphs (first_told es graphs told) sound;
+        steps = λ graphs told sound. h.steps graphs (first_told graphs told) sound;
       }
 
   -- a cause at a parcel that was tried is one of the run
@@ -290,7 +285,7 @@ module _ (tells alone : Bool) (es : List EndpointParts) (us : List unit.Unit) (c
     short = All-append IsShort h.exchanges k.exchanges h.short k.short;
     faultless = All-append (IsBatchRead (Contains us)) h.ended k.ended h.faultless k.faultless;
     steps = λ graphs told sound.
-        All-append (IsStepOf (union graphs) us) h.spent k.spent (h.steps graphs (told_front s u es graphs told) sound) (k.steps graphs (told_back s u es graphs told) sound);
+        All-append (IsStepOf (union graphs) us) h.spent k.spent (h.steps graphs (told_front s u es graphs (IsMemberIn us) told) sound) (k.steps graphs (told_back s u es graphs (IsMemberIn us) told) sound);
   }
 
   -- of the result of both there is a cause where there was one of either
@@ -469,7 +464,7 @@ then_flowed tells alone es us c from mid to s t v made_rows b o s_tells t_tells 
       short = All-permutation IsShort (h.did.exchanges ++ k.did.exchanges) gained.all gained.same (All-append IsShort h.did.exchanges k.did.exchanges h.did.short k.did.short);
       faultless = All-append (IsBatchRead (Contains us)) h.did.ended k.did.ended h.did.faultless k.did.faultless;
       steps = λ graphs told sound.
-          All-append (IsStepOf (union graphs) us) h.did.spent k.did.spent (h.did.steps graphs told sound) (k.did.steps graphs (still_tell_all s t h.did.after_all es graphs told) sound);
+          All-append (IsStepOf (union graphs) us) h.did.spent k.did.spent (h.did.steps graphs told sound) (k.did.steps graphs (still_tell_of s t h.did.after_all es graphs (IsMemberIn us) told) sound);
     } in
     record {
       tried = h.tried ++ k.tried;
@@ -554,7 +549,7 @@ module _ (tells alone : Bool) (es : List EndpointParts) (us : List unit.Unit) (c
       by_ok (Err why) f k = tt
 
       done : (o : Result RowList FlowError) → IfOk o (λ made. (h.tried ≡ []) × (h.held ≡ []) × (made.items ≡ h.rows)) → IfOk o (λ made. SameParcels to.put to.took)
-          → IfOk (rows_in o) (λ next. (graphs : List (List Triple)) → TellAll s es graphs → All (IsSound graphs) us → IsPermutation next (stepped (union graphs) us rows))
+          → IfOk (rows_in o) (λ next. (graphs : List (List Triple)) → TellOf s es graphs (IsMemberIn us) → All (IsSound graphs) us → IsPermutation next (stepped (union graphs) us rows))
       done (Err why) k e = tt
       done (Ok made_rows) k e = λ graphs told sound.
           subst (λ (l : List Row). IsPermutation l (stepped (union graphs) us rows)) (append-nil (made c h.did.spent) ∙ sym h.did.rows_are ∙ sym k.2)

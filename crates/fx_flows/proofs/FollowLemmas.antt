@@ -17,6 +17,7 @@ use Rattle.fx_algebra.specs.declared.units.Row.{Row}
 use Rattle.fx_algebra.specs.declared.units.Unit as unit
 use Rattle.fx_spelling.specs.Units.{IsSound}
 use Rattle.fx_traffic.specs.Batches.{AreCut}
+use Rattle.fx_traffic.specs.Gains.{IsMemberIn}
 use Rattle.fx_traffic.specs.Sent.{Sent, Sends, sent_of}
 use Rattle.fx_traffic.proofs.SentLemmas.{sent_laws}
 use Rattle.fx_wire.specs.Exchanges.{Exchange, Seen}
@@ -121,7 +122,7 @@ module _ (alone : Bool) (es : List EndpointParts) (us : List unit.Unit) (c : Run
         faultless = All-append (IsBatchRead (Contains us)) h.ended k.ended h.faultless k.faultless;
         steps = λ graphs told sound.
             All-append (IsStepOf (union graphs) us) h.spent k.spent (h.steps graphs told sound)
-            (k.steps graphs (same_told s.graph t.graph well.1.same es graphs told) sound);
+            (k.steps graphs (same_told s.graph t.graph well.1.same es graphs (IsMemberIn us) told) sound);
       }
 
   -- nothing was asked for: parcels that were given or taken are those in hand
@@ -214,8 +215,8 @@ module _ (alone : Bool) (es : List EndpointParts) (us : List unit.Unit) (c : Run
         same_unit : (v : unit.Unit) → slice_get us p.step ≡ Some v → u ≡ v
         same_unit v at' = let e : Some u ≡ Some v = sym at ∙ at' in cc
 
-        its_step : (graphs : List (List Triple)) → AreTold s.graph es graphs → All (IsSound graphs) us → (v : unit.Unit) → u ≡ v → IsPermutation found (step (union graphs) v p.rows)
-        its_step graphs told sound v same = subst (λ (x : unit.Unit). IsPermutation found (step (union graphs) x p.rows)) same (k.done graphs told (All-contains (IsSound graphs) us u sound its))
+        its_step : (graphs : List (List Triple)) → AreTold s.graph es graphs (IsMemberIn us) → All (IsSound graphs) us → (v : unit.Unit) → u ≡ v → IsPermutation found (step (union graphs) v p.rows)
+        its_step graphs told sound v same = subst (λ (x : unit.Unit). IsPermutation found (step (union graphs) x p.rows)) same (k.done graphs (λ n e m found. told n e (u, its, m) found) (All-contains (IsSound graphs) us u sound its))
 
     -- it was tried, and something ended that
     pub tried_one : (r : Result (List Row) FlowError) → AskedBatch alone s t es (record { unit = u; rows = p.rows }) r → to ≡ from → WireFlowed alone s t es us c from to (p ∷ []) (p ∷ []) [] []

@@ -77,15 +77,8 @@ cause_behind s t u e p xs ys flow.Memory alone m h k = tt
 
 -- ---- what members give
 
-told_at : (graph : List ℕ → Option (List Triple)) (es : List EndpointParts) (graphs : List (List Triple)) (at : ℕ) (e : EndpointParts) → AreTold graph es graphs → slice_get es at ≡ Some e → graph e.iri ≡ Some (graph_of graphs at)
-told_at graph [] [] at e h found = cc
-told_at graph [] (g ∷ gs) at e h found = absurd h
-told_at graph (f ∷ es) [] at e h found = absurd h
-told_at graph (f ∷ es) (g ∷ gs) zero e h found = let same : f ≡ e = cc in subst (λ (v : EndpointParts). graph v.iri ≡ Some g) same h.0
-told_at graph (f ∷ es) (g ∷ gs) (suc at) e h found = told_at graph es gs at e h.1 found
-
-pub same_told : (before after : List ℕ → Option (List Triple)) → ((address : List ℕ) → after address ≡ before address) → (es : List EndpointParts) (graphs : List (List Triple)) → AreTold before es graphs → AreTold after es graphs
-same_told before after same es graphs h = subst (λ (g : List ℕ → Option (List Triple)). AreTold g es graphs) (λ i address. sym (same address) i) h
+pub same_told : (before after : List ℕ → Option (List Triple)) → ((address : List ℕ) → after address ≡ before address) → (es : List EndpointParts) (graphs : List (List Triple)) (Of : ℕ → Type 0) → AreTold before es graphs Of → AreTold after es graphs Of
+same_told before after same es graphs Of h = λ at e of found. same e.iri ∙ h at e of found
 
 read_more : (graphs : List (List Triple)) (p : Parts) (members : List ℕ) (lists : List (List Found)) (at : ℕ) (founds : List Found) → AreReadOf graphs p members lists → IsRead (graph_of graphs at) p founds → AreReadOf graphs p (members ++ at ∷ []) (lists ++ founds ∷ [])
 read_more graphs p [] [] at founds h k = (k, tt)
@@ -130,7 +123,9 @@ module _ (alone : Bool) (s t u : Seen) (es : List EndpointParts) (p : Parts) (me
     whole = ap (λ (v : List Sent). v ++ k.left) h.whole ∙ k.whole;
     short = All-append IsShort h.exchanges k.exchanges h.short k.short;
     faultless = All-append (IsReadFor p) h.exchanges k.exchanges h.faultless k.faultless;
-    read = λ graphs told. read_more graphs p members lists at founds (h.read graphs told) (k.read (graph_of graphs at) (told_at t.graph es graphs at k.endpoint (same_told s.graph t.graph h.passed.same es graphs told) k.found));
+    read = λ graphs told.
+        read_more graphs p members lists at founds (h.read graphs (λ n e m found. told n e (contains_from (members ++ at ∷ []) n (among_left n members (at ∷ []) (among_from members n m))) found))
+        (k.read (graph_of graphs at) (h.passed.same k.endpoint.iri ∙ told at k.endpoint (contains_from (members ++ at ∷ []) at (among_right at members (at ∷ []) (inl refl))) k.found));
     cause = tt;
   }
 

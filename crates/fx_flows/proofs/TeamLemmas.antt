@@ -13,14 +13,14 @@ use Rattle.fx_wire.specs.Honest.{IsHonest}
 use Rattle.fx_terms.specs.declared.triples.Triple.{Triple}
 use Rattle.fx_outside.specs.Endpoints.{EndpointParts}
 use Rattle.fx_algebra.specs.Graphs.{union}
-use Rattle.fx_algebra.specs.Units.{step}
+use Rattle.fx_algebra.specs.Units.{graph_of, step}
 use Rattle.fx_algebra.specs.declared.units.Row.{Row}
 use Rattle.fx_spelling.specs.Units.{IsSound}
 use Rattle.fx_bound.specs.Answers.{AreReadOf, numbers}
 use Rattle.fx_bound.specs.Parts.{Parts}
 use Rattle.fx_founds.specs.declared.founds.Found.{Found}
 use Rattle.fx_traffic.specs.Batches.{member_sent, unit_sent}
-use Rattle.fx_traffic.specs.Gains.{AreAfter, HaveGained, Tell, TellAll, faults_at}
+use Rattle.fx_traffic.specs.Gains.{AreAfter, HaveGained, Tell, TellOf, faults_at}
 use Rattle.fx_traffic.specs.Sent.{Sent, Sends}
 use Rattle.fx_traffic.proofs.GainLemmas.{gain_laws}
 use Rattle.fx_traffic.proofs.SentLemmas.{sent_laws}
@@ -33,7 +33,7 @@ use Rattle.fx_pool.specs.Posting.{IsHonestAt}
 use Rattle.fx_pool.specs.Runs.{IsHonestOver}
 use Rattle.fx_pool.proofs.BesideLemmas.{after_beside, back_all, front_all}
 use Rattle.fx_pool.proofs.WireLemmas.{after_itself, honest_over}
-use Rattle.fx_flows.proofs.FlowLemmas.{behind, in_front, told_back, told_front}
+use Rattle.fx_flows.proofs.FlowLemmas.{behind, in_front, told_back, told_fewer, told_front}
 
 -- ---- causes, of some of the wires, members and exchanges, are causes of all of them
 
@@ -71,11 +71,8 @@ module _ (tells alone : Bool) (w t : Seen) (others : List Seen) (es : List Endpo
   first_tells : (address : List ℕ) (g : List Triple) → Tell (w ∷ others) address g → w.graph address ≡ Some g
   first_tells address g told = (recursion_from_All (λ (s : Seen). s.graph address ≡ Some g) (w ∷ others) told).0
 
-  first_told : (all : List EndpointParts) (graphs : List (List Triple)) → TellAll (w ∷ others) all graphs → AreTold w.graph all graphs
-  first_told [] [] told = tt
-  first_told [] (g ∷ graphs) told = absurd told
-  first_told (e ∷ all) [] told = absurd told
-  first_told (e ∷ all) (g ∷ graphs) told = (first_tells e.iri g told.0, first_told all graphs told.1)
+  first_told : (graphs : List (List Triple)) → TellOf (w ∷ others) es graphs (Contains members) → AreTold w.graph es graphs (Contains members)
+  first_told graphs told = λ at e of found. first_tells e.iri (graph_of graphs at) (told at e of found)
 
   counts : (first : Seen) (address : List ℕ) → faults_at (first ∷ others) address ≡ first.faults address + faults_at others address
   counts first address = sum_by-cons (λ (s : Seen). s.faults address) first others
@@ -123,9 +120,9 @@ module _ (tells alone : Bool) (w t : Seen) (others : List Seen) (es : List Endpo
     cause = cause r h.cause;
   }
     where
-      read : (o : Result (List (List Found)) FlowError) → IfOk o (λ lists. (graphs : List (List Triple)) → AreTold w.graph es graphs → AreReadOf graphs p members lists)
-          → IfOk o (λ lists. (graphs : List (List Triple)) → TellAll (w ∷ others) es graphs → AreReadOf graphs p members lists)
-      read (Ok lists) k = λ graphs told. k graphs (first_told es graphs told)
+      read : (o : Result (List (List Found)) FlowError) → IfOk o (λ lists. (graphs : List (List Triple)) → AreTold w.graph es graphs (Contains members) → AreReadOf graphs p members lists)
+          → IfOk o (λ lists. (graphs : List (List Triple)) → TellOf (w ∷ others) es graphs (Contains members) → AreReadOf graphs p members lists)
+      read (Ok lists) k = λ graphs told. k graphs (first_told graphs told)
       read (Err why) k = tt
 
       cause : (o : Result (List (List Found)) FlowError) → IfErr o (HasMemberCause w t es p members h.exchanges) → IfErr o (HasAskedCause (w ∷ others) (t ∷ others) es p members h.exchanges)
@@ -151,12 +148,18 @@ abbrev AreNumbered : Parts → List (List Found) → Type 0
 AreNumbered p lists = All (λ list. All (λ (f : Found). Contains (numbers p) f.branch) list) lists
 
 abbrev AreRead : List EndpointParts → Parts → List Seen → List ℕ → List (List Found) → Type 0
-AreRead es p wires members lists = (graphs : List (List Triple)) → TellAll wires es graphs → AreReadOf graphs p members lists
+AreRead es p wires members lists = (graphs : List (List Triple)) → TellOf wires es graphs (Contains members) → AreReadOf graphs p members lists
 
 abbrev Lists : Type 0
 Lists = Vec (List Found) Global
 
 module _ (tells alone : Bool) (es : List EndpointParts) (p : Parts) (s t u v : List Seen) (here there : List ℕ) where
+  told_here : (graphs : List (List Triple)) → TellOf (s ++ u) es graphs (Contains (here ++ there)) → TellOf s es graphs (Contains here)
+  told_here graphs told = told_fewer s es graphs (Contains (here ++ there)) (Contains here) (λ at m. in_front here there at m) (told_front s u es graphs (Contains (here ++ there)) told)
+
+  told_there : (graphs : List (List Triple)) → TellOf (s ++ u) es graphs (Contains (here ++ there)) → TellOf u es graphs (Contains there)
+  told_there graphs told = told_fewer u es graphs (Contains (here ++ there)) (Contains there) (λ at m. behind here there at m) (told_back s u es graphs (Contains (here ++ there)) told)
+
   left_wider : (xs ys : List Exchange) → AreAfter u v → (why : FlowError) → HasAskedCause s t es p here xs why → HasAskedCause (s ++ u) (t ++ v) es p (here ++ there) (xs ++ ys) why
   left_wider xs ys after why k =
       has_asked_wider s t (s ++ u) (t ++ v) es p here (here ++ there) xs (xs ++ ys)
@@ -226,7 +229,7 @@ module _ (tells alone : Bool) (es : List EndpointParts) (p : Parts) (s t u v : L
 
       read : (a b o : Result Lists FlowError) → AreListsOfBoth a b o → IfOk (lists_in a) (AreRead es p s here) → IfOk (lists_in b) (AreRead es p u there) → IfOk (lists_in o) (AreRead es p (s ++ u) (here ++ there))
       read (Ok x) (Ok y) (Ok all) is e f = λ graphs told.
-          subst (AreReadOf graphs p (here ++ there)) (sym is) (read_both graphs p here there x.items y.items (e graphs (told_front s u es graphs told)) (f graphs (told_back s u es graphs told)))
+          subst (AreReadOf graphs p (here ++ there)) (sym is) (read_both graphs p here there x.items y.items (e graphs (told_here graphs told)) (f graphs (told_there graphs told)))
       read (Ok x) (Ok y) (Err why) is e f = tt
       read (Ok x) (Err why) o is e f = subst (λ (r : Result Lists FlowError). IfOk (lists_in r) (AreRead es p (s ++ u) (here ++ there))) (sym is) tt
       read (Err why) b o is e f = subst (λ (r : Result Lists FlowError). IfOk (lists_in r) (AreRead es p (s ++ u) (here ++ there))) (sym is) tt
@@ -344,11 +347,8 @@ module _ (alone : Bool) (s t : Seen) (es : List EndpointParts) (p : Parts) where
       by None e = tt
       by (Some g) e = h g (tells_alone x.at.iri g e)
 
-  all_told : (all : List EndpointParts) (graphs : List (List Triple)) → AreTold s.graph all graphs → TellAll (s ∷ []) all graphs
-  all_told [] [] h = tt
-  all_told [] (g ∷ graphs) h = absurd h
-  all_told (e ∷ all) [] h = absurd h
-  all_told (e ∷ all) (g ∷ graphs) h = (tells_alone e.iri g h.0, all_told all graphs h.1)
+  all_told : (graphs : List (List Triple)) → AreTold s.graph es graphs (Contains p.unit.members) → TellOf (s ∷ []) es graphs (Contains p.unit.members)
+  all_told graphs told = λ at e of found. tells_alone e.iri (graph_of graphs at) (told at e of found)
 
   count_of : (w : Seen) (address : List ℕ) → faults_at (w ∷ []) address ≡ w.faults address
   count_of w address = (let all : faults_at (w ∷ []) address ≡ w.faults address + 0 = sum_by-cons (λ (v : Seen). v.faults address) w [] in omega (arith, all))
@@ -399,9 +399,9 @@ module _ (alone : Bool) (s t : Seen) (es : List EndpointParts) (p : Parts) where
     cause = cause r h.cause;
   }
     where
-      done : (o : Result (List Row) FlowError) → IfOk o (λ rows. (graphs : List (List Triple)) → TellAll (s ∷ []) es graphs → IsSound graphs p.unit → IsPermutation rows (step (union graphs) p.unit p.rows))
-          → IfOk o (λ rows. (graphs : List (List Triple)) → AreTold s.graph es graphs → IsSound graphs p.unit → IsPermutation rows (step (union graphs) p.unit p.rows))
-      done (Ok rows) k = λ graphs told sound. k graphs (all_told es graphs told) sound
+      done : (o : Result (List Row) FlowError) → IfOk o (λ rows. (graphs : List (List Triple)) → TellOf (s ∷ []) es graphs (Contains p.unit.members) → IsSound graphs p.unit → IsPermutation rows (step (union graphs) p.unit p.rows))
+          → IfOk o (λ rows. (graphs : List (List Triple)) → AreTold s.graph es graphs (Contains p.unit.members) → IsSound graphs p.unit → IsPermutation rows (step (union graphs) p.unit p.rows))
+      done (Ok rows) k = λ graphs told sound. k graphs (all_told graphs told) sound
       done (Err why) k = tt
 
       cause : (o : Result (List Row) FlowError) → IfErr o (HasAskedCause (s ∷ []) (t ∷ []) es p p.unit.members h.exchanges) → IfErr o (HasMemberCause s t es p p.unit.members h.exchanges)

@@ -18,7 +18,7 @@ use Rattle.fx_spelling.specs.Units.{IsSound}
 use Rattle.fx_bound.specs.Parts.{Parts}
 use Rattle.fx_steps.specs.Steps.{stepped}
 use Rattle.fx_traffic.specs.Batches.{AreCut, IsSized, batches_sent, joined, unit_sent}
-use Rattle.fx_traffic.specs.Gains.{AreAfter, TellAll}
+use Rattle.fx_traffic.specs.Gains.{AreAfter, IsMemberIn, TellOf}
 use Rattle.fx_traffic.specs.Sent.{Sent, Sends}
 use Rattle.fx_traffic.proofs.CutLemmas.{batch_laws}
 use Rattle.fx_traffic.proofs.GainLemmas.{gain_laws}
@@ -33,7 +33,7 @@ use Rattle.fx_flows.specs.declared.flows.FlowError.{FlowError}
 use Rattle.fx_flows.specs.declared.flows.FlowError.TheVariants as flow
 use Rattle.fx_pool.specs.Runs.{IsHonestOver}
 use Rattle.fx_pool.proofs.BesideLemmas.{after_beside, back_all, front_all}
-use Rattle.fx_flows.proofs.FlowLemmas.{behind, in_front, told_back, told_front}
+use Rattle.fx_flows.proofs.FlowLemmas.{behind, in_front, told_back, told_fewer, told_front}
 use Rattle.fx_flows.proofs.TeamLemmas.{asked_wider}
 
 abbrev Made : Type 0
@@ -74,8 +74,8 @@ module _ (tells alone : Bool) (s t : List Seen) (es : List EndpointParts) (u : u
       faultless (Ok rows) k = All-weaker (IsReadFor parts) (IsBatchRead (λ v. v ≡ u)) (λ x read. record { unit = u; of_these = refl; batch = batch; read = read }) h.exchanges k
       faultless (Err why) k = tt
 
-      done : (o : Result (List Row) FlowError) → IfOk o (λ rows. (graphs : List (List Triple)) → TellAll s es graphs → IsSound graphs u → IsPermutation rows (step (union graphs) u batch))
-          → IfOk o (λ rows. (graphs : List (List Triple)) → TellAll s es graphs → IsSound graphs u → IsPermutation rows (step (union graphs) u (joined (batch ∷ []))))
+      done : (o : Result (List Row) FlowError) → IfOk o (λ rows. (graphs : List (List Triple)) → TellOf s es graphs (Contains u.members) → IsSound graphs u → IsPermutation rows (step (union graphs) u batch))
+          → IfOk o (λ rows. (graphs : List (List Triple)) → TellOf s es graphs (Contains u.members) → IsSound graphs u → IsPermutation rows (step (union graphs) u (joined (batch ∷ []))))
       done (Ok rows) k = λ graphs told sound. subst (λ (v : List Row). IsPermutation rows (step (union graphs) u v)) (sym (append-nil batch)) (k graphs told sound)
       done (Err why) k = tt
 
@@ -86,7 +86,7 @@ module _ (tells alone : Bool) (s t : List Seen) (es : List EndpointParts) (u : u
 -- ---- two halves of the wires and of the batches
 
 abbrev HasRows : List EndpointParts → unit.Unit → List Seen → List (List Row) → List Row → Type 0
-HasRows es u wires batches rows = (graphs : List (List Triple)) → TellAll wires es graphs → IsSound graphs u → IsPermutation rows (step (union graphs) u (joined batches))
+HasRows es u wires batches rows = (graphs : List (List Triple)) → TellOf wires es graphs (Contains u.members) → IsSound graphs u → IsPermutation rows (step (union graphs) u (joined batches))
 
 module _ (tells alone : Bool) (es : List EndpointParts) (u : unit.Unit) (s t w v : List Seen) (first others : List (List Row)) where
   left_step : (xs ys : List Exchange) → AreAfter w v → (why : FlowError) → HasStepCause s t es u first xs why → HasStepCause (s ++ w) (t ++ v) es u (first ++ others) (xs ++ ys) why
@@ -180,7 +180,7 @@ module _ (tells alone : Bool) (es : List EndpointParts) (u : unit.Unit) (s t w v
       done (Ok x) (Ok y) (Ok all) is e f = λ graphs told sound.
           subst (λ (l : List Row). IsPermutation l (step (union graphs) u (joined (first ++ others)))) (sym is)
           (subst (IsPermutation (x.items ++ y.items)) (sym (rows_of_both (union graphs)))
-          (IsPermutation-append x.items (step (union graphs) u (joined first)) y.items (step (union graphs) u (joined others)) (e graphs (told_front s w es graphs told) sound) (f graphs (told_back s w es graphs told) sound)))
+          (IsPermutation-append x.items (step (union graphs) u (joined first)) y.items (step (union graphs) u (joined others)) (e graphs (told_front s w es graphs (Contains u.members) told) sound) (f graphs (told_back s w es graphs (Contains u.members) told) sound)))
       done (Ok x) (Ok y) (Err why) is e f = tt
       done (Ok x) (Err why) o is e f = subst (λ (r : Result Made FlowError). IfOk (rows_in r) (HasRows es u (s ++ w) (first ++ others))) (sym is) tt
       done (Err why) b o is e f = subst (λ (r : Result Made FlowError). IfOk (rows_in r) (HasRows es u (s ++ w) (first ++ others))) (sym is) tt
@@ -237,9 +237,9 @@ step_flowed tells alone s t es u block rows batches r some cut h = record {
         All-weaker (IsBatchRead (λ v. v ≡ u)) (IsBatchRead (Contains (u ∷ []))) (λ x b. record { unit = b.unit; of_these = contains_from (u ∷ []) b.unit (inl (sym b.of_these)); batch = b.batch; read = b.read }) h.exchanges k
     faultless (Err why) k = tt
 
-    done : (o : Result (List Row) FlowError) → IfOk o (HasRows es u s batches) → IfOk o (λ next. (graphs : List (List Triple)) → TellAll s es graphs → All (IsSound graphs) (u ∷ []) → IsPermutation next (stepped (union graphs) (u ∷ []) rows))
+    done : (o : Result (List Row) FlowError) → IfOk o (HasRows es u s batches) → IfOk o (λ next. (graphs : List (List Triple)) → TellOf s es graphs (IsMemberIn (u ∷ [])) → All (IsSound graphs) (u ∷ []) → IsPermutation next (stepped (union graphs) (u ∷ []) rows))
     done (Ok next) k = λ graphs told sound.
-        subst (λ (l : List Row). IsPermutation next (step (union graphs) u l)) cut.of_rows (k graphs told (recursion_from_All (IsSound graphs) (u ∷ []) sound).0)
+        subst (λ (l : List Row). IsPermutation next (step (union graphs) u l)) cut.of_rows (k graphs (told_fewer s es graphs (IsMemberIn (u ∷ [])) (Contains u.members) (λ at m. (u, its, m)) told) (recursion_from_All (IsSound graphs) (u ∷ []) sound).0)
     done (Err why) k = tt
 
     of_batch : (o : FlowError) → IsStepCause s t es u batches h.exchanges o → IsFlowCause s t es (u ∷ []) block (batches_sent es u batches) h.exchanges o

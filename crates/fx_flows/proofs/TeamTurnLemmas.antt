@@ -11,7 +11,7 @@ use Rattle.fx_algebra.specs.declared.units.Row.{Row}
 use Rattle.fx_algebra.specs.declared.units.Unit as unit
 use Rattle.fx_spelling.specs.Units.{IsSound}
 use Rattle.fx_traffic.specs.Batches.{batches_sent, joined, unit_sent}
-use Rattle.fx_traffic.specs.Gains.{TellAll, faults_at}
+use Rattle.fx_traffic.specs.Gains.{TellOf, faults_at}
 use Rattle.fx_traffic.specs.Sent.{Sent, Sends}
 use Rattle.fx_traffic.proofs.GainLemmas.{gain_laws}
 use Rattle.fx_traffic.proofs.SentLemmas.{sent_laws}
@@ -23,7 +23,7 @@ use Rattle.fx_flows.specs.declared.flows.FlowError.{FlowError}
 use Rattle.fx_flows.specs.declared.flows.FlowError.TheVariants as flow
 use Rattle.fx_pool.specs.Runs.{IsHonestOver}
 use Rattle.fx_pool.proofs.WireLemmas.{after_itself}
-use Rattle.fx_pool.proofs.WiresLemmas.{GainedBoth, all_after, all_tell, as_many, gained_both, still_tell, still_tell_all}
+use Rattle.fx_pool.proofs.WiresLemmas.{GainedBoth, all_after, all_tell, as_many, gained_both, still_tell, still_tell_of}
 use Rattle.fx_flows.proofs.FlowLemmas.{behind, in_front}
 use Rattle.fx_flows.proofs.TeamLemmas.{asked_wider, over_one_wire}
 
@@ -96,11 +96,11 @@ module _ (tells alone : Bool) (s t v : List Seen) (es : List EndpointParts) (u :
       faultless (Ok more) read = All-permutation (IsBatchRead (λ z. z ≡ u)) (h.exchanges ++ k.exchanges) gained.all gained.same (All-append (IsBatchRead (λ z. z ≡ u)) h.exchanges k.exchanges h.faultless read)
       faultless (Err why) read = tt
 
-      done : (o : Result (List Row) FlowError) → IfOk o (λ rows. (graphs : List (List Triple)) → TellAll t es graphs → IsSound graphs u → IsPermutation rows (step (union graphs) u (joined others)))
-          → IfOk (after_made o) (λ rows. (graphs : List (List Triple)) → TellAll s es graphs → IsSound graphs u → IsPermutation rows (step (union graphs) u (joined (first ++ others))))
+      done : (o : Result (List Row) FlowError) → IfOk o (λ rows. (graphs : List (List Triple)) → TellOf t es graphs (Contains u.members) → IsSound graphs u → IsPermutation rows (step (union graphs) u (joined others)))
+          → IfOk (after_made o) (λ rows. (graphs : List (List Triple)) → TellOf s es graphs (Contains u.members) → IsSound graphs u → IsPermutation rows (step (union graphs) u (joined (first ++ others))))
       done (Ok more) d = λ graphs told sound.
           subst (IsPermutation (made ++ more)) (sym (rows_of_both (union graphs)))
-          (IsPermutation-append made (step (union graphs) u (joined first)) more (step (union graphs) u (joined others)) (h.done graphs told sound) (d graphs (still_tell_all s t h.after_all es graphs told) sound))
+          (IsPermutation-append made (step (union graphs) u (joined first)) more (step (union graphs) u (joined others)) (h.done graphs told sound) (d graphs (still_tell_of s t h.after_all es graphs (Contains u.members) told) sound))
       done (Err why) d = tt
 
       cause : (o : Result (List Row) FlowError) → IfErr o (HasStepCause t v es u others k.exchanges) → IfErr (after_made o) (HasStepCause s v es u (first ++ others) gained.all)

@@ -11,7 +11,7 @@ use Rattle.fx_algebra.specs.declared.units.Unit as unit
 use Rattle.fx_spelling.specs.Units.{IsSound}
 use Rattle.fx_steps.specs.Steps.{stepped}
 use Rattle.fx_traffic.specs.Batches.{IsBatchText, IsRunSent}
-use Rattle.fx_traffic.specs.Gains.{TellAll, faults_at}
+use Rattle.fx_traffic.specs.Gains.{IsMemberIn, TellOf, faults_at}
 use Rattle.fx_traffic.specs.Sent.{Sent}
 use Rattle.fx_traffic.proofs.CutLemmas.{batch_laws}
 use Rattle.fx_traffic.proofs.GainLemmas.{gain_laws}
@@ -25,8 +25,8 @@ use Rattle.fx_flows.specs.declared.flows.FlowError.TheVariants as flow
 use Rattle.fx_pool.specs.Runs.{IsHonestOver}
 use Rattle.fx_pool.proofs.BesideLemmas.{back_all, front_all}
 use Rattle.fx_pool.proofs.WireLemmas.{after_itself}
-use Rattle.fx_pool.proofs.WiresLemmas.{GainedBoth, all_after, as_many, gained_both, still_tell, still_tell_all}
-use Rattle.fx_flows.proofs.FlowLemmas.{behind, has_wider, in_front, no_rows}
+use Rattle.fx_pool.proofs.WiresLemmas.{GainedBoth, all_after, as_many, gained_both, still_tell, still_tell_of}
+use Rattle.fx_flows.proofs.FlowLemmas.{behind, has_wider, in_front, no_rows, told_fewer}
 
 -- ---- rows
 
@@ -64,6 +64,9 @@ sent_in_turn es graph block most (u ∷ us) vs rows wanted more some h k =
     )
 
 -- ---- of some of the units, and of all
+
+pub members_of_more : (us vs : List unit.Unit) → ((u : unit.Unit) → Contains us u → Contains vs u) → (at : ℕ) → IsMemberIn us at → IsMemberIn vs at
+members_of_more us vs wider at m = (m.0, wider m.0 m.1, m.2)
 
 pub of_more : (es : List EndpointParts) (block : ℕ) (us vs : List unit.Unit) → ((u : unit.Unit) → Contains us u → Contains vs u) → (wanted : List Sent) → All (IsBatchText es block (Contains us)) wanted → All (IsBatchText es block (Contains vs)) wanted
 of_more es block us vs wider wanted h =
@@ -123,9 +126,9 @@ run_in_turn tells alone s t v es us vs block rows mid result s_tells t_tells h k
   short = All-permutation IsShort (h.exchanges ++ k.exchanges) gained.all gained.same (All-append IsShort h.exchanges k.exchanges h.short k.short);
   faultless = faultless result k.faultless;
   of_run = λ graphs told sound.
-      sent_in_turn es (union graphs) block 1 us vs rows h.wanted k.wanted (omega arith) (h.of_run graphs told (front_all (IsSound graphs) us vs sound))
-      (batch_laws.run_in_any_order es (union graphs) block 1 vs mid (stepped (union graphs) us rows) k.wanted (h.done graphs told (front_all (IsSound graphs) us vs sound))
-      (k.of_run graphs (still_tell_all s t h.after_all es graphs told) (back_all (IsSound graphs) us vs sound)));
+      sent_in_turn es (union graphs) block 1 us vs rows h.wanted k.wanted (omega arith) (h.of_run graphs (told_us graphs told) (front_all (IsSound graphs) us vs sound))
+      (batch_laws.run_in_any_order es (union graphs) block 1 vs mid (stepped (union graphs) us rows) k.wanted (h.done graphs (told_us graphs told) (front_all (IsSound graphs) us vs sound))
+      (k.of_run graphs (told_vs graphs told) (back_all (IsSound graphs) us vs sound)));
   done = done result k.done;
   cause = cause result k.cause;
 }
@@ -139,6 +142,12 @@ run_in_turn tells alone s t v es us vs block rows mid result s_tells t_tells h k
     back : (u : unit.Unit) → Contains vs u → Contains (us ++ vs) u
     back u m = behind us vs u m
 
+    told_us : (graphs : List (List Triple)) → TellOf s es graphs (IsMemberIn (us ++ vs)) → TellOf s es graphs (IsMemberIn us)
+    told_us graphs told = told_fewer s es graphs (IsMemberIn (us ++ vs)) (IsMemberIn us) (members_of_more us (us ++ vs) front) told
+
+    told_vs : (graphs : List (List Triple)) → TellOf s es graphs (IsMemberIn (us ++ vs)) → TellOf t es graphs (IsMemberIn vs)
+    told_vs graphs told = still_tell_of s t h.after_all es graphs (IsMemberIn vs) (told_fewer s es graphs (IsMemberIn (us ++ vs)) (IsMemberIn vs) (members_of_more vs (us ++ vs) back) told)
+
     whole : (o : Result (List Row) FlowError) → IfOk o (λ _. k.left ≡ []) → IfOk o (λ _. h.left ++ k.left ≡ [])
     whole (Ok next) none = ap (λ (l : List Sent). l ++ k.left) h.whole ∙ none
     whole (Err why) none = tt
@@ -149,13 +158,13 @@ run_in_turn tells alone s t v es us vs block rows mid result s_tells t_tells h k
         (All-append (IsBatchRead (Contains (us ++ vs))) h.exchanges k.exchanges (read_of_more us (us ++ vs) front h.exchanges h.faultless) (read_of_more vs (us ++ vs) back k.exchanges read))
     faultless (Err why) read = tt
 
-    done : (o : Result (List Row) FlowError) → IfOk o (λ next. (graphs : List (List Triple)) → TellAll t es graphs → All (IsSound graphs) vs → IsPermutation next (stepped (union graphs) vs mid))
-        → IfOk o (λ next. (graphs : List (List Triple)) → TellAll s es graphs → All (IsSound graphs) (us ++ vs) → IsPermutation next (stepped (union graphs) (us ++ vs) rows))
+    done : (o : Result (List Row) FlowError) → IfOk o (λ next. (graphs : List (List Triple)) → TellOf t es graphs (IsMemberIn vs) → All (IsSound graphs) vs → IsPermutation next (stepped (union graphs) vs mid))
+        → IfOk o (λ next. (graphs : List (List Triple)) → TellOf s es graphs (IsMemberIn (us ++ vs)) → All (IsSound graphs) (us ++ vs) → IsPermutation next (stepped (union graphs) (us ++ vs) rows))
     done (Ok next) d = λ graphs told sound.
         subst (IsPermutation next) (sym (stepped_all (union graphs) us vs rows))
         (IsPermutation-trans next (stepped (union graphs) vs mid) (stepped (union graphs) vs (stepped (union graphs) us rows))
-        (d graphs (still_tell_all s t h.after_all es graphs told) (back_all (IsSound graphs) us vs sound))
-        (stepped_moves (union graphs) vs mid (stepped (union graphs) us rows) (h.done graphs told (front_all (IsSound graphs) us vs sound))))
+        (d graphs (told_vs graphs told) (back_all (IsSound graphs) us vs sound))
+        (stepped_moves (union graphs) vs mid (stepped (union graphs) us rows) (h.done graphs (told_us graphs told) (front_all (IsSound graphs) us vs sound))))
     done (Err why) d = tt
 
     cause : (o : Result (List Row) FlowError) → IfErr o (HasFlowCause t v es vs block k.wanted k.exchanges) → IfErr o (HasFlowCause s v es (us ++ vs) block (h.wanted ++ k.wanted) gained.all)
@@ -189,7 +198,8 @@ run_refused tells alone s t es us vs block rows why h = record {
   faultless = tt;
   of_run = λ graphs told sound.
       subst (IsRunSent es (union graphs) block 1 (us ++ vs) rows) (append-nil h.wanted)
-      (sent_in_turn es (union graphs) block 1 us vs rows h.wanted [] (omega arith) (h.of_run graphs told (front_all (IsSound graphs) us vs sound))
+      (sent_in_turn es (union graphs) block 1 us vs rows h.wanted [] (omega arith)
+      (h.of_run graphs (told_fewer s es graphs (IsMemberIn (us ++ vs)) (IsMemberIn us) (members_of_more us (us ++ vs) (λ u m. in_front us vs u m)) told) (front_all (IsSound graphs) us vs sound))
       (batch_laws.nothing es (union graphs) block 1 vs (stepped (union graphs) us rows)));
   done = tt;
   cause = cause_of_more s t es us (us ++ vs) block h.wanted h.exchanges (λ u m. in_front us vs u m) why h.cause;

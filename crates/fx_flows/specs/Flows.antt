@@ -6,7 +6,7 @@ use Rattle.std.specs.declared.vec.Vec.{Vec}
 use Rattle.fx_terms.specs.declared.triples.Triple.{Triple}
 use Rattle.fx_outside.specs.Endpoints.{EndpointParts}
 use Rattle.fx_algebra.specs.Graphs.{union}
-use Rattle.fx_algebra.specs.Units.{step}
+use Rattle.fx_algebra.specs.Units.{graph_of, step}
 use Rattle.fx_algebra.specs.declared.units.Row.{Row}
 use Rattle.fx_algebra.specs.declared.units.Unit as unit
 use Rattle.fx_spelling.specs.Units.{IsSound}
@@ -40,12 +40,9 @@ pub record Passed (alone : Bool) (failed : ℕ) (before after : Seen) (xs : List
   pub kept : (address : List ℕ) → before.faults address ≤ after.faults address
   pub counted : IsTrue alone → (address : List ℕ) → after.faults address ≤ before.faults address + failed
 
--- the graph of each endpoint is told
-abbrev pub AreTold : (List ℕ → Option (List Triple)) → List EndpointParts → List (List Triple) → Type 0
-AreTold graph [] [] = Unit {0}
-AreTold graph [] (g ∷ gs) = ⊥
-AreTold graph (e ∷ es) [] = ⊥
-AreTold graph (e ∷ es) (g ∷ gs) = (graph e.iri ≡ Some g) × AreTold graph es gs
+-- of each endpoint whose number is one of these the graph of that number is told
+abbrev pub AreTold : (List ℕ → Option (List Triple)) → List EndpointParts → List (List Triple) → (ℕ → Type 0) → Type 0
+AreTold graph es graphs Of = (at : ℕ) (e : EndpointParts) → Of at → slice_get es at ≡ Some e → graph e.iri ≡ Some (graph_of graphs at)
 
 -- ---- causes
 
@@ -177,7 +174,7 @@ pub record AskedMembers (alone : Bool) (before after : Seen) (endpoints : List E
   pub whole : IfOk result (λ _. left ≡ [])
   pub short : All IsShort exchanges
   pub faultless : IfOk result (λ _. All (IsReadFor p) exchanges)
-  pub read : IfOk result (λ lists. (graphs : List (List Triple)) → AreTold before.graph endpoints graphs → AreReadOf graphs p members lists)
+  pub read : IfOk result (λ lists. (graphs : List (List Triple)) → AreTold before.graph endpoints graphs (Contains members) → AreReadOf graphs p members lists)
   pub cause : IfErr result (HasMemberCause before after endpoints p members exchanges)
 
 -- the lists of an answer
@@ -199,7 +196,7 @@ pub record AskedBatch (alone : Bool) (before after : Seen) (endpoints : List End
   pub whole : IfOk result (λ _. left ≡ [])
   pub short : All IsShort exchanges
   pub faultless : IfOk result (λ _. All (IsReadFor p) exchanges)
-  pub done : IfOk result (λ rows. (graphs : List (List Triple)) → AreTold before.graph endpoints graphs → IsSound graphs p.unit → IsPermutation rows (step (union graphs) p.unit p.rows))
+  pub done : IfOk result (λ rows. (graphs : List (List Triple)) → AreTold before.graph endpoints graphs (Contains p.unit.members) → IsSound graphs p.unit → IsPermutation rows (step (union graphs) p.unit p.rows))
   pub cause : IfErr result (HasMemberCause before after endpoints p p.unit.members exchanges)
 
 abbrev pub rows_in : Result (Vec Row Global) FlowError → Result (List Row) FlowError

@@ -10,7 +10,7 @@ use Rattle.fx_algebra.specs.declared.units.Row.{Row}
 use Rattle.fx_algebra.specs.declared.units.Unit as unit
 use Rattle.fx_spelling.specs.Units.{IsSound}
 use Rattle.fx_traffic.specs.Batches.{AreCut}
-use Rattle.fx_traffic.specs.Gains.{AreAfter, HaveGained, TellAll, faults_at}
+use Rattle.fx_traffic.specs.Gains.{AreAfter, HaveGained, IsMemberIn, TellOf, faults_at}
 use Rattle.fx_traffic.specs.Sent.{Sent, Sends}
 use Rattle.fx_wire.specs.Exchanges.{Exchange, Seen}
 use Rattle.fx_flows.specs.Flows.{AreTold, HasMemberCause, IsBatchRead, IsShort, Passed}
@@ -55,7 +55,7 @@ pub record WireFlowed (alone : Bool) (before after : Seen) (es : List EndpointPa
   pub tied : Sends (parcels_sent es us tried) left begun
   pub short : All IsShort exchanges
   pub faultless : All (IsBatchRead (Contains us)) ended
-  pub steps : (graphs : List (List Triple)) → AreTold before.graph es graphs → All (IsSound graphs) us → All (IsStepOf (union graphs) us) spent
+  pub steps : (graphs : List (List Triple)) → AreTold before.graph es graphs (IsMemberIn us) → All (IsSound graphs) us → All (IsStepOf (union graphs) us) spent
 
 -- the cause at one of the parcels that were tried
 pub record IsTriedCause (before after : Seen) (es : List EndpointParts) (us : List unit.Unit) (tried : List Parcel) (xs : List Exchange) (e : FlowError) : Type 0 where
@@ -165,7 +165,7 @@ pub record WiresFlowed (tells alone : Bool) (before after : List Seen) (es : Lis
   pub tied : Sends (parcels_sent es us tried) left begun
   pub short : All IsShort exchanges
   pub faultless : All (IsBatchRead (Contains us)) ended
-  pub steps : (graphs : List (List Triple)) → TellAll before es graphs → All (IsSound graphs) us → All (IsStepOf (union graphs) us) spent
+  pub steps : (graphs : List (List Triple)) → TellOf before es graphs (IsMemberIn us) → All (IsSound graphs) us → All (IsStepOf (union graphs) us) spent
 
 pub record HaveFlowed (tells alone : Bool) (before after : List Seen) (es : List EndpointParts) (us : List unit.Unit) (c : RunShape) (from to : Hand) (result : Result (Vec Row Global) FlowError) : Type 0 where
   pub tried : List Parcel

@@ -14,7 +14,7 @@ use Rattle.fx_bound.specs.Answers.{AreReadOf, numbers}
 use Rattle.fx_bound.specs.Parts.{Parts}
 use Rattle.fx_founds.specs.declared.founds.Found.{Found}
 use Rattle.fx_traffic.specs.Batches.{batches_sent, joined, member_sent, unit_sent}
-use Rattle.fx_traffic.specs.Gains.{AreAfter, HaveGained, Tell, TellAll, faults_at}
+use Rattle.fx_traffic.specs.Gains.{AreAfter, HaveGained, Tell, TellOf, faults_at}
 use Rattle.fx_traffic.specs.Sent.{Sent, Sends}
 use Rattle.fx_wire.specs.Exchanges.{Exchange, Seen}
 use Rattle.fx_flows.specs.Flows.{AskedBatch, IsBatchRead, IsCause, IsReadFor, IsShort, Names}
@@ -57,7 +57,7 @@ pub record MembersAsked (tells alone : Bool) (before after : List Seen) (endpoin
   pub whole : IfOk result (λ _. left ≡ [])
   pub short : All IsShort exchanges
   pub faultless : IfOk result (λ _. All (IsReadFor p) exchanges)
-  pub read : IfOk result (λ lists. (graphs : List (List Triple)) → TellAll before endpoints graphs → AreReadOf graphs p members lists)
+  pub read : IfOk result (λ lists. (graphs : List (List Triple)) → TellOf before endpoints graphs (Contains members) → AreReadOf graphs p members lists)
   pub cause : IfErr result (HasAskedCause before after endpoints p members exchanges)
 
 -- the lists of two calls, one's behind the other's; or the refusal of the first, or of the second, or want of memory for the list
@@ -84,7 +84,7 @@ pub record BatchAsked (tells alone : Bool) (before after : List Seen) (endpoints
   pub whole : IfOk result (λ _. left ≡ [])
   pub short : All IsShort exchanges
   pub faultless : IfOk result (λ _. All (IsReadFor p) exchanges)
-  pub done : IfOk result (λ rows. (graphs : List (List Triple)) → TellAll before endpoints graphs → IsSound graphs p.unit → IsPermutation rows (step (union graphs) p.unit p.rows))
+  pub done : IfOk result (λ rows. (graphs : List (List Triple)) → TellOf before endpoints graphs (Contains p.unit.members) → IsSound graphs p.unit → IsPermutation rows (step (union graphs) p.unit p.rows))
   pub cause : IfErr result (HasAskedCause before after endpoints p p.unit.members exchanges)
 
 -- ---- a step
@@ -114,7 +114,7 @@ pub record StepAsked (tells alone : Bool) (before after : List Seen) (endpoints 
   pub whole : IfOk result (λ _. left ≡ [])
   pub short : All IsShort exchanges
   pub faultless : IfOk result (λ _. All (IsBatchRead (λ v. v ≡ u)) exchanges)
-  pub done : IfOk result (λ rows. (graphs : List (List Triple)) → TellAll before endpoints graphs → IsSound graphs u → IsPermutation rows (step (union graphs) u (joined batches)))
+  pub done : IfOk result (λ rows. (graphs : List (List Triple)) → TellOf before endpoints graphs (Contains u.members) → IsSound graphs u → IsPermutation rows (step (union graphs) u (joined batches)))
   pub cause : IfErr result (HasStepCause before after endpoints u batches exchanges)
 
 -- ---- a law

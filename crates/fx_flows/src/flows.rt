@@ -54,7 +54,7 @@ pub enum FlowError {
 /// None of the requests of a step, which are its batches for each member of its unit, waits for another that it doesn't need: where they are no more than the wires, all
 /// are under way at once. Then all its rows are cut into the batches of the next unit.
 ///
-/// Where the wires tell the graphs of all endpoints, and each unit is sound over these, the rows are those of the steps over their union, in
+/// Where the wires tell the graphs of the units' members, and each unit is sound over all, the rows are those of the steps over their union, in
 /// some order: each merges a solution under its number with what the units' patterns have there. Where wires tell their logs, they gained texts
 /// of batches of the units; where they tell the graphs too, of batches of the rows that enter each unit, and no batch is sent to a member twice.
 /// What ends a run early is one of these: `Member`, an exchange with the endpoint failed, which its wire counted as a fault at its address;

@@ -5,7 +5,8 @@ use Rattle.std.proofs.lemmas.List.Elements.{All-from_recursion, recursion_from_A
 use Rattle.std.proofs.lemmas.List.Sorted.{IsPermutation-refl}
 use Rattle.fx_terms.specs.declared.triples.Triple.{Triple}
 use Rattle.fx_outside.specs.Endpoints.{EndpointParts}
-use Rattle.fx_traffic.specs.Gains.{AreAfter, HaveGained, Tell, TellAll}
+use Rattle.fx_algebra.specs.Units.{graph_of}
+use Rattle.fx_traffic.specs.Gains.{AreAfter, HaveGained, Tell, TellAll, TellOf}
 use Rattle.fx_traffic.proofs.GainLemmas.{gain_laws}
 use Rattle.fx_wire.specs.Exchanges.{Exchange, IsAfter, Seen}
 
@@ -58,6 +59,9 @@ still_tell_all before after h [] [] k = tt
 still_tell_all before after h [] (g ∷ graphs) k = absurd k
 still_tell_all before after h (e ∷ endpoints) [] k = absurd k
 still_tell_all before after h (e ∷ endpoints) (g ∷ graphs) k = (still_tell before after e.iri g h k.0, still_tell_all before after h endpoints graphs k.1)
+
+pub still_tell_of : (before after : List Seen) → AreAfter before after → (endpoints : List EndpointParts) (graphs : List (List Triple)) (Of : ℕ → Type 0) → TellOf before endpoints graphs Of → TellOf after endpoints graphs Of
+still_tell_of before after h endpoints graphs Of k = λ at e of found. still_tell before after e.iri (graph_of graphs at) h (k at e of found)
 
 -- ---- what was exchanged
 

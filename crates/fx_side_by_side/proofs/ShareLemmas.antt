@@ -7,10 +7,11 @@ use Rattle.fx_outside.specs.Endpoints.{EndpointParts}
 use Rattle.fx_algebra.specs.Graphs.{union}
 use Rattle.fx_algebra.specs.declared.units.Row.{Row}
 use Rattle.fx_algebra.specs.declared.units.Unit as unit
+use Rattle.fx_algebra.specs.Units.{graph_of}
 use Rattle.fx_spelling.specs.Units.{IsSound}
 use Rattle.fx_steps.specs.Steps.{stepped}
 use Rattle.fx_traffic.specs.Batches.{IsBatchText}
-use Rattle.fx_traffic.specs.Gains.{Tell, TellAll, faults_at}
+use Rattle.fx_traffic.specs.Gains.{IsMemberIn, Tell, TellOf, faults_at}
 use Rattle.fx_traffic.proofs.CutLemmas.{batch_laws}
 use Rattle.fx_wire.specs.Exchanges.{Seen}
 use Rattle.fx_flows.specs.Flows.{IsBatchRead, IsShort}
@@ -78,11 +79,8 @@ module _ (s t u v : List Seen)
     (rises : (address : List ℕ) → faults_at s address < faults_at t address → faults_at u address < faults_at v address)
     (tells : (address : List ℕ) (g : List Triple) → Tell u address g → Tell s address g)
     (fits : length s ≤ length u) where
-  all_told : (es : List EndpointParts) (graphs : List (List Triple)) → TellAll u es graphs → TellAll s es graphs
-  all_told [] [] h = tt
-  all_told [] (g ∷ graphs) h = absurd h
-  all_told (e ∷ es) [] h = absurd h
-  all_told (e ∷ es) (g ∷ graphs) h = (tells e.iri g h.0, all_told es graphs h.1)
+  all_told : (es : List EndpointParts) (graphs : List (List Triple)) (Of : ℕ → Type 0) → TellOf u es graphs Of → TellOf s es graphs Of
+  all_told es graphs Of told = λ at e of found. tells e.iri (graph_of graphs at) (told at e of found)
 
   pub shared_wider : (es : List EndpointParts) (us : List unit.Unit) (block : ℕ) (rows : List Row) (share : Share) (r : Result (List Row) FlowError) → RunShared s t es us block rows share r → RunShared u v es us block rows share r
   shared_wider es us block rows share r h = record {
@@ -93,14 +91,14 @@ module _ (s t u v : List Seen)
     whole = h.whole;
     short = h.short;
     faultless = h.faultless;
-    of_run = λ graphs told sound. h.of_run graphs (all_told es graphs told) sound;
+    of_run = λ graphs told sound. h.of_run graphs (all_told es graphs (IsMemberIn us) told) sound;
     done = done r h.done;
     cause = cause r h.cause;
   }
     where
-      done : (o : Result (List Row) FlowError) → IfOk o (λ next. (graphs : List (List Triple)) → TellAll s es graphs → All (IsSound graphs) us → IsPermutation next (stepped (union graphs) us rows))
-          → IfOk o (λ next. (graphs : List (List Triple)) → TellAll u es graphs → All (IsSound graphs) us → IsPermutation next (stepped (union graphs) us rows))
-      done (Ok next) d = λ graphs told sound. d graphs (all_told es graphs told) sound
+      done : (o : Result (List Row) FlowError) → IfOk o (λ next. (graphs : List (List Triple)) → TellOf s es graphs (IsMemberIn us) → All (IsSound graphs) us → IsPermutation next (stepped (union graphs) us rows))
+          → IfOk o (λ next. (graphs : List (List Triple)) → TellOf u es graphs (IsMemberIn us) → All (IsSound graphs) us → IsPermutation next (stepped (union graphs) us rows))
+      done (Ok next) d = λ graphs told sound. d graphs (all_told es graphs (IsMemberIn us) told) sound
       done (Err why) d = tt
 
       cause : (o : Result (List Row) FlowError) → IfErr o (HasFlowCause s t es us block share.wanted share.exchanges) → IfErr o (HasFlowCause u v es us block share.wanted share.exchanges)

@@ -18,7 +18,7 @@ use Rattle.fx_algebra.specs.declared.units.Unit as unit
 use Rattle.fx_spelling.specs.Units.{IsSound}
 use Rattle.fx_steps.specs.Steps.{numbered, stepped}
 use Rattle.fx_traffic.specs.Batches.{IsBatchText, IsRunSent}
-use Rattle.fx_traffic.specs.Gains.{TellAll}
+use Rattle.fx_traffic.specs.Gains.{IsMemberIn, TellOf}
 use Rattle.fx_traffic.specs.Sent.{Sent}
 use Rattle.fx_traffic.proofs.CutLemmas.{batch_laws}
 use Rattle.fx_traffic.proofs.GainLemmas.{gain_laws}
@@ -29,8 +29,8 @@ use Rattle.fx_flows.specs.Flows.{IsBatchRead, IsShort, rows_in}
 use Rattle.fx_flows.specs.RunFlows.{HasFlowCause}
 use Rattle.fx_flows.specs.declared.flows.FlowError.{FlowError}
 use Rattle.fx_pool.proofs.BesideLemmas.{back_all, front_all}
-use Rattle.fx_flows.proofs.FlowLemmas.{behind, has_wider, in_front}
-use Rattle.fx_flows.proofs.TurnLemmas.{cause_of_more, of_more, read_of_more, sent_in_turn, stepped_all, stepped_moves}
+use Rattle.fx_flows.proofs.FlowLemmas.{behind, has_wider, in_front, told_fewer}
+use Rattle.fx_flows.proofs.TurnLemmas.{cause_of_more, members_of_more, of_more, read_of_more, sent_in_turn, stepped_all, stepped_moves}
 use Rattle.fx_side_by_side.specs.SideBySide.{AreShared, RunShared, RunsFlowed, Share}
 use Rattle.fx_side_by_side.specs.Steps.{AreBehind, IsBehind, StepsFlowed, begins, nothing_shared, unit_at}
 use Rattle.fx_side_by_side.proofs.GainedLemmas.{exchanged, failures, falls_in_turn, falls_into, nothing_falls}
@@ -50,6 +50,12 @@ module _ (s v : List Seen) (es : List EndpointParts) (us vs : List unit.Unit) (b
   back : (u : unit.Unit) → Contains vs u → Contains (us ++ vs) u
   back u m = behind us vs u m
 
+  told_us : (graphs : List (List Triple)) → TellOf s es graphs (IsMemberIn (us ++ vs)) → TellOf s es graphs (IsMemberIn us)
+  told_us graphs told = told_fewer s es graphs (IsMemberIn (us ++ vs)) (IsMemberIn us) (members_of_more us (us ++ vs) front) told
+
+  told_vs : (graphs : List (List Triple)) → TellOf s es graphs (IsMemberIn (us ++ vs)) → TellOf s es graphs (IsMemberIn vs)
+  told_vs graphs told = told_fewer s es graphs (IsMemberIn (us ++ vs)) (IsMemberIn vs) (members_of_more vs (us ++ vs) back) told
+
   pub shared_in_turn : (a b : Share) (mid : List Row) (r : Result (List Row) FlowError) → RunShared s v es us block rows a (Ok mid) → RunShared s v es vs block mid b r → RunShared s v es (us ++ vs) block rows (both_shares a b) r
   shared_in_turn a b mid r h k = record {
     few = (let none : a.failed ≡ 0 = h.unfailed in let few : b.failed ≤ length s = k.few in omega (arith, none, few));
@@ -60,9 +66,9 @@ module _ (s v : List Seen) (es : List EndpointParts) (us vs : List unit.Unit) (b
     short = All-append IsShort a.exchanges b.exchanges h.short k.short;
     faultless = faultless r k.faultless;
     of_run = λ graphs told sound.
-        sent_in_turn es (union graphs) block 1 us vs rows a.wanted b.wanted (omega arith) (h.of_run graphs told (front_all (IsSound graphs) us vs sound))
-        (batch_laws.run_in_any_order es (union graphs) block 1 vs mid (stepped (union graphs) us rows) b.wanted (h.done graphs told (front_all (IsSound graphs) us vs sound))
-        (k.of_run graphs told (back_all (IsSound graphs) us vs sound)));
+        sent_in_turn es (union graphs) block 1 us vs rows a.wanted b.wanted (omega arith) (h.of_run graphs (told_us graphs told) (front_all (IsSound graphs) us vs sound))
+        (batch_laws.run_in_any_order es (union graphs) block 1 vs mid (stepped (union graphs) us rows) b.wanted (h.done graphs (told_us graphs told) (front_all (IsSound graphs) us vs sound))
+        (k.of_run graphs (told_vs graphs told) (back_all (IsSound graphs) us vs sound)));
     done = done r k.done;
     cause = cause r k.cause;
   }
@@ -80,12 +86,12 @@ module _ (s v : List Seen) (es : List EndpointParts) (us vs : List unit.Unit) (b
           All-append (IsBatchRead (Contains (us ++ vs))) a.exchanges b.exchanges (read_of_more us (us ++ vs) front a.exchanges h.faultless) (read_of_more vs (us ++ vs) back b.exchanges read)
       faultless (Err why) read = tt
 
-      done : (o : Result (List Row) FlowError) → IfOk o (λ next. (graphs : List (List Triple)) → TellAll s es graphs → All (IsSound graphs) vs → IsPermutation next (stepped (union graphs) vs mid))
-          → IfOk o (λ next. (graphs : List (List Triple)) → TellAll s es graphs → All (IsSound graphs) (us ++ vs) → IsPermutation next (stepped (union graphs) (us ++ vs) rows))
+      done : (o : Result (List Row) FlowError) → IfOk o (λ next. (graphs : List (List Triple)) → TellOf s es graphs (IsMemberIn vs) → All (IsSound graphs) vs → IsPermutation next (stepped (union graphs) vs mid))
+          → IfOk o (λ next. (graphs : List (List Triple)) → TellOf s es graphs (IsMemberIn (us ++ vs)) → All (IsSound graphs) (us ++ vs) → IsPermutation next (stepped (union graphs) (us ++ vs) rows))
       done (Ok next) d = λ graphs told sound.
           subst (IsPermutation next) (sym (stepped_all (union graphs) us vs rows))
-          (IsPermutation-trans next (stepped (union graphs) vs mid) (stepped (union graphs) vs (stepped (union graphs) us rows)) (d graphs told (back_all (IsSound graphs) us vs sound))
-          (stepped_moves (union graphs) vs mid (stepped (union graphs) us rows) (h.done graphs told (front_all (IsSound graphs) us vs sound))))
+          (IsPermutation-trans next (stepped (union graphs) vs mid) (stepped (union graphs) vs (stepped (union graphs) us rows)) (d graphs (told_vs graphs told) (back_all (IsSound graphs) us vs sound))
+          (stepped_moves (union graphs) vs mid (stepped (union graphs) us rows) (h.done graphs (told_us graphs told) (front_all (IsSound graphs) us vs sound))))
       done (Err why) d = tt
 
       cause : (o : Result (List Row) FlowError) → IfErr o (HasFlowCause s v es vs block b.wanted b.exchanges) → IfErr o (HasFlowCause s v es (us ++ vs) block (a.wanted ++ b.wanted) (a.exchanges ++ b.exchanges))
@@ -107,7 +113,7 @@ module _ (s v : List Seen) (es : List EndpointParts) (us vs : List unit.Unit) (b
     faultless = tt;
     of_run = λ graphs told sound.
         subst (IsRunSent es (union graphs) block 1 (us ++ vs) rows) (append-nil a.wanted)
-        (sent_in_turn es (union graphs) block 1 us vs rows a.wanted [] (omega arith) (h.of_run graphs told (front_all (IsSound graphs) us vs sound))
+        (sent_in_turn es (union graphs) block 1 us vs rows a.wanted [] (omega arith) (h.of_run graphs (told_us graphs told) (front_all (IsSound graphs) us vs sound))
         (batch_laws.nothing es (union graphs) block 1 vs (stepped (union graphs) us rows)));
     done = tt;
     cause = cause_of_more s v es us (us ++ vs) block a.wanted a.exchanges front why h.cause;

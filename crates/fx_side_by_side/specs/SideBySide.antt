@@ -13,7 +13,7 @@ use Rattle.fx_algebra.specs.declared.units.Unit as unit
 use Rattle.fx_spelling.specs.Units.{IsFit, IsSound}
 use Rattle.fx_steps.specs.Steps.{numbered, stepped}
 use Rattle.fx_traffic.specs.Batches.{IsBatchText, IsRunSent}
-use Rattle.fx_traffic.specs.Gains.{AreAfter, HaveGained, TellAll, faults_at}
+use Rattle.fx_traffic.specs.Gains.{AreAfter, HaveGained, IsMemberIn, TellOf, faults_at}
 use Rattle.fx_traffic.specs.Sent.{Sent, Sends}
 use Rattle.fx_wire.specs.Exchanges.{Exchange, Seen}
 use Rattle.fx_pool.specs.Runs.{IsHonestOver}
@@ -44,8 +44,8 @@ pub record RunShared (before after : List Seen) (endpoints : List EndpointParts)
   pub whole : IfOk result (λ _. share.left ≡ [])
   pub short : All IsShort share.exchanges
   pub faultless : IfOk result (λ _. All (IsBatchRead (Contains us)) share.exchanges)
-  pub of_run : (graphs : List (List Triple)) → TellAll before endpoints graphs → All (IsSound graphs) us → IsRunSent endpoints (union graphs) block 1 us rows share.wanted
-  pub done : IfOk result (λ next. (graphs : List (List Triple)) → TellAll before endpoints graphs → All (IsSound graphs) us → IsPermutation next (stepped (union graphs) us rows))
+  pub of_run : (graphs : List (List Triple)) → TellOf before endpoints graphs (IsMemberIn us) → All (IsSound graphs) us → IsRunSent endpoints (union graphs) block 1 us rows share.wanted
+  pub done : IfOk result (λ next. (graphs : List (List Triple)) → TellOf before endpoints graphs (IsMemberIn us) → All (IsSound graphs) us → IsPermutation next (stepped (union graphs) us rows))
   pub cause : IfErr result (HasFlowCause before after endpoints us block share.wanted share.exchanges)
 
 -- each of the runs, from the one empty solution on

@@ -20,7 +20,7 @@ use std::thread::Threads;
 /// The rows behind each of several runs, or why there are none, in the order of the runs. Each begins with the one empty solution, so none waits for another: the first step of all is asked for,
 /// then the second, and so on, and the requests of a step of several runs are under way at once where that waits less than one run after the other. A run that is refused stops none of the others.
 ///
-/// What each gives is what `run_flow` would give of it alone: where the wires tell the graphs of all endpoints, the rows are those of its steps over their union, in some order, and what the wires
+/// What each gives is what `run_flow` would give of it alone: where the wires tell the graphs of its units' members, the rows are those of its steps over their union, in some order, and what the wires
 /// gained falls into a share for each run, texts of batches of its units, none of which is sent twice. `Memory`, where there is none for the list of the results.
 pub fn run_side_by_side<R: Threads + Wait + Sync, W: Wire + Send>(
     rt: &R,

@@ -1,9 +1,11 @@
 -- What wires gained adds up.
-use Rattle.std.proofs.Common.{◌≡◌, ◌∙◌, ap, sym, subst, refl, ◌≤◌, List, [], ◌∷◌, ◌++◌, arith, IsPermutation, append_assoc, append-nil}
+use Rattle.std.proofs.Common.{◌≡◌, ◌∙◌, ap, sym, subst, refl, ℕ, zero, suc, ◌≤◌, List, [], ◌∷◌, ◌++◌, Some, slice_get, arith, IsPermutation, append_assoc, append-nil}
 use Rattle.std.proofs.lemmas.List.Sums.{sum_by-append, sum_by-cons}
 use Rattle.std.proofs.lemmas.List.Sorted.{IsPermutation-refl, IsPermutation-append_right, IsPermutation-trans}
+use Rattle.fx_terms.specs.declared.triples.Triple.{Triple}
+use Rattle.fx_outside.specs.Endpoints.{EndpointParts}
 use Rattle.fx_wire.specs.Exchanges.{Exchange, Seen}
-use Rattle.fx_traffic.specs.Gains.{FaultsAddUp, FaultsNeverFall, GainLaws, GainedBeside, GainedInTurn, GainsOfBoth, HaveGained, NothingGained, faults_at}
+use Rattle.fx_traffic.specs.Gains.{FaultsAddUp, FaultsNeverFall, GainLaws, GainedBeside, GainedInTurn, GainsOfBoth, HaveGained, NothingGained, Tell, TellAll, TellEach, TellOf, faults_at}
 use Rattle.fx_traffic.proofs.SentLemmas.{middle_changes}
 
 nothing_gained : NothingGained
@@ -54,5 +56,15 @@ faults_never_fall (w ∷ wires) (l ∷ laters) address h =
     let rest : faults_at wires address ≤ faults_at laters address = faults_never_fall wires laters address h.1 in
     omega (arith, here, rest, sum_by-cons (λ (s : Seen). s.faults address) w wires, sum_by-cons (λ (s : Seen). s.faults address) l laters)
 
+tell_each : TellEach
+tell_each wires [] graphs h at e found = cc
+tell_each wires (f ∷ endpoints) [] h at e found = absurd h
+tell_each wires (f ∷ endpoints) (g ∷ graphs) h zero e found = let same : f ≡ e = cc in subst (λ (v : EndpointParts). Tell wires v.iri g) same h.0
+tell_each wires (f ∷ endpoints) (g ∷ graphs) h (suc at) e found = tell_each wires endpoints graphs h.1 at e found
+
+-- so they tell the graphs of any numbers
+pub told_of : (wires : List Seen) (endpoints : List EndpointParts) (graphs : List (List Triple)) (Of : ℕ → Type 0) → TellAll wires endpoints graphs → TellOf wires endpoints graphs Of
+told_of wires endpoints graphs Of h = λ at e of found. tell_each wires endpoints graphs h at e found
+
 pub gain_laws : GainLaws
-gain_laws = record { nothing = nothing_gained; in_turn = gained_in_turn; beside = gained_beside; add_up = faults_add_up; never_fall = faults_never_fall }
+gain_laws = record { nothing = nothing_gained; in_turn = gained_in_turn; beside = gained_beside; add_up = faults_add_up; never_fall = faults_never_fall; each_tells = tell_each }

@@ -1,8 +1,10 @@
 -- What is known of several wires before and after a call, each by its place among them.
-use Rattle.std.specs.Prelude.{◌≡◌, ℕ, ◌+◌, ◌≤◌, List, [], ◌∷◌, ◌++◌, Some, All, IsPermutation}
+use Rattle.std.specs.Prelude.{◌≡◌, ℕ, Bool, ◌+◌, ◌≤◌, List, [], ◌∷◌, ◌++◌, Some, All, Contains, IsPermutation, slice_get}
 use Rattle.std.specs.List.{sum_by}
 use Rattle.fx_terms.specs.declared.triples.Triple.{Triple}
 use Rattle.fx_outside.specs.Endpoints.{EndpointParts}
+use Rattle.fx_algebra.specs.Units.{graph_of}
+use Rattle.fx_algebra.specs.declared.units.Unit as unit
 use Rattle.fx_wire.specs.Exchanges.{Exchange, IsAfter, Seen}
 
 -- how many faults they counted at an address, together
@@ -20,6 +22,14 @@ TellAll wires [] (graph ∷ graphs) = ⊥
 TellAll wires (e ∷ endpoints) [] = ⊥
 TellAll wires (e ∷ endpoints) (graph ∷ graphs) = Tell wires e.iri graph × TellAll wires endpoints graphs
 
+-- so it is of the address of each endpoint whose number is one of these, with the graph of that number
+abbrev pub TellOf : List Seen → List EndpointParts → List (List Triple) → (ℕ → Type 0) → Type 0
+TellOf wires endpoints graphs Of = (at : ℕ) (e : EndpointParts) → Of at → slice_get endpoints at ≡ Some e → Tell wires e.iri (graph_of graphs at)
+
+-- the members of these units
+abbrev pub IsMemberIn : List unit.Unit → ℕ → Type 0
+IsMemberIn us at = (u : unit.Unit) × Contains us u × Contains u.members at
+
 -- what the logs gained, one wire's part behind the other's
 abbrev pub HaveGained : List Seen → List Seen → List Exchange → Type 0
 HaveGained [] [] xs = xs ≡ []
@@ -33,6 +43,18 @@ AreAfter [] [] = Unit {0}
 AreAfter [] (later ∷ laters) = ⊥
 AreAfter (wire ∷ wires) [] = ⊥
 AreAfter (wire ∷ wires) (later ∷ laters) = IsAfter wire later × AreAfter wires laters
+
+-- ---- wires before and after a call
+
+-- whether they tell their logs, whether they count each address alone, and what is known of them
+pub record WiresSeen : Type 0 where
+  pub tells : Bool
+  pub alone : Bool
+  pub before : List Seen
+  pub after : List Seen
+
+abbrev pub seen : Bool → Bool → List Seen → List Seen → WiresSeen
+seen tells alone before after = record { tells = tells; alone = alone; before = before; after = after }
 
 -- ---- laws
 
@@ -59,9 +81,15 @@ FaultsAddUp = (wires others : List Seen) (address : List ℕ) → faults_at (wir
 abbrev pub FaultsNeverFall : Type 0
 FaultsNeverFall = (wires laters : List Seen) (address : List ℕ) → AreAfter wires laters → faults_at wires address ≤ faults_at laters address
 
+-- where the graph of each endpoint is told, so is that of each number
+abbrev pub TellEach : Type 0
+TellEach = (wires : List Seen) (endpoints : List EndpointParts) (graphs : List (List Triple)) → TellAll wires endpoints graphs
+    → (at : ℕ) (e : EndpointParts) → slice_get endpoints at ≡ Some e → Tell wires e.iri (graph_of graphs at)
+
 pub record GainLaws : Type 0 where
   pub nothing : NothingGained
   pub in_turn : GainedInTurn
   pub beside : GainedBeside
   pub add_up : FaultsAddUp
   pub never_fall : FaultsNeverFall
+  pub each_tells : TellEach

@@ -15,7 +15,8 @@ pub fn sent_adds_up()
     ensures { SentLaws }
 {}
 
-/// What wires gained adds up: of nothing, of one call after another, and of two halves of the wires.
+/// What wires gained adds up: of nothing, of one call after another, and of two halves of the wires. Where they tell the graphs of all endpoints, they tell the
+/// graph of each number.
 pub fn gains_add_up()
     ensures { GainLaws }
 {}
