@@ -35,6 +35,10 @@ pub record IsClaimed (jobs : ℕ) (words : List ℕ) (views : List Drawn) : Type
   pub reached : 0 < sum_by (λ (v : Drawn). v.past) views → jobs < slice_index words 0
   pub fair : (seat : ℕ) (v : Drawn) → get_elem? views seat ≡ some v → IsFair jobs v
 
+-- what two seats know together
+abbrev pub with_both : Drawn → Drawn → Drawn
+with_both v w = hand (v.parts + w.parts) v.jobs (v.past + w.past) (v.numbers ++ w.numbers)
+
 -- a seat that drew nothing, and holds nothing
 abbrev pub IsFresh : ℕ → Drawn × List (ℕ × ℕ) → Type 0
 IsFresh jobs me = (me.1 ≡ []) × (0 < me.0.parts) × (me.0.jobs ≡ jobs) × (me.0.past ≡ 0) × (me.0.numbers ≡ [])

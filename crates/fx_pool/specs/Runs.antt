@@ -6,7 +6,7 @@ use Rattle.fx_terms.specs.Graphs.{IsGraph}
 use Rattle.fx_terms.specs.declared.allocation.Memory.{Memory}
 use Rattle.fx_terms.specs.declared.triples.Triple.{Triple}
 use Rattle.fx_outside.specs.Endpoints.{EndpointParts}
-use Rattle.fx_traffic.specs.Gains.{AreAfter, HaveGained, Tell, faults_at}
+use Rattle.fx_traffic.specs.Gains.{AreAfter, HaveGained, Tell, WiresSeen, faults_at}
 use Rattle.fx_traffic.specs.Sent.{Sent, Sends}
 use Rattle.fx_wire.specs.Exchanges.{Exchange, Seen}
 use Rattle.fx_wire.specs.Honest.{IsHonest}
@@ -68,6 +68,9 @@ pub record WiresDid (tells alone : Bool) (before after : List Seen) (endpoints :
   pub counted : IfSome replies (λ rs. (address : List ℕ) → faults_at before address + failures_at endpoints address js rs ≤ faults_at after address)
   pub few : IsTrue alone → (address : List ℕ) → faults_at after address ≤ faults_at before address + jobs_at endpoints address js
   pub exact : IsTrue alone → IfSome replies (λ rs. (address : List ℕ) → faults_at after address ≡ faults_at before address + failures_at endpoints address js rs)
+
+abbrev pub WiresDidOver : WiresSeen → List EndpointParts → List Job → Option (List JobReply) → Type 0
+WiresDidOver w endpoints js replies = WiresDid w.tells w.alone w.before w.after endpoints js replies
 
 -- ---- answers as replies
 

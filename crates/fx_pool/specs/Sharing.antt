@@ -5,6 +5,7 @@ use Rattle.std.specs.List.Sorted.{IsNonDecreasingBy}
 use Rattle.std.specs.declared.alloc.Global.{Global}
 use Rattle.fx_terms.specs.declared.allocation.Memory.{Memory}
 use Rattle.fx_outside.specs.Endpoints.{EndpointParts}
+use Rattle.fx_traffic.specs.Gains.{WiresSeen}
 use Rattle.fx_wire.specs.Exchanges.{Seen}
 use Rattle.fx_pool.specs.Claims.{IsSameSeat}
 use Rattle.fx_pool.specs.Runs.{WireDid, WiresDid}
@@ -49,6 +50,9 @@ pub record HaveWorked (tells alone : Bool) (before after : List Seen) (endpoints
   pub seat : IsSameSeat me later
   pub did : WiresDid tells alone before after endpoints (jobs_of jobs later.0.numbers) (replies_in result)
   pub all : IfOk result (λ done. (0 < later.0.past) × (map number_of done.items ≡ below (length jobs) later.0.numbers))
+
+abbrev pub HaveWorkedOver : WiresSeen → List EndpointParts → List Job → Drawn × List (ℕ × ℕ) → Drawn × List (ℕ × ℕ) → Result (Vec Done Global) Memory → Type 0
+HaveWorkedOver w endpoints jobs me later result = HaveWorked w.tells w.alone w.before w.after endpoints jobs me later result
 
 -- ---- in the order of their numbers
 

@@ -1,6 +1,6 @@
 //! A word from which workers draw the numbers of jobs, each once.
 ghost use Rattle.std.specs.Prelude.{◌≡◌, ◌+◌, ◌-◌, ◌/◌, ◌<◌, ◌≤◌, ◌++◌, [], ℕ, IfOk};
-ghost use Rattle.fx_pool.specs.Claims.{hand, once_below, times, with_drawn};
+ghost use Rattle.fx_pool.specs.Claims.{hand, once_below, times, with_both, with_drawn};
 
 use atomic_table::{Join, Play, Seat, Split, Table, TableRule};
 use std::alloc::{AllocError, Global};
@@ -76,7 +76,8 @@ pub type Worker = Seat<u8, Drawn>;
 /// A word at 0 for so many jobs, and a seat with every part.
 pub(crate) fn opened(alloc: Global, jobs: u64) -> Result<(Claims, Worker), AllocError>
     requires { jobs < 4294967296 }
-    ensures { IfOk result (λ t. (t.0.shared.table_id.words ≡ 1) × (t.0.shared.key ≡ jobs) × (t.1.table_id ≡ t.0.shared.table_id) × (t.1.me ≡ (hand 16 jobs 0 [], []))) }
+    ensures { IfOk result (λ t.
+        (t.0.shared.table_id.words ≡ 1) × (t.0.shared.key ≡ jobs) × (t.1.table_id ≡ t.0.shared.table_id) × (t.1.me ≡ (hand 16 jobs 0 [], []))) }
 {
     Claims::of_words(alloc, &[0], &jobs)
 }
@@ -107,7 +108,7 @@ pub(crate) fn joined(claims: &Claims, me: &mut Worker, other: Worker)
     requires table { (me.old.table_id ≡ claims.now.shared.table_id) × (other.table_id ≡ claims.now.shared.table_id) × (claims.now.shared.table_id.words ≡ 1) }
     requires may { (0 < me.old.me.0.parts) × (0 < other.me.0.parts) × (me.old.me.1 ≡ []) × (other.me.1 ≡ []) }
     ensures table { me.new.table_id ≡ me.old.table_id }
-    ensures both { me.new.me ≡ (hand (me.old.me.0.parts + other.me.0.parts) me.old.me.0.jobs (me.old.me.0.past + other.me.0.past) (me.old.me.0.numbers ++ other.me.0.numbers), []) }
+    ensures both { me.new.me ≡ (with_both me.old.me.0 other.me.0, []) }
 {
     claims.shared.join_seat::<Halves>(me, other);
 }

@@ -2,7 +2,8 @@
 ghost use Rattle.std.specs.Prelude.{◌≡◌, ◌<◌, [], ◌∷◌, ◌≤◌, All, IfOk, true, length, map};
 ghost use Rattle.fx_outside.specs.Endpoints.{is_sendable};
 ghost use Rattle.fx_pool.specs.Jobs.{IsReplyTo, Tells};
-ghost use Rattle.fx_pool.specs.Runs.{WireDid, WiresDid, all_replies, one_reply};
+ghost use Rattle.fx_pool.specs.Runs.{WireDid, WiresDidOver, all_replies, one_reply};
+ghost use Rattle.fx_traffic.specs.Gains.{seen};
 ghost use Rattle.fx_pool.specs.Telling.{GivesFoundReply, GivesTableReply, GivesTold, GivesTruthReply};
 
 use crate::claims::{known, opened};
@@ -40,7 +41,7 @@ pub fn run_jobs<R: Threads + Wait + Sync, W: Wire + Send>(
     requires sendable { All (λ e. is_sendable e ≡ true) endpoints.now }
     requires within { All (λ j. j.at < length endpoints.now) jobs.now }
     requires few { length jobs.now < 4294967296 }
-    ensures { WiresDid W.tells_log W.counts_alone (map W.seen wires.old) (map W.seen wires.new) endpoints.now jobs.now (all_replies result) }
+    ensures { WiresDidOver (seen W.tells_log W.counts_alone (map W.seen wires.old) (map W.seen wires.new)) endpoints.now jobs.now (all_replies result) }
 {
     let Ok((claims, mut me)) = opened(alloc, jobs.len() as u64) else {
         return Err(Memory);

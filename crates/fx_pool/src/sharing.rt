@@ -3,7 +3,8 @@ ghost use Rattle.std.specs.Prelude.{◌≡◌, ◌<◌, ◌≤◌, ◌++◌, All
 ghost use Rattle.std.specs.Thread.{IsSync};
 ghost use Rattle.fx_outside.specs.Endpoints.{is_sendable};
 ghost use Rattle.fx_pool.specs.Claims.{IsFresh};
-ghost use Rattle.fx_pool.specs.Sharing.{HaveWorked};
+ghost use Rattle.fx_pool.specs.Sharing.{HaveWorkedOver};
+ghost use Rattle.fx_traffic.specs.Gains.{seen};
 
 use crate::claims::{Claims, Worker, joined, split};
 use crate::jobs::Done;
@@ -32,7 +33,8 @@ pub(crate) fn share<R: Threads + Wait + Sync, W: Wire + Send, T: Task + Sync>(
     requires within { All (λ j. j.at < length endpoints.now) (map T.job tasks.now) }
     requires wired { (0 < length wires.old) × (length wires.old ≤ me.old.me.0.parts) }
     ensures table { me.new.table_id ≡ me.old.table_id }
-    ensures worked { HaveWorked W.tells_log W.counts_alone (map W.seen wires.old) (map W.seen wires.new) endpoints.now (map T.job tasks.now) me.old.me me.new.me result }
+    ensures worked { HaveWorkedOver (seen W.tells_log W.counts_alone (map W.seen wires.old) (map W.seen wires.new))
+        endpoints.now (map T.job tasks.now) me.old.me me.new.me result }
 {
     if wires.len() < 2 {
         return work(rt, *alloc, claims, me, endpoints, tasks, &mut wires[0]);
@@ -50,7 +52,8 @@ pub(crate) fn share<R: Threads + Wait + Sync, W: Wire + Send, T: Task + Sync>(
             requires within { All (λ j. j.at < length endpoints.now) (map T.job tasks.now) }
             requires wired { (0 < length left.now) × (length left.now ≤ me.now.me.0.parts) }
             ensures table { me.exit.now.table_id ≡ me.entry.now.table_id }
-            ensures worked { HaveWorked W.tells_log W.counts_alone (map W.seen left.entry.now) (map W.seen left.exit.now) endpoints.entry.now (map T.job tasks.entry.now) me.entry.now.me me.exit.now.me result }
+            ensures worked { HaveWorkedOver (seen W.tells_log W.counts_alone (map W.seen left.entry.now) (map W.seen left.exit.now))
+                endpoints.entry.now (map T.job tasks.entry.now) me.entry.now.me me.exit.now.me result }
         { share(rt, alloc, claims, me, endpoints, tasks, left) },
         &mut || -> Result<Vec<Done>, Memory>
             requires sync { IsSync R.row × IsSync T.row }
@@ -60,7 +63,8 @@ pub(crate) fn share<R: Threads + Wait + Sync, W: Wire + Send, T: Task + Sync>(
             requires within { All (λ j. j.at < length endpoints.now) (map T.job tasks.now) }
             requires wired { (0 < length right.now) × (length right.now ≤ them.now.me.0.parts) }
             ensures table { them.exit.now.table_id ≡ them.entry.now.table_id }
-            ensures worked { HaveWorked W.tells_log W.counts_alone (map W.seen right.entry.now) (map W.seen right.exit.now) endpoints.entry.now (map T.job tasks.entry.now) them.entry.now.me them.exit.now.me result }
+            ensures worked { HaveWorkedOver (seen W.tells_log W.counts_alone (map W.seen right.entry.now) (map W.seen right.exit.now))
+                endpoints.entry.now (map T.job tasks.entry.now) them.entry.now.me them.exit.now.me result }
         { share(rt, alloc, claims, them, endpoints, tasks, right) },
     );
     joined(claims, me, other);
