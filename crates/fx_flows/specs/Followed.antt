@@ -4,13 +4,13 @@ use Rattle.std.specs.declared.alloc.Global.{Global}
 use Rattle.std.specs.declared.vec.Vec.{Vec}
 use Rattle.fx_terms.specs.declared.allocation.Memory.{Memory}
 use Rattle.fx_terms.specs.declared.triples.Triple.{Triple}
-use Rattle.fx_outside.specs.Endpoints.{EndpointParts}
+use Rattle.fx_outside.specs.Endpoints.{EndpointParts, is_sendable}
 use Rattle.fx_algebra.specs.Graphs.{union}
 use Rattle.fx_algebra.specs.declared.units.Row.{Row}
 use Rattle.fx_algebra.specs.declared.units.Unit as unit
-use Rattle.fx_spelling.specs.Units.{IsSound}
+use Rattle.fx_spelling.specs.Units.{IsFit, IsSound}
 use Rattle.fx_traffic.specs.Batches.{AreCut}
-use Rattle.fx_traffic.specs.Gains.{AreAfter, HaveGained, IsMemberIn, TellOf, faults_at}
+use Rattle.fx_traffic.specs.Gains.{AreAfter, HaveGained, IsMemberIn, TellOf, WiresSeen, faults_at}
 use Rattle.fx_traffic.specs.Sent.{Sent, Sends}
 use Rattle.fx_wire.specs.Exchanges.{Exchange, Seen}
 use Rattle.fx_flows.specs.Flows.{AreTold, HasMemberCause, IsBatchRead, IsShort, Passed}
@@ -23,6 +23,17 @@ use Rattle.fx_flows.specs.declared.flows.FlowError.TheVariants as flow
 use Rattle.fx_flows.specs.declared.lines.Hand.{Hand}
 use Rattle.fx_flows.specs.declared.parcels.RunShape.{RunShape}
 use Rattle.fx_flows.specs.declared.parcels.Parcel.{Parcel}
+
+-- ---- what is followed
+
+-- parcels of a run can be followed: it has these units, a batch has room for a row and for 64 at most, the endpoints can be sent to, and units are fit and asked of these endpoints
+pub record CanFollow (es : List EndpointParts) (us : List unit.Unit) (c : RunShape) : Type 0 where
+  pub units : c.units ≡ length us
+  pub positive : 0 < c.block
+  pub most : c.block ≤ 64
+  pub sendable : All (λ e. is_sendable e ≡ true) es
+  pub fit : All IsFit us
+  pub within : All (λ u. All (λ at. at < length es) u.members) us
 
 -- ---- the balance of a worker
 
@@ -175,6 +186,9 @@ pub record HaveFlowed (tells alone : Bool) (before after : List Seen) (es : List
   pub did : WiresFlowed tells alone before after es us c from to tried held rows
   pub ended : IfOk result (λ made. (tried ≡ []) × (held ≡ []) × (made.items ≡ rows))
   pub cause : IfErr result (HasFlowCause before after es us c.block (parcels_sent es us tried) did.exchanges)
+
+abbrev pub HaveFlowedOver : WiresSeen → List EndpointParts → List unit.Unit → RunShape → Hand → Hand → Result (Vec Row Global) FlowError → Type 0
+HaveFlowedOver w es us c from to result = HaveFlowed w.tells w.alone w.before w.after es us c from to result
 
 -- the rows of two calls, one's behind the other's; or the refusal of the first, or of the second, or want of memory for the list
 abbrev pub AreOfBoth : Result (Vec Row Global) FlowError → Result (Vec Row Global) FlowError → Result (Vec Row Global) FlowError → Type 0

@@ -8,7 +8,7 @@ use Rattle.fx_algebra.specs.declared.units.Unit as unit
 use Rattle.fx_spelling.specs.Units.{IsSound}
 use Rattle.fx_steps.specs.Steps.{stepped}
 use Rattle.fx_traffic.specs.Batches.{IsBatchText, IsRunSent, IsSized, unit_sent}
-use Rattle.fx_traffic.specs.Gains.{AreAfter, HaveGained, IsMemberIn, Tell, TellOf, faults_at}
+use Rattle.fx_traffic.specs.Gains.{AreAfter, HaveGained, IsMemberIn, Tell, TellOf, WiresSeen, faults_at}
 use Rattle.fx_traffic.specs.Sent.{Sent, Sends}
 use Rattle.fx_wire.specs.Exchanges.{Exchange, Seen}
 use Rattle.fx_flows.specs.Flows.{IsBatchRead, IsCause, IsShort, Names}
@@ -58,3 +58,6 @@ pub record RunFlowed (tells alone : Bool) (before after : List Seen) (endpoints 
   pub of_run : (graphs : List (List Triple)) → TellOf before endpoints graphs (IsMemberIn us) → All (IsSound graphs) us → IsRunSent endpoints (union graphs) block 1 us rows wanted
   pub done : IfOk result (λ next. (graphs : List (List Triple)) → TellOf before endpoints graphs (IsMemberIn us) → All (IsSound graphs) us → IsPermutation next (stepped (union graphs) us rows))
   pub cause : IfErr result (HasFlowCause before after endpoints us block wanted exchanges)
+
+abbrev pub RunFlowedOver : WiresSeen → List EndpointParts → List unit.Unit → ℕ → List Row → Result (List Row) FlowError → Type 0
+RunFlowedOver w endpoints us block rows result = RunFlowed w.tells w.alone w.before w.after endpoints us block rows result

@@ -14,7 +14,7 @@ use Rattle.fx_bound.specs.Answers.{AreReadOf, numbers}
 use Rattle.fx_bound.specs.Parts.{Parts}
 use Rattle.fx_founds.specs.declared.founds.Found.{Found}
 use Rattle.fx_traffic.specs.Batches.{batches_sent, joined, member_sent, unit_sent}
-use Rattle.fx_traffic.specs.Gains.{AreAfter, HaveGained, Tell, TellOf, faults_at}
+use Rattle.fx_traffic.specs.Gains.{AreAfter, HaveGained, Tell, TellOf, WiresSeen, faults_at}
 use Rattle.fx_traffic.specs.Sent.{Sent, Sends}
 use Rattle.fx_wire.specs.Exchanges.{Exchange, Seen}
 use Rattle.fx_flows.specs.Flows.{AskedBatch, IsBatchRead, IsCause, IsReadFor, IsShort, Names}
@@ -60,6 +60,9 @@ pub record MembersAsked (tells alone : Bool) (before after : List Seen) (endpoin
   pub read : IfOk result (λ lists. (graphs : List (List Triple)) → TellOf before endpoints graphs (Contains members) → AreReadOf graphs p members lists)
   pub cause : IfErr result (HasAskedCause before after endpoints p members exchanges)
 
+abbrev pub MembersAskedOver : WiresSeen → List EndpointParts → Parts → List ℕ → Result (List (List Found)) FlowError → Type 0
+MembersAskedOver w endpoints p members result = MembersAsked w.tells w.alone w.before w.after endpoints p members result
+
 -- the lists of two calls, one's behind the other's; or the refusal of the first, or of the second, or want of memory for the list
 abbrev pub AreListsOfBoth : Result (Vec (List Found) Global) FlowError → Result (Vec (List Found) Global) FlowError → Result (Vec (List Found) Global) FlowError → Type 0
 AreListsOfBoth (Ok ours) (Ok theirs) (Ok all) = all.items ≡ ours.items ++ theirs.items
@@ -86,6 +89,9 @@ pub record BatchAsked (tells alone : Bool) (before after : List Seen) (endpoints
   pub faultless : IfOk result (λ _. All (IsReadFor p) exchanges)
   pub done : IfOk result (λ rows. (graphs : List (List Triple)) → TellOf before endpoints graphs (Contains p.unit.members) → IsSound graphs p.unit → IsPermutation rows (step (union graphs) p.unit p.rows))
   pub cause : IfErr result (HasAskedCause before after endpoints p p.unit.members exchanges)
+
+abbrev pub BatchAskedOver : WiresSeen → List EndpointParts → Parts → Result (List Row) FlowError → Type 0
+BatchAskedOver w endpoints p result = BatchAsked w.tells w.alone w.before w.after endpoints p result
 
 -- ---- a step
 
@@ -116,6 +122,9 @@ pub record StepAsked (tells alone : Bool) (before after : List Seen) (endpoints 
   pub faultless : IfOk result (λ _. All (IsBatchRead (λ v. v ≡ u)) exchanges)
   pub done : IfOk result (λ rows. (graphs : List (List Triple)) → TellOf before endpoints graphs (Contains u.members) → IsSound graphs u → IsPermutation rows (step (union graphs) u (joined batches)))
   pub cause : IfErr result (HasStepCause before after endpoints u batches exchanges)
+
+abbrev pub StepAskedOver : WiresSeen → List EndpointParts → unit.Unit → List (List Row) → Result (List Row) FlowError → Type 0
+StepAskedOver w endpoints u batches result = StepAsked w.tells w.alone w.before w.after endpoints u batches result
 
 -- ---- a law
 

@@ -11,13 +11,15 @@ ghost use Rattle.fx_outside.specs.Endpoints.{is_sendable};
 ghost use Rattle.fx_flows.specs.Flows.{AskedBatch, AskedMember, AskedMembers, lists_in, rows_in};
 ghost use Rattle.fx_flows.specs.Flows as spec;
 ghost use Rattle.fx_flows.specs.Lines.{hand};
-ghost use Rattle.fx_flows.specs.RunFlows.{RunFlowed};
+ghost use Rattle.fx_flows.specs.Followed.{CanFollow};
+ghost use Rattle.fx_flows.specs.RunFlows.{RunFlowedOver};
 ghost use Rattle.fx_steps.specs.Steps.{numbered};
 ghost use Rattle.fx_traffic.specs.Batches.{AreCut, IsSized};
+ghost use Rattle.fx_traffic.specs.Gains.{seen};
 
 use crate::cutting::cut;
 use crate::flowing::flow_out;
-use crate::following::put_all;
+use crate::following::{Queue, Run, put_all};
 use crate::gates::Gate;
 use crate::lines::{Line, Ticket, lined, waiting};
 use crate::parcels::RunShape;
@@ -75,7 +77,8 @@ pub fn run_flow<R: Threads + Wait + Sync, W: Wire + Send>(
     requires fit { All IsFit units.now }
     requires block { (0 < block) × (block ≤ 64) }
     requires within { All (λ u. All (λ at. at < length endpoints.now) u.members) units.now }
-    ensures { RunFlowed W.tells_log W.counts_alone (map W.seen wires.old) (map W.seen wires.new) endpoints.now units.now block (numbered 0 rows.now) (rows_in result) }
+    ensures { RunFlowedOver (seen W.tells_log W.counts_alone (map W.seen wires.old) (map W.seen wires.new))
+        endpoints.now units.now block (numbered 0 rows.now) (rows_in result) }
 {
     let Ok(first) = number(alloc, rows) else {
         return Err(FlowError::Memory);
@@ -99,7 +102,8 @@ pub fn run_rows<R: Threads + Wait + Sync, W: Wire + Send>(
     requires fit { All IsFit units.now }
     requires block { (0 < block) × (block ≤ 64) }
     requires within { All (λ u. All (λ at. at < length endpoints.now) u.members) units.now }
-    ensures { RunFlowed W.tells_log W.counts_alone (map W.seen wires.old) (map W.seen wires.new) endpoints.now units.now block rows.items (rows_in result) }
+    ensures { RunFlowedOver (seen W.tells_log W.counts_alone (map W.seen wires.old) (map W.seen wires.new))
+        endpoints.now units.now block rows.items (rows_in result) }
 {
     let mut left = units;
     let mut entering = rows;
@@ -136,7 +140,8 @@ fn ask_unit<R: Threads + Wait + Sync, W: Wire + Send>(
     requires within { All (λ at. at < length endpoints.now) unit.now.members }
     requires first { (0 < length batches.items) × All (IsSized block) batches.items }
     ensures { (rows : List RowParts) → AreCut rows block batches.items
-        → RunFlowed W.tells_log W.counts_alone (map W.seen wires.old) (map W.seen wires.new) endpoints.now (unit.now ∷ []) block rows (rows_in result) }
+        → RunFlowedOver (seen W.tells_log W.counts_alone (map W.seen wires.old) (map W.seen wires.new))
+        endpoints.now (unit.now ∷ []) block rows (rows_in result) }
 {
     if waits_less_in_rounds(batches.len(), unit.members.len(), wires.len()) {
         return ask_rounds(rt, &alloc, endpoints, unit, batches.as_slice(), wires);
@@ -150,7 +155,8 @@ fn first_of<'a>(units: &'a [Unit], _endpoints: &[Endpoint]) -> Option<(&'a Unit,
     requires within { All (λ u. All (λ at. at < length _endpoints.now) u.members) units.now }
     ensures whole { MatchOption result (units.now ≡ []) (λ p. units.now ≡ p.0.now ∷ p.1.now) }
     ensures fit { IfSome result (λ p. IsFit p.0.now × All IsFit p.1.now) }
-    ensures within { IfSome result (λ p. All (λ at. at < length _endpoints.now) p.0.now.members × All (λ u. All (λ at. at < length _endpoints.now) u.members) p.1.now) }
+    ensures within { IfSome result (λ p. All (λ at. at < length _endpoints.now) p.0.now.members
+        × All (λ u. All (λ at. at < length _endpoints.now) u.members) p.1.now) }
 {
     match units.split_first() {
         None => None,
@@ -176,7 +182,8 @@ fn piped<R: Threads + Wait + Sync, W: Wire + Send>(
     requires within { All (λ u. All (λ at. at < length endpoints.now) u.members) units.now }
     requires first { (0 < length first.items) × All (IsSized block) first.items }
     ensures { (rows : List RowParts) → AreCut rows block first.items
-        → RunFlowed W.tells_log W.counts_alone (map W.seen wires.old) (map W.seen wires.new) endpoints.now units.now block rows (rows_in result) }
+        → RunFlowedOver (seen W.tells_log W.counts_alone (map W.seen wires.old) (map W.seen wires.new))
+        endpoints.now units.now block rows (rows_in result) }
 {
     let shape = RunShape {
         units: units.len() as u64,
@@ -185,9 +192,12 @@ fn piped<R: Threads + Wait + Sync, W: Wire + Send>(
     let Ok((line, mut me)) = lined(alloc) else {
         return Err(FlowError::Memory);
     };
-    let found = all_rows(
-        rt, alloc, &line, &mut me, shape, first, endpoints, units, wires,
-    );
+    let run = Run {
+        endpoints,
+        units,
+        shape,
+    };
+    let found = all_rows(rt, alloc, &line, &mut me, &run, first, wires);
     line.destroy();
     found
 }
@@ -198,29 +208,31 @@ fn all_rows<R: Threads + Wait + Sync, W: Wire + Send, U: Step + Sync>(
     alloc: Global,
     line: &Line,
     me: &mut Ticket,
-    shape: RunShape,
+    run: &Run<'_, U>,
     first: Vec<Items<Row>>,
-    endpoints: &[Endpoint],
-    units: &[U],
     wires: &mut [W],
 ) -> Result<Vec<Row>, FlowError>
     requires pass { IsSegPassOf line.now me.old × (me.old.me.view.client ≡ hand 16 None [] []) }
-    requires first { (0 < length first.items) × All (IsSized shape.block) first.items }
-    requires shape { (shape.units ≡ length (map U.unit units.now)) × (0 < shape.units) × (0 < shape.block) × (shape.block ≤ 64) }
+    requires first { (0 < length first.items) × All (IsSized run.now.shape.block) first.items }
     requires wired { (0 < length wires.old) × (length wires.old ≤ 16) }
-    requires sendable { All (λ e. is_sendable e ≡ true) endpoints.now }
-    requires fit { All IsFit (map U.unit units.now) }
-    requires within { All (λ u. All (λ at. at < length endpoints.now) u.members) (map U.unit units.now) }
-    ensures { (rows : List RowParts) → AreCut rows shape.block first.items
-        → RunFlowed W.tells_log W.counts_alone (map W.seen wires.old) (map W.seen wires.new) endpoints.now (map U.unit units.now) shape.block rows (rows_in result) }
+    requires run { CanFollow run.now.endpoints.now (map U.unit run.now.units.now) run.now.shape }
+    requires some { 0 < run.now.shape.units }
+    ensures { (rows : List RowParts) → AreCut rows run.now.shape.block first.items
+        → RunFlowedOver (seen W.tells_log W.counts_alone (map W.seen wires.old) (map W.seen wires.new))
+        run.now.endpoints.now (map U.unit run.now.units.now) run.now.shape.block rows (rows_in result) }
 {
     let gate = Gate::new(first.len() as u64);
-    let count = wanted(first.len(), units.len(), wires.len());
-    if put_all(rt, line, me, shape, 0, first).is_err() {
+    let count = wanted(first.len(), run.units.len(), wires.len());
+    if put_all(rt, line, me, run.shape, 0, first).is_err() {
         return Err(FlowError::Memory);
     }
     let (used, _idle) = wires.split_at_mut(count);
-    let found = flow_out(rt, alloc, line, me, &gate, shape, endpoints, units, used);
+    let queue = Queue {
+        alloc,
+        line,
+        gate: &gate,
+    };
+    let found = flow_out(rt, &queue, me, run, used);
     // After a refusal the parcels that wait are those that nobody took.
     let _left = waiting(rt, line, me);
     found

@@ -1,11 +1,9 @@
 //! One worker with its wire, on the way of parcels through the units of a run.
-ghost use Rattle.std.specs.Prelude.{◌≡◌, ◌<◌, ◌≤◌, ◌+◌, ◌++◌, [], ◌∷◌, All, IfSome, MatchOption, None, Some, OnOk, false, length, map, true};
+ghost use Rattle.std.specs.Prelude.{◌≡◌, ◌<◌, All, IfSome, MatchOption, OnOk, Some, false, length, map, true};
 ghost use Rattle.crossbeam_queue.specs.SegTies.{IsSegPassOf};
-ghost use Rattle.fx_outside.specs.Endpoints.{is_sendable};
-ghost use Rattle.fx_spelling.specs.Units.{IsFit};
 ghost use Rattle.fx_traffic.specs.Batches.{IsSized};
-ghost use Rattle.fx_flows.specs.Followed.{ArePut, Followed, HasFlowed, HasPassedOn, IsNext, IsPutButOne, IsSamePass};
-ghost use Rattle.fx_flows.specs.Lines.{IsOf, MayPut, hand};
+ghost use Rattle.fx_flows.specs.Followed.{ArePut, CanFollow, Followed, HasFlowed, HasPassedOn, IsNext, IsPutButOne, IsSamePass};
+ghost use Rattle.fx_flows.specs.Lines.{IsOf, MayPut, with_taken};
 ghost use Rattle.fx_flows.specs.Parcels.{IsParcelOf, SameParcels, parcels};
 
 use crate::cutting::cut;
@@ -21,42 +19,51 @@ use fx_wire::Wire;
 use std::alloc::Global;
 use std::sync::Wait;
 
+/// What a run asks: its endpoints, its units, and how many these are and rows a parcel may have.
+#[derive(Drop)]
+pub(crate) struct Run<'a, U> {
+    pub(crate) endpoints: &'a [Endpoint],
+    pub(crate) units: &'a [U],
+    pub(crate) shape: RunShape,
+}
+
+/// The queue of a run's parcels, where its workers wait for them, and take memory for more.
+#[derive(Drop)]
+pub(crate) struct Queue<'a> {
+    pub(crate) alloc: Global,
+    pub(crate) line: &'a Line,
+    pub(crate) gate: &'a Gate,
+}
+
 /// Takes parcels, and follows each through the units with its wire: it asks the members of the unit for the parcel's rows, keeps one batch of
 /// what they have in hand and puts the others, and keeps the rows behind the last unit. Where it `waits` it ends when the run is over, and
 /// else when the queue is empty. A fault, or want of memory, ends it before.
 pub(crate) fn work<R: Wait, W: Wire, U: Step>(
     rt: &R,
-    alloc: Global,
-    line: &Line,
+    queue: &Queue<'_>,
     me: &mut Ticket,
-    gate: &Gate,
     waits: bool,
-    shape: RunShape,
-    endpoints: &[Endpoint],
-    units: &[U],
+    run: &Run<'_, U>,
     wire: &mut W,
 ) -> Result<Vec<Row>, FlowError>
-    requires pass { IsSegPassOf line.now me.old × (0 < me.old.me.view.client.parts) }
-    requires shape { (me.old.me.view.client.shape ≡ Some shape) × (shape.units ≡ length (map U.unit units.now)) × (0 < shape.block) × (shape.block ≤ 64) }
-    requires sendable { All (λ e. is_sendable e ≡ true) endpoints.now }
-    requires fit { All IsFit (map U.unit units.now) }
-    requires within { All (λ u. All (λ at. at < length endpoints.now) u.members) (map U.unit units.now) }
-    ensures pass { IsSegPassOf line.now me.new × IsSamePass me.old.me.view.client me.new.me.view.client }
-    ensures flowed { HasFlowed W.counts_alone (W.seen wire.old) (W.seen wire.new) endpoints.now (map U.unit units.now) shape me.old.me.view.client me.new.me.view.client result }
+    requires pass { IsSegPassOf queue.now.line.now me.old × (0 < me.old.me.view.client.parts) }
+    requires run { CanFollow run.now.endpoints.now (map U.unit run.now.units.now) run.now.shape }
+    requires shape { me.old.me.view.client.shape ≡ Some run.now.shape }
+    ensures pass { IsSegPassOf queue.now.line.now me.new × IsSamePass me.old.me.view.client me.new.me.view.client }
+    ensures flowed { HasFlowed W.counts_alone (W.seen wire.old) (W.seen wire.new) run.now.endpoints.now (map U.unit run.now.units.now) run.now.shape
+        me.old.me.view.client me.new.me.view.client result }
     ensures empty { OnOk result (waits ≡ false → me.old.me.view.client.parts ≡ 16 → SameParcels me.new.me.view.client.put me.new.me.view.client.took) }
 {
-    let mut made = Vec::new(alloc);
+    let mut made = Vec::new(queue.alloc);
     let mut in_hand = None;
     for _ in rt.forever() {
-        let Some(parcel) = next(rt, line, me, gate, waits, shape, in_hand) else {
+        let Some(parcel) = next(rt, queue, me, waits, run.shape, in_hand) else {
             return Ok(made);
         };
-        match follow(
-            rt, alloc, line, me, gate, shape, endpoints, units, wire, parcel, &mut made,
-        ) {
+        match follow(rt, queue, me, run, wire, parcel, &mut made) {
             Ok(next) => in_hand = next,
             Err(error) => {
-                gate.close(rt);
+                queue.gate.close(rt);
                 return Err(error);
             }
         }
@@ -67,42 +74,35 @@ pub(crate) fn work<R: Wait, W: Wire, U: Step>(
 // The parcel in hand, or the next from the queue. Where the run is over, what is in hand is put back.
 fn next<R: Wait>(
     rt: &R,
-    line: &Line,
+    queue: &Queue<'_>,
     me: &mut Ticket,
-    gate: &Gate,
     waits: bool,
-    shape: RunShape,
+    _shape: RunShape,
     in_hand: Option<Parcel>,
 ) -> Option<Parcel>
-    requires pass { IsSegPassOf line.now me.old × (0 < me.old.me.view.client.parts) × (me.old.me.view.client.shape ≡ Some shape) }
-    requires parcel { IfSome in_hand (IsParcelOf shape) }
-    ensures pass { IsSegPassOf line.now me.new }
+    requires pass { IsSegPassOf queue.now.line.now me.old × (0 < me.old.me.view.client.parts) × (me.old.me.view.client.shape ≡ Some _shape) }
+    requires parcel { IfSome in_hand (IsParcelOf _shape) }
+    ensures pass { IsSegPassOf queue.now.line.now me.new }
     ensures next { IsNext in_hand waits me.old.me.view.client me.new.me.view.client result }
 {
     match in_hand {
-        Some(parcel) if waits => kept(rt, line, me, gate, parcel),
+        Some(parcel) if waits => kept(rt, queue, me, parcel),
         Some(parcel) => Some(parcel),
-        None if waits => waited_for(rt, line, me, gate),
-        None => take(rt, line, me),
+        None if waits => waited_for(rt, queue, me),
+        None => take(rt, queue.line, me),
     }
 }
 
 // The parcel in hand, which is put back where the run is over, if there is room.
-fn kept<R: Wait>(
-    rt: &R,
-    line: &Line,
-    me: &mut Ticket,
-    gate: &Gate,
-    parcel: Parcel,
-) -> Option<Parcel>
-    requires pass { IsSegPassOf line.now me.old × (0 < me.old.me.view.client.parts) × (me.old.me.view.client.shape ≡ Some parcel.shape) }
+fn kept<R: Wait>(rt: &R, queue: &Queue<'_>, me: &mut Ticket, parcel: Parcel) -> Option<Parcel>
+    requires pass { IsSegPassOf queue.now.line.now me.old × (0 < me.old.me.view.client.parts) × (me.old.me.view.client.shape ≡ Some parcel.shape) }
     requires parcel { IsParcelOf parcel.shape parcel }
-    ensures pass { IsSegPassOf line.now me.new }
+    ensures pass { IsSegPassOf queue.now.line.now me.new }
     ensures next { IsNext (Some parcel) true me.old.me.view.client me.new.me.view.client result }
 {
-    match gate.seen(rt) {
+    match queue.gate.seen(rt) {
         Some(_) => Some(parcel),
-        None => match put(rt, line, me, parcel) {
+        None => match put(rt, queue.line, me, parcel) {
             Ok(()) => None,
             Err(parcel) => Some(parcel),
         },
@@ -110,20 +110,20 @@ fn kept<R: Wait>(
 }
 
 // The next parcel from the queue, unless the run is over.
-fn waited_for<R: Wait>(rt: &R, line: &Line, me: &mut Ticket, gate: &Gate) -> Option<Parcel>
-    requires pass { IsSegPassOf line.now me.old × (0 < me.old.me.view.client.parts) }
-    ensures pass { IsSegPassOf line.now me.new }
+fn waited_for<R: Wait>(rt: &R, queue: &Queue<'_>, me: &mut Ticket) -> Option<Parcel>
+    requires pass { IsSegPassOf queue.now.line.now me.old × (0 < me.old.me.view.client.parts) }
+    ensures pass { IsSegPassOf queue.now.line.now me.new }
     ensures took { MatchOption result
         (me.new.me.view.client ≡ me.old.me.view.client)
-        (λ p. (me.new.me.view.client ≡ hand me.old.me.view.client.parts me.old.me.view.client.shape me.old.me.view.client.put (me.old.me.view.client.took ++ p ∷ [])) × IsOf me.old.me.view.client.shape p) }
+        (λ p. (me.new.me.view.client ≡ with_taken me.old.me.view.client p) × IsOf me.old.me.view.client.shape p) }
 {
     for _ in rt.forever() {
-        let Some(seen) = gate.seen(rt) else {
+        let Some(seen) = queue.gate.seen(rt) else {
             return None;
         };
-        match take(rt, line, me) {
+        match take(rt, queue.line, me) {
             Some(parcel) => return Some(parcel),
-            None => gate.wait(rt, seen),
+            None => queue.gate.wait(rt, seen),
         }
     }
     unreachable!()
@@ -132,30 +132,26 @@ fn waited_for<R: Wait>(rt: &R, line: &Line, me: &mut Ticket, gate: &Gate) -> Opt
 // Asks the members of a parcel's unit for its rows, and passes on what they have. The next parcel may be in hand.
 fn follow<R: Wait, W: Wire, U: Step>(
     rt: &R,
-    alloc: Global,
-    line: &Line,
+    queue: &Queue<'_>,
     me: &mut Ticket,
-    gate: &Gate,
-    shape: RunShape,
-    endpoints: &[Endpoint],
-    units: &[U],
+    run: &Run<'_, U>,
     wire: &mut W,
     parcel: Parcel,
     made: &mut Vec<Row>,
 ) -> Result<Option<Parcel>, FlowError>
-    requires pass { IsSegPassOf line.now me.old × (0 < me.old.me.view.client.parts) }
-    requires shape { (me.old.me.view.client.shape ≡ Some shape) × (shape.units ≡ length (map U.unit units.now)) × (0 < shape.block) × (shape.block ≤ 64) }
-    requires parcel { IsParcelOf shape parcel }
-    requires sendable { All (λ e. is_sendable e ≡ true) endpoints.now }
-    requires fit { All IsFit (map U.unit units.now) }
-    requires within { All (λ u. All (λ at. at < length endpoints.now) u.members) (map U.unit units.now) }
-    ensures pass { IsSegPassOf line.now me.new × IsSamePass me.old.me.view.client me.new.me.view.client }
-    ensures followed { Followed W.counts_alone (W.seen wire.old) (W.seen wire.new) endpoints.now (map U.unit units.now) shape me.old.me.view.client me.new.me.view.client parcel made.old.items made.new.items result }
+    requires pass { IsSegPassOf queue.now.line.now me.old × (0 < me.old.me.view.client.parts) }
+    requires run { CanFollow run.now.endpoints.now (map U.unit run.now.units.now) run.now.shape }
+    requires shape { me.old.me.view.client.shape ≡ Some run.now.shape }
+    requires parcel { IsParcelOf run.now.shape parcel }
+    ensures pass { IsSegPassOf queue.now.line.now me.new × IsSamePass me.old.me.view.client me.new.me.view.client }
+    ensures followed { Followed W.counts_alone (W.seen wire.old) (W.seen wire.new) run.now.endpoints.now (map U.unit run.now.units.now) run.now.shape
+        me.old.me.view.client me.new.me.view.client parcel made.old.items made.new.items result }
 {
+    let units = run.units;
     let unit = &units[parcel.step as usize];
-    match unit.ask(alloc, wire, endpoints, parcel.rows.as_slice()) {
+    match unit.ask(queue.alloc, wire, run.endpoints, parcel.rows.as_slice()) {
         Err(error) => Err(error),
-        Ok(found) => match pass_on(rt, alloc, line, me, gate, shape, parcel.step, found, made) {
+        Ok(found) => match pass_on(rt, queue, me, run.shape, parcel.step, found, made) {
             Ok(next) => Ok(next),
             Err(Memory) => Err(FlowError::Memory),
         },
@@ -165,18 +161,16 @@ fn follow<R: Wait, W: Wire, U: Step>(
 // Rows that were found for the unit of a number join those behind the last unit, or are cut for the next one: one batch is kept in hand, the others are put.
 fn pass_on<R: Wait>(
     rt: &R,
-    alloc: Global,
-    line: &Line,
+    queue: &Queue<'_>,
     me: &mut Ticket,
-    gate: &Gate,
     shape: RunShape,
     at: u64,
     found: Vec<Row>,
     made: &mut Vec<Row>,
 ) -> Result<Option<Parcel>, Memory>
-    requires pass { IsSegPassOf line.now me.old × (0 < me.old.me.view.client.parts) }
+    requires pass { IsSegPassOf queue.now.line.now me.old × (0 < me.old.me.view.client.parts) }
     requires shape { (me.old.me.view.client.shape ≡ Some shape) × (0 < shape.block) × (at < shape.units) }
-    ensures pass { IsSegPassOf line.now me.new × IsSamePass me.old.me.view.client me.new.me.view.client }
+    ensures pass { IsSegPassOf queue.now.line.now me.new × IsSamePass me.old.me.view.client me.new.me.view.client }
     ensures passed { HasPassedOn shape at me.old.me.view.client me.new.me.view.client found.items made.old.items made.new.items result }
 {
     let step = at + 1;
@@ -185,38 +179,37 @@ fn pass_on<R: Wait>(
         if made.append(&mut found).is_err() {
             return Err(Memory);
         }
-        gate.finished(rt);
+        queue.gate.finished(rt);
         return Ok(None);
     }
-    let batches = cut(alloc, found, shape.block)?;
-    put_all_but_one(rt, line, me, gate, shape, step, batches)
+    let batches = cut(queue.alloc, found, shape.block)?;
+    put_all_but_one(rt, queue, me, shape, step, batches)
 }
 
 // Puts batches for a unit, and keeps the last in hand.
 fn put_all_but_one<R: Wait>(
     rt: &R,
-    line: &Line,
+    queue: &Queue<'_>,
     me: &mut Ticket,
-    gate: &Gate,
     shape: RunShape,
     step: u64,
     batches: Vec<Items<Row>>,
 ) -> Result<Option<Parcel>, Memory>
-    requires pass { IsSegPassOf line.now me.old × (0 < me.old.me.view.client.parts) }
+    requires pass { IsSegPassOf queue.now.line.now me.old × (0 < me.old.me.view.client.parts) }
     requires shape { (me.old.me.view.client.shape ≡ Some shape) × (step < shape.units) × All (IsSized shape.block) batches.items }
-    ensures pass { IsSegPassOf line.now me.new × IsSamePass me.old.me.view.client me.new.me.view.client }
+    ensures pass { IsSegPassOf queue.now.line.now me.new × IsSamePass me.old.me.view.client me.new.me.view.client }
     ensures put { IsPutButOne shape step me.old.me.view.client me.new.me.view.client batches.items result }
 {
     let mut batches = batches;
     let Some(rows) = batches.pop() else {
-        gate.finished(rt);
+        queue.gate.finished(rt);
         return Ok(None);
     };
     if !batches.is_empty() {
         let count = batches.len() as u64;
-        gate.more(rt, count);
-        put_all(rt, line, me, shape, step, batches)?;
-        gate.put(rt, count);
+        queue.gate.more(rt, count);
+        put_all(rt, queue.line, me, shape, step, batches)?;
+        queue.gate.put(rt, count);
     }
     Ok(Some(Parcel { shape, step, rows }))
 }
@@ -233,7 +226,8 @@ pub(crate) fn put_all<R: Wait>(
     requires pass { IsSegPassOf line.now me.old × (0 < me.old.me.view.client.parts) }
     requires shape { MayPut shape me.old.me.view.client × (step < shape.units) × All (IsSized shape.block) batches.items }
     ensures pass { IsSegPassOf line.now me.new }
-    ensures shape { (0 < length batches.items → OnOk result (me.new.me.view.client.shape ≡ Some shape)) × (me.old.me.view.client.shape ≡ Some shape → me.new.me.view.client.shape ≡ Some shape) }
+    ensures shape { (0 < length batches.items → OnOk result (me.new.me.view.client.shape ≡ Some shape))
+        × (me.old.me.view.client.shape ≡ Some shape → me.new.me.view.client.shape ≡ Some shape) }
     ensures put { ArePut me.old.me.view.client me.new.me.view.client (parcels shape step batches.items) result }
 {
     for rows in batches {

@@ -2,7 +2,7 @@
 ghost use Rattle.std.specs.Prelude.{◌≡◌, ◌-◌, ◌+◌, ◌/◌, ◌<◌, ◌≤◌, ◌++◌, [], ◌∷◌, IfOk, MatchOption, MatchResult, None, Some};
 ghost use Rattle.crossbeam_queue.specs.SegTies.{IsSegPassOf};
 ghost use Rattle.crossbeam_queue.specs.Fifo.{Held};
-ghost use Rattle.fx_flows.specs.Lines.{IsOf, MayPut, hand};
+ghost use Rattle.fx_flows.specs.Lines.{IsOf, MayPut, hand, other_half, own_half, with_both, with_put, with_taken};
 ghost use Rattle.fx_flows.specs.Parcels.{IsParcelOf, SameParcels};
 
 use crate::parcels::{Parcel, RunShape};
@@ -105,7 +105,7 @@ pub(crate) fn put<R: Wait>(
     requires may { MayPut parcel.shape me.old.me.view.client × IsParcelOf parcel.shape parcel }
     ensures pass { IsSegPassOf line.now me.new }
     ensures put { MatchResult result
-        (λ _. me.new.me.view.client ≡ hand me.old.me.view.client.parts (Some parcel.shape) (me.old.me.view.client.put ++ parcel ∷ []) me.old.me.view.client.took)
+        (λ _. me.new.me.view.client ≡ with_put me.old.me.view.client parcel)
         (λ p. (p ≡ parcel) × (me.new.me.view.client ≡ me.old.me.view.client)) }
 {
     line.push_as::<Puts, R>(rt, me, parcel)
@@ -116,8 +116,9 @@ pub(crate) fn take<R: Wait>(rt: &R, line: &Line, me: &mut Ticket) -> Option<Parc
     requires pass { IsSegPassOf line.now me.old × (0 < me.old.me.view.client.parts) }
     ensures pass { IsSegPassOf line.now me.new }
     ensures took { MatchOption result
-        ((me.new.me.view.client ≡ me.old.me.view.client) × (me.old.me.view.client.parts ≡ 16 → SameParcels me.old.me.view.client.put (me.old.me.view.client.took ++ [])))
-        (λ p. (me.new.me.view.client ≡ hand me.old.me.view.client.parts me.old.me.view.client.shape me.old.me.view.client.put (me.old.me.view.client.took ++ p ∷ [])) × IsOf me.old.me.view.client.shape p) }
+        ((me.new.me.view.client ≡ me.old.me.view.client)
+        × (me.old.me.view.client.parts ≡ 16 → SameParcels me.old.me.view.client.put (me.old.me.view.client.took ++ [])))
+        (λ p. (me.new.me.view.client ≡ with_taken me.old.me.view.client p) × IsOf me.old.me.view.client.shape p) }
 {
     line.pop_as::<Takes, R>(rt, me)
 }
@@ -135,8 +136,8 @@ pub(crate) fn waiting<R: Wait>(rt: &R, line: &Line, me: &mut Ticket) -> usize
 pub(crate) fn shared_out(line: &Line, me: &mut Ticket) -> Ticket
     requires { IsSegPassOf line.now me.old × (2 ≤ me.old.me.view.client.parts) }
     ensures pass { IsSegPassOf line.now me.new × IsSegPassOf line.now result }
-    ensures kept { me.new.me.view.client ≡ hand (me.old.me.view.client.parts - me.old.me.view.client.parts / 2) me.old.me.view.client.shape me.old.me.view.client.put me.old.me.view.client.took }
-    ensures made { result.me.view.client ≡ hand (me.old.me.view.client.parts / 2) me.old.me.view.client.shape [] [] }
+    ensures kept { me.new.me.view.client ≡ own_half me.old.me.view.client }
+    ensures made { result.me.view.client ≡ other_half me.old.me.view.client }
 {
     line.another::<Halves>(me)
 }
@@ -145,7 +146,7 @@ pub(crate) fn shared_out(line: &Line, me: &mut Ticket) -> Ticket
 pub(crate) fn taken_in(line: &Line, me: &mut Ticket, other: Ticket)
     requires { IsSegPassOf line.now me.old × IsSegPassOf line.now other × (0 < me.old.me.view.client.parts) × (0 < other.me.view.client.parts) }
     ensures pass { IsSegPassOf line.now me.new }
-    ensures both { me.new.me.view.client ≡ hand (me.old.me.view.client.parts + other.me.view.client.parts) me.old.me.view.client.shape (me.old.me.view.client.put ++ other.me.view.client.put) (me.old.me.view.client.took ++ other.me.view.client.took) }
+    ensures both { me.new.me.view.client ≡ with_both me.old.me.view.client other.me.view.client }
 {
     line.absorb::<Halves>(me, other);
 }

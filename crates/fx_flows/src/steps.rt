@@ -29,7 +29,8 @@ pub trait Step {
         requires fit { IsFit (unit self.now) }
         requires few { length rows.now ≤ 64 }
         requires within { All (λ at. at < length endpoints.now) (unit self.now).members }
-        ensures { AskedBatch W.counts_alone (W.seen wire.old) (W.seen wire.new) endpoints.now (record { unit = unit self.now; rows = rows.now }) (rows_in result) };
+        ensures { AskedBatch W.counts_alone (W.seen wire.old) (W.seen wire.new)
+            endpoints.now (record { unit = unit self.now; rows = rows.now }) (rows_in result) };
 }
 
 impl Step for Unit {

@@ -5,7 +5,8 @@ ghost use Rattle.fx_outside.specs.Endpoints.{is_sendable};
 ghost use Rattle.fx_spelling.specs.Units.{IsFit};
 ghost use Rattle.fx_algebra.specs.declared.units.Row.{Row as RowParts};
 ghost use Rattle.fx_flows.specs.Flows.{lists_in, rows_in};
-ghost use Rattle.fx_flows.specs.Teams.{AreListsOfBoth, BatchAsked, MembersAsked, StepAsked};
+ghost use Rattle.fx_flows.specs.Teams.{AreListsOfBoth, BatchAskedOver, MembersAskedOver, StepAskedOver};
+ghost use Rattle.fx_traffic.specs.Gains.{seen};
 
 use crate::flowing::both;
 use crate::flows::{FlowError, ask_members, is_none, united};
@@ -32,7 +33,8 @@ pub(crate) fn ask_rounds<R: Threads + Wait + Sync, W: Wire + Send>(
     requires fit { IsFit unit.now }
     requires few { All (λ rows. length rows ≤ 64) batches.now }
     requires within { All (λ at. at < length endpoints.now) unit.now.members }
-    ensures { StepAsked W.tells_log W.counts_alone (map W.seen wires.old) (map W.seen wires.new) endpoints.now unit.now batches.now (rows_in result) }
+    ensures { StepAskedOver (seen W.tells_log W.counts_alone (map W.seen wires.old) (map W.seen wires.new))
+        endpoints.now unit.now batches.now (rows_in result) }
 {
     let teams = teams_for(batches.len(), unit.members.len(), wires.len());
     let mut made = Vec::new(*alloc);
@@ -116,7 +118,8 @@ pub(crate) fn ask_step<R: Threads + Wait + Sync, W: Wire + Send>(
     requires fit { IsFit unit.now }
     requires few { All (λ rows. length rows ≤ 64) batches.now }
     requires within { All (λ at. at < length endpoints.now) unit.now.members }
-    ensures { StepAsked W.tells_log W.counts_alone (map W.seen wires.old) (map W.seen wires.new) endpoints.now unit.now batches.now (rows_in result) }
+    ensures { StepAskedOver (seen W.tells_log W.counts_alone (map W.seen wires.old) (map W.seen wires.new))
+        endpoints.now unit.now batches.now (rows_in result) }
 {
     if batches.len() < 2 {
         return ask_batch_over(rt, alloc, endpoints, unit, batches[0].as_slice(), wires);
@@ -134,7 +137,8 @@ pub(crate) fn ask_step<R: Threads + Wait + Sync, W: Wire + Send>(
             requires fit { IsFit unit.now }
             requires few { All (λ rows. length rows ≤ 64) first.now }
             requires within { All (λ at. at < length endpoints.now) unit.now.members }
-            ensures { StepAsked W.tells_log W.counts_alone (map W.seen left.entry.now) (map W.seen left.exit.now) endpoints.entry.now unit.entry.now first.entry.now (rows_in result) }
+            ensures { StepAskedOver (seen W.tells_log W.counts_alone (map W.seen left.entry.now) (map W.seen left.exit.now))
+                endpoints.entry.now unit.entry.now first.entry.now (rows_in result) }
         { ask_step(rt, alloc, endpoints, unit, first, left) },
         &mut || -> Result<Vec<Row>, FlowError>
             requires sync { IsSync R.row }
@@ -143,7 +147,8 @@ pub(crate) fn ask_step<R: Threads + Wait + Sync, W: Wire + Send>(
             requires fit { IsFit unit.now }
             requires few { All (λ rows. length rows ≤ 64) others.now }
             requires within { All (λ at. at < length endpoints.now) unit.now.members }
-            ensures { StepAsked W.tells_log W.counts_alone (map W.seen right.entry.now) (map W.seen right.exit.now) endpoints.entry.now unit.entry.now others.entry.now (rows_in result) }
+            ensures { StepAskedOver (seen W.tells_log W.counts_alone (map W.seen right.entry.now) (map W.seen right.exit.now))
+                endpoints.entry.now unit.entry.now others.entry.now (rows_in result) }
         { ask_step(rt, alloc, endpoints, unit, others, right) },
     );
     both(ours, theirs)
@@ -186,7 +191,8 @@ pub(crate) fn ask_batch_over<R: Threads + Wait + Sync, W: Wire + Send>(
     requires fit { IsFit unit.now }
     requires few { length rows.now ≤ 64 }
     requires within { All (λ at. at < length endpoints.now) unit.now.members }
-    ensures { BatchAsked W.tells_log W.counts_alone (map W.seen wires.old) (map W.seen wires.new) endpoints.now (record { unit = unit.now; rows = rows.now }) (rows_in result) }
+    ensures { BatchAskedOver (seen W.tells_log W.counts_alone (map W.seen wires.old) (map W.seen wires.new))
+        endpoints.now (record { unit = unit.now; rows = rows.now }) (rows_in result) }
 {
     match batch_text(*alloc, unit, rows) {
         Err(Memory) => Err(FlowError::Memory),
@@ -210,7 +216,8 @@ pub(crate) fn ask_over<R: Threads + Wait + Sync, W: Wire + Send>(
     requires wired { 0 < length wires.old }
     requires sendable { All (λ e. is_sendable e ≡ true) endpoints.now }
     requires within { All (λ at. at < length endpoints.now) members.now }
-    ensures { MembersAsked W.tells_log W.counts_alone (map W.seen wires.old) (map W.seen wires.new) endpoints.now batch.now members.now (lists_in result) }
+    ensures { MembersAskedOver (seen W.tells_log W.counts_alone (map W.seen wires.old) (map W.seen wires.new))
+        endpoints.now batch.now members.now (lists_in result) }
 {
     if wires.len() < 2 || members.len() < 2 {
         return ask_members(*alloc, &mut wires[0], endpoints, batch, members);
@@ -226,14 +233,16 @@ pub(crate) fn ask_over<R: Threads + Wait + Sync, W: Wire + Send>(
             requires wired { 0 < length left.now }
             requires sendable { All (λ e. is_sendable e ≡ true) endpoints.now }
             requires within { All (λ at. at < length endpoints.now) here.now }
-            ensures { MembersAsked W.tells_log W.counts_alone (map W.seen left.entry.now) (map W.seen left.exit.now) endpoints.entry.now batch.entry.now here.entry.now (lists_in result) }
+            ensures { MembersAskedOver (seen W.tells_log W.counts_alone (map W.seen left.entry.now) (map W.seen left.exit.now))
+                endpoints.entry.now batch.entry.now here.entry.now (lists_in result) }
         { ask_over(rt, alloc, endpoints, batch, here, left) },
         &mut || -> Result<Vec<Items<Found>>, FlowError>
             requires sync { IsSync R.row }
             requires wired { 0 < length right.now }
             requires sendable { All (λ e. is_sendable e ≡ true) endpoints.now }
             requires within { All (λ at. at < length endpoints.now) there.now }
-            ensures { MembersAsked W.tells_log W.counts_alone (map W.seen right.entry.now) (map W.seen right.exit.now) endpoints.entry.now batch.entry.now there.entry.now (lists_in result) }
+            ensures { MembersAskedOver (seen W.tells_log W.counts_alone (map W.seen right.entry.now) (map W.seen right.exit.now))
+                endpoints.entry.now batch.entry.now there.entry.now (lists_in result) }
         { ask_over(rt, alloc, endpoints, batch, there, right) },
     );
     all_lists(ours, theirs)

@@ -1,5 +1,5 @@
 -- The share of one of several runs in what was asked for.
-use Rattle.std.proofs.Common.{refl, ℕ, ◌<◌, List, [], ◌∷◌, Bool, IfErr, IfOk, Result, Ok, Err, All, Contains, IsPermutation, ◌≤◌, length, arith, zero-le}
+use Rattle.std.proofs.Common.{refl, ℕ, ◌<◌, List, [], Bool, IfErr, IfOk, Result, Ok, Err, All, Contains, IsPermutation, ◌≤◌, length, arith, zero-le}
 use Rattle.std.proofs.lemmas.List.Elements.{All-nil}
 use Rattle.std.proofs.lemmas.List.Sorted.{IsPermutation-refl}
 use Rattle.fx_terms.specs.declared.triples.Triple.{Triple}

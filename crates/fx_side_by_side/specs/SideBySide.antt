@@ -13,7 +13,7 @@ use Rattle.fx_algebra.specs.declared.units.Unit as unit
 use Rattle.fx_spelling.specs.Units.{IsFit, IsSound}
 use Rattle.fx_steps.specs.Steps.{numbered, stepped}
 use Rattle.fx_traffic.specs.Batches.{IsBatchText, IsRunSent}
-use Rattle.fx_traffic.specs.Gains.{AreAfter, HaveGained, IsMemberIn, TellOf, faults_at}
+use Rattle.fx_traffic.specs.Gains.{AreAfter, HaveGained, IsMemberIn, TellOf, WiresSeen, faults_at}
 use Rattle.fx_traffic.specs.Sent.{Sent, Sends}
 use Rattle.fx_wire.specs.Exchanges.{Exchange, Seen}
 use Rattle.fx_pool.specs.Runs.{IsHonestOver}
@@ -72,6 +72,12 @@ pub record SideBySide (tells alone : Bool) (before after : List Seen) (endpoints
   pub results : List (Result (List Row) FlowError)
   pub flowed : RunsFlowed tells alone before after endpoints runs block results
   pub given : IfOk result (λ given. given ≡ results)
+
+abbrev pub RunsFlowedOver : WiresSeen → List EndpointParts → List (List unit.Unit) → ℕ → List (Result (List Row) FlowError) → Type 0
+RunsFlowedOver w endpoints runs block results = RunsFlowed w.tells w.alone w.before w.after endpoints runs block results
+
+abbrev pub SideBySideOver : WiresSeen → List EndpointParts → List (List unit.Unit) → ℕ → Result (List (Result (List Row) FlowError)) Memory → Type 0
+SideBySideOver w endpoints runs block result = SideBySide w.tells w.alone w.before w.after endpoints runs block result
 
 -- the results as a list
 abbrev pub results_in : Result (Vec (Result (List Row) FlowError) Global) Memory → Result (List (Result (List Row) FlowError)) Memory

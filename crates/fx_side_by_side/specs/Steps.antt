@@ -6,7 +6,7 @@ use Rattle.fx_algebra.specs.Groups.{one_empty}
 use Rattle.fx_algebra.specs.declared.units.Row.{Row}
 use Rattle.fx_algebra.specs.declared.units.Unit as unit
 use Rattle.fx_steps.specs.Steps.{numbered}
-use Rattle.fx_traffic.specs.Gains.{AreAfter, HaveGained, faults_at}
+use Rattle.fx_traffic.specs.Gains.{AreAfter, HaveGained, WiresSeen, faults_at}
 use Rattle.fx_wire.specs.Exchanges.{Exchange, Seen}
 use Rattle.fx_pool.specs.Runs.{IsHonestOver}
 use Rattle.fx_flows.specs.declared.flows.FlowError.{FlowError}
@@ -50,3 +50,6 @@ pub record StepsFlowed (tells alone : Bool) (before after : List Seen) (endpoint
   pub shares : List Share
   pub exchanged : FallsIntoShares tells alone before after shares
   pub each : AreBehind before after endpoints step block runs found shares later
+
+abbrev pub StepsFlowedOver : WiresSeen → List EndpointParts → ℕ → ℕ → List (List unit.Unit) → List (Result (List Row) FlowError) → List (Result (List Row) FlowError) → Type 0
+StepsFlowedOver w endpoints step block runs found later = StepsFlowed w.tells w.alone w.before w.after endpoints step block runs found later

@@ -3,8 +3,9 @@ ghost use Rattle.std.specs.Prelude.{◌≡◌, ◌<◌, ◌≤◌, All, IfOk, le
 ghost use Rattle.fx_algebra.specs.Groups.{one_empty};
 ghost use Rattle.fx_outside.specs.Endpoints.{is_sendable};
 ghost use Rattle.fx_steps.specs.Steps.{numbered};
+ghost use Rattle.fx_traffic.specs.Gains.{seen};
 ghost use Rattle.fx_flows.specs.Flows.{rows_in};
-ghost use Rattle.fx_side_by_side.specs.SideBySide.{CanAsk, SideBySide, results_in};
+ghost use Rattle.fx_side_by_side.specs.SideBySide.{CanAsk, SideBySideOver, results_in};
 ghost use Rattle.fx_side_by_side.specs.Steps.{begins};
 
 use crate::steps::ask_in_steps;
@@ -34,7 +35,8 @@ pub fn run_side_by_side<R: Threads + Wait + Sync, W: Wire + Send>(
     requires sendable { All (λ e. is_sendable e ≡ true) endpoints.now }
     requires block { (0 < block) × (block ≤ 64) }
     requires runs { All (CanAsk (length endpoints.now)) runs.now }
-    ensures { SideBySide W.tells_log W.counts_alone (map W.seen wires.old) (map W.seen wires.new) endpoints.now runs.now block (results_in result) }
+    ensures { SideBySideOver (seen W.tells_log W.counts_alone (map W.seen wires.old) (map W.seen wires.new))
+        endpoints.now runs.now block (results_in result) }
 {
     let mut found = begun(alloc, runs)?;
     ask_in_steps(

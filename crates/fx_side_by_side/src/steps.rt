@@ -4,9 +4,10 @@ ghost use Rattle.std.specs.Thread.{IsSync};
 ghost use Rattle.fx_algebra.specs.declared.units.Unit.{Unit as UnitParts};
 ghost use Rattle.fx_outside.specs.Endpoints.{is_sendable};
 ghost use Rattle.fx_spelling.specs.Units.{IsFit};
+ghost use Rattle.fx_traffic.specs.Gains.{seen};
 ghost use Rattle.fx_flows.specs.Flows.{rows_in};
-ghost use Rattle.fx_side_by_side.specs.SideBySide.{CanAsk, RunsFlowed};
-ghost use Rattle.fx_side_by_side.specs.Steps.{StepsFlowed, begins};
+ghost use Rattle.fx_side_by_side.specs.SideBySide.{CanAsk, RunsFlowedOver};
+ghost use Rattle.fx_side_by_side.specs.Steps.{StepsFlowedOver, begins};
 ghost use Rattle.fx_side_by_side.specs.Steps as spec;
 
 use crate::choices::{half_of, waits_less_beside, wires_of_first};
@@ -42,7 +43,8 @@ pub(crate) fn ask_in_steps<R: Threads + Wait + Sync, W: Wire + Send>(
     requires block { (0 < block) × (block ≤ 64) }
     requires runs { All (CanAsk (length endpoints.now)) runs.now }
     requires begun { map rows_in found.old ≡ begins runs.now }
-    ensures { RunsFlowed W.tells_log W.counts_alone (map W.seen wires.old) (map W.seen wires.new) endpoints.now runs.now block (map rows_in found.new) }
+    ensures { RunsFlowedOver (seen W.tells_log W.counts_alone (map W.seen wires.old) (map W.seen wires.new))
+        endpoints.now runs.now block (map rows_in found.new) }
 {
     for step in 0..longest(runs) {
         ask_steps(
@@ -85,7 +87,8 @@ fn ask_steps<R: Threads + Wait + Sync, W: Wire + Send>(
     requires block { (0 < turn.now.block) × (turn.now.block ≤ 64) }
     requires runs { All (CanAsk (length endpoints.now)) runs.now }
     requires some { (0 < length runs.now) × (length found.old ≡ length runs.now) }
-    ensures { StepsFlowed W.tells_log W.counts_alone (map W.seen wires.old) (map W.seen wires.new) endpoints.now turn.now.step turn.now.block runs.now (map rows_in found.old) (map rows_in found.new) }
+    ensures { StepsFlowedOver (seen W.tells_log W.counts_alone (map W.seen wires.old) (map W.seen wires.new))
+        endpoints.now turn.now.step turn.now.block runs.now (map rows_in found.old) (map rows_in found.new) }
 {
     if runs.len() < 2 {
         return ask_next(
@@ -123,7 +126,8 @@ fn ask_beside<R: Threads + Wait + Sync, W: Wire + Send>(
     requires block { (0 < turn.now.block) × (turn.now.block ≤ 64) }
     requires runs { All (CanAsk (length endpoints.now)) runs.now }
     requires some { (1 < length runs.now) × (length found.old ≡ length runs.now) }
-    ensures { StepsFlowed W.tells_log W.counts_alone (map W.seen wires.old) (map W.seen wires.new) endpoints.now turn.now.step turn.now.block runs.now (map rows_in found.old) (map rows_in found.new) }
+    ensures { StepsFlowedOver (seen W.tells_log W.counts_alone (map W.seen wires.old) (map W.seen wires.new))
+        endpoints.now turn.now.step turn.now.block runs.now (map rows_in found.old) (map rows_in found.new) }
 {
     let used = wires_of_first(runs, found, turn, wires.len());
     let (first, others) = halves_of(runs, endpoints);
@@ -138,7 +142,8 @@ fn ask_beside<R: Threads + Wait + Sync, W: Wire + Send>(
             requires block { (0 < turn.now.block) × (turn.now.block ≤ 64) }
             requires runs { All (CanAsk (length endpoints.now)) first.now }
             requires some { (0 < length first.now) × (length ours.now ≡ length first.now) }
-            ensures { StepsFlowed W.tells_log W.counts_alone (map W.seen left.entry.now) (map W.seen left.exit.now) endpoints.entry.now turn.entry.now.step turn.entry.now.block first.entry.now (map rows_in ours.entry.now) (map rows_in ours.exit.now) }
+            ensures { StepsFlowedOver (seen W.tells_log W.counts_alone (map W.seen left.entry.now) (map W.seen left.exit.now))
+                endpoints.entry.now turn.entry.now.step turn.entry.now.block first.entry.now (map rows_in ours.entry.now) (map rows_in ours.exit.now) }
         { ask_steps(rt, alloc, endpoints, first, turn, ours, left) },
         &mut ||
             requires sync { IsSync R.row }
@@ -147,7 +152,8 @@ fn ask_beside<R: Threads + Wait + Sync, W: Wire + Send>(
             requires block { (0 < turn.now.block) × (turn.now.block ≤ 64) }
             requires runs { All (CanAsk (length endpoints.now)) others.now }
             requires some { (0 < length others.now) × (length theirs.now ≡ length others.now) }
-            ensures { StepsFlowed W.tells_log W.counts_alone (map W.seen right.entry.now) (map W.seen right.exit.now) endpoints.entry.now turn.entry.now.step turn.entry.now.block others.entry.now (map rows_in theirs.entry.now) (map rows_in theirs.exit.now) }
+            ensures { StepsFlowedOver (seen W.tells_log W.counts_alone (map W.seen right.entry.now) (map W.seen right.exit.now))
+                endpoints.entry.now turn.entry.now.step turn.entry.now.block others.entry.now (map rows_in theirs.entry.now) (map rows_in theirs.exit.now) }
         { ask_steps(rt, alloc, endpoints, others, turn, theirs, right) },
     );
     both_ended();
@@ -185,7 +191,8 @@ fn ask_next<R: Threads + Wait + Sync, W: Wire + Send>(
     requires sendable { All (λ e. is_sendable e ≡ true) endpoints.now }
     requires block { (0 < turn.now.block) × (turn.now.block ≤ 64) }
     requires units { CanAsk (length endpoints.now) units.now }
-    ensures { StepsFlowed W.tells_log W.counts_alone (map W.seen wires.old) (map W.seen wires.new) endpoints.now turn.now.step turn.now.block (units.now ∷ []) (rows_in found.old ∷ []) (rows_in found.new ∷ []) }
+    ensures { StepsFlowedOver (seen W.tells_log W.counts_alone (map W.seen wires.old) (map W.seen wires.new))
+        endpoints.now turn.now.step turn.now.block (units.now ∷ []) (rows_in found.old ∷ []) (rows_in found.new ∷ []) }
 {
     match mem::replace(found, Err(FlowError::Memory)) {
         Err(why) => *found = Err(why),

@@ -8,11 +8,11 @@ returns-in-Ok-clause-flowed g c =
     let see = g.W.Wire.seen in
     let tells = g.W.Wire.tells_log in
     let alone = g.W.Wire.counts_alone in
-    let units = map g.U.Step.unit c.args.units.now in
+    let units = map g.U.Step.unit c.args.run.now.units.now in
     let laws = g.met.W.Wire g.world.𝓛 g.world.𝓜 g.world.𝓡 ((λ s x. x), (λ x. x), (λ x. x), λ x. x) in
-    let rest = first_flowed see tells alone c.flow.new.wires c.index-wires-0.result c.work-rest.new.wire c.args.endpoints.now units c.args.shape
+    let rest = first_flowed see tells alone c.flow.new.wires c.index-wires-0.result c.work-rest.new.wire c.args.run.now.endpoints.now units c.args.run.now.shape
     c.flow.new.me.me.view.client c.work-rest.new.me.me.view.client c.work-rest.result laws.told (search rules) c.work-rest.ensures.flowed in
-    then_flowed tells alone c.args.endpoints.now units c.args.shape c.args.me.now.me.view.client c.flow.new.me.me.view.client c.work-rest.new.me.me.view.client
+    then_flowed tells alone c.args.run.now.endpoints.now units c.args.run.now.shape c.args.me.now.me.view.client c.flow.new.me.me.view.client c.work-rest.new.me.me.view.client
     (map see c.args.wires.now) (map see c.flow.new.wires) _ c.in-Ok.made c.work-rest.result c.both.result
     (all_tell see tells laws.told c.args.wires.now) (all_tell see tells laws.told c.flow.new.wires)
     c.in-Ok.ensures.flowed rest c.both.ensures

@@ -4,6 +4,6 @@ use Rattle.fx_flows.proofs.following.waited_for.Given as goal
 
 abbrev pub invariant-loop : goal.invariant-loop
 invariant-loop g l = record {
-  pass : IsSegPassOf l.line l.me;
+  pass : IsSegPassOf l.queue.line.now l.me;
   same : l.me.me.view.client ≡ l.initial.me.me.view.client;
 }
