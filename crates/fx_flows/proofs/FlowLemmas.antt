@@ -41,6 +41,7 @@ use Rattle.fx_flows.specs.declared.parcels.RunShape.{RunShape}
 use Rattle.fx_flows.specs.declared.parcels.Parcel.{Parcel}
 use Rattle.fx_pool.proofs.BesideLemmas.{after_beside, back_all, front_all}
 use Rattle.fx_flows.proofs.FollowLemmas.{all_passed, begun_by_both, cause_in_turn, ended_by_both, made_both, none_tried, weight_created, weight_finished}
+use Rattle.fx_flows.proofs.InPartLemmas.{in_part_wider, none_in_part, parcels_in_part}
 use Rattle.fx_flows.proofs.ParcelLemmas.{all_rows, finished_of_run, may_be_sent, stepped_none, texts_in_turn, turned}
 use Rattle.fx_pool.proofs.WireLemmas.{after_itself, honest_over}
 use Rattle.fx_pool.proofs.WiresLemmas.{AllTell, all_after, as_many, gained_both, still_tell, still_tell_of}
@@ -504,6 +505,9 @@ module _ (tells alone : Bool) (es : List EndpointParts) (us : List unit.Unit) (c
     wanted = wanted;
     left = h.did.left;
     sent = IsPermutation-trans _ all_sent wanted (sent_laws.any_order all_sent h.did.left (h.did.ended ++ h.did.begun) h.did.exchanges h.did.parted all_tied) turned_sent;
+    in_part =
+        in_part_wider es (length s) (length s) all_sent wanted h.did.exchanges h.did.exchanges (omega arith) turned_sent (IsPermutation-refl h.did.exchanges)
+        (parcels_in_part es us (of_finished h.did.spent) h.tried (length s) h.did.left h.did.ended h.did.begun h.did.exchanges h.one h.did.sent h.did.tied h.did.parted);
     of_batches = texts_in_turn es c (Contains us) asked of_run 0 us (recursion_from_All (Contains us) us (All-contains_itself us));
     whole = by_ok r (λ tried. (none_tried es us h.tried h.did.left h.did.begun h.did.tied tried).1) h.ended;
     short = h.did.short;
@@ -582,6 +586,7 @@ not_flowed tells alone wires es us block rows = record {
   wanted = [];
   left = [];
   sent = IsPermutation-refl [];
+  in_part = in_part_wider es 0 (length wires) [] [] [] [] zero-le (IsPermutation-refl []) (IsPermutation-refl []) (none_in_part es []);
   of_batches = All-nil (IsBatchText es block (Contains us));
   whole = tt;
   short = All-nil IsShort;
@@ -604,6 +609,7 @@ no_rows tells alone wires es us block rows none = record {
   wanted = [];
   left = [];
   sent = IsPermutation-refl [];
+  in_part = in_part_wider es 0 (length wires) [] [] [] [] zero-le (IsPermutation-refl []) (IsPermutation-refl []) (none_in_part es []);
   of_batches = All-nil (IsBatchText es block (Contains us));
   whole = refl;
   short = All-nil IsShort;

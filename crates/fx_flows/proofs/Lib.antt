@@ -9,6 +9,7 @@ pub mod EventLemmas
 pub mod CutLemmas
 pub mod PutLemmas
 pub mod FollowLemmas
+pub mod InPartLemmas
 pub mod FlowLemmas
 pub mod TurnLemmas
 pub mod TeamLemmas

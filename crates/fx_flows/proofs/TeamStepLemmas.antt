@@ -5,7 +5,7 @@ use Rattle.std.specs.declared.vec.Vec.{Vec}
 use Rattle.std.proofs.lemmas.Grind.{flat_map-append}
 use Rattle.std.proofs.lemmas.List.{map-append}
 use Rattle.std.proofs.lemmas.List.Elements.{All-append, All-contains, All-weaker, recursion_from_All}
-use Rattle.std.proofs.lemmas.List.Sorted.{IsPermutation-append}
+use Rattle.std.proofs.lemmas.List.Sorted.{IsPermutation-append, IsPermutation-refl}
 use Rattle.fx_terms.specs.declared.triples.Triple.{Triple}
 use Rattle.fx_terms.proofs.SetLemmas.{among_from, contains_from}
 use Rattle.fx_outside.specs.Endpoints.{EndpointParts}
@@ -33,6 +33,7 @@ use Rattle.fx_flows.specs.declared.flows.FlowError.{FlowError}
 use Rattle.fx_flows.specs.declared.flows.FlowError.TheVariants as flow
 use Rattle.fx_pool.specs.Runs.{IsHonestOver}
 use Rattle.fx_pool.proofs.BesideLemmas.{after_beside, back_all, front_all}
+use Rattle.fx_flows.proofs.InPartLemmas.{in_part_together, in_part_wider, one_in_part}
 use Rattle.fx_flows.proofs.FlowLemmas.{behind, in_front, told_back, told_fewer, told_front}
 use Rattle.fx_flows.proofs.TeamLemmas.{asked_wider}
 
@@ -51,8 +52,8 @@ module _ (tells alone : Bool) (s t : List Seen) (es : List EndpointParts) (u : u
   one_cause xs (flow.RequestTooLong at size) k = record { batch = batch; among = contains_from (batch ∷ []) batch (inl refl); asked = k }
   one_cause xs flow.Memory k = tt
 
-  pub step_of_one : (r : Result (List Row) FlowError) → BatchAsked tells alone s t es parts r → StepAsked tells alone s t es u (batch ∷ []) r
-  step_of_one r h = record {
+  pub step_of_one : (r : Result (List Row) FlowError) → 0 < length s → BatchAsked tells alone s t es parts r → StepAsked tells alone s t es u (batch ∷ []) r
+  step_of_one r some h = record {
     exchanges = h.exchanges;
     gained = h.gained;
     honest = h.honest;
@@ -63,6 +64,7 @@ module _ (tells alone : Bool) (s t : List Seen) (es : List EndpointParts) (u : u
     counted = h.counted;
     left = h.left;
     sent = subst (λ (v : List Sent). Sends v h.left h.exchanges) (sym (append-nil (unit_sent es u batch))) h.sent;
+    in_part = one_in_part es (length s) u batch h.left h.exchanges some h.sent;
     whole = h.whole;
     short = h.short;
     faultless = faultless r h.faultless;
@@ -150,6 +152,12 @@ module _ (tells alone : Bool) (es : List EndpointParts) (u : unit.Unit) (s t w v
     sent =
         subst (λ (l : List Sent). Sends l (h.left ++ k.left) (h.exchanges ++ k.exchanges)) (sym (flat_map-append (unit_sent es u) first others))
         (sent_laws.together (batches_sent es u first) h.left (batches_sent es u others) k.left h.exchanges k.exchanges h.sent k.sent);
+    in_part =
+        in_part_wider es (length s + length w) (length (s ++ w)) (batches_sent es u first ++ batches_sent es u others) (batches_sent es u (first ++ others)) (h.exchanges ++ k.exchanges) (h.exchanges ++ k.exchanges)
+        (omega (arith, length-append s w))
+        (subst (IsPermutation (batches_sent es u first ++ batches_sent es u others)) (sym (flat_map-append (unit_sent es u) first others)) (IsPermutation-refl (batches_sent es u first ++ batches_sent es u others)))
+        (IsPermutation-refl (h.exchanges ++ k.exchanges))
+        (in_part_together es (length s) (length w) (batches_sent es u first) (batches_sent es u others) h.exchanges k.exchanges h.in_part k.in_part);
     whole = whole a b o both h.whole k.whole;
     short = All-append IsShort h.exchanges k.exchanges h.short k.short;
     faultless = faultless a b o both h.faultless k.faultless;
@@ -220,6 +228,7 @@ step_flowed tells alone s t es u block rows batches r some cut h = record {
   wanted = batches_sent es u batches;
   left = h.left;
   sent = h.sent;
+  in_part = h.in_part;
   of_batches = texts_of_batches es block (Contains (u ∷ [])) u its batches cut.sized;
   whole = h.whole;
   short = h.short;
@@ -269,7 +278,7 @@ step_flowed tells alone s t es u block rows batches r some cut h = record {
 
 -- there is one batch
 pub step_of_only : (tells alone : Bool) (s t : List Seen) (es : List EndpointParts) (u : unit.Unit) (batches : List (List Row)) (x y : List Row) (r : Result (List Row) FlowError)
-    → 0 < length batches → length batches < 2 → x ≡ get_or batches 0 x → y ≡ x → BatchAsked tells alone s t es (record { unit = u; rows = y }) r → StepAsked tells alone s t es u batches r
-step_of_only tells alone s t es u [] x y r some few is same h = absurd (omega (arith, some))
-step_of_only tells alone s t es u (b ∷ []) x y r some few is same h = step_of_one tells alone s t es u b r (subst (λ (v : List Row). BatchAsked tells alone s t es (record { unit = u; rows = v }) r) (same ∙ is) h)
-step_of_only tells alone s t es u (b ∷ c ∷ batches) x y r some few is same h = absurd (omega (arith, few))
+    → 0 < length s → 0 < length batches → length batches < 2 → x ≡ get_or batches 0 x → y ≡ x → BatchAsked tells alone s t es (record { unit = u; rows = y }) r → StepAsked tells alone s t es u batches r
+step_of_only tells alone s t es u [] x y r wired some few is same h = absurd (omega (arith, some))
+step_of_only tells alone s t es u (b ∷ []) x y r wired some few is same h = step_of_one tells alone s t es u b r wired (subst (λ (v : List Row). BatchAsked tells alone s t es (record { unit = u; rows = v }) r) (same ∙ is) h)
+step_of_only tells alone s t es u (b ∷ c ∷ batches) x y r wired some few is same h = absurd (omega (arith, few))

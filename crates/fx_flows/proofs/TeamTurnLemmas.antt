@@ -24,6 +24,7 @@ use Rattle.fx_flows.specs.declared.flows.FlowError.TheVariants as flow
 use Rattle.fx_pool.specs.Runs.{IsHonestOver}
 use Rattle.fx_pool.proofs.WireLemmas.{after_itself}
 use Rattle.fx_pool.proofs.WiresLemmas.{GainedBoth, all_after, all_tell, as_many, gained_both, still_tell, still_tell_of}
+use Rattle.fx_flows.proofs.InPartLemmas.{in_part_together, in_part_whole, in_part_wider, unasked_in_part}
 use Rattle.fx_flows.proofs.FlowLemmas.{behind, in_front}
 use Rattle.fx_flows.proofs.TeamLemmas.{asked_wider, over_one_wire}
 
@@ -74,6 +75,11 @@ module _ (tells alone : Bool) (s t v : List Seen) (es : List EndpointParts) (u :
         sent_laws.any_order (batches_sent es u (first ++ others)) (h.left ++ k.left) (h.exchanges ++ k.exchanges) gained.all gained.same
         (subst (λ (l : List Sent). Sends l (h.left ++ k.left) (h.exchanges ++ k.exchanges)) (sym (flat_map-append (unit_sent es u) first others))
         (sent_laws.together (batches_sent es u first) h.left (batches_sent es u others) k.left h.exchanges k.exchanges h.sent k.sent));
+    in_part =
+        in_part_wider es (0 + length t) (length s) (batches_sent es u first ++ batches_sent es u others) (batches_sent es u (first ++ others)) (h.exchanges ++ k.exchanges) gained.all
+        (omega (arith, as_many s t h.after_all)) all_batches gained.same
+        (in_part_together es 0 (length t) (batches_sent es u first) (batches_sent es u others) h.exchanges k.exchanges
+        (in_part_whole es (length s) (batches_sent es u first) h.exchanges (subst (λ (l : List Sent). Sends (batches_sent es u first) l h.exchanges) h.whole h.sent) h.in_part) k.in_part);
     whole = whole r k.whole;
     short = All-permutation IsShort (h.exchanges ++ k.exchanges) gained.all gained.same (All-append IsShort h.exchanges k.exchanges h.short k.short);
     faultless = faultless r k.faultless;
@@ -83,6 +89,9 @@ module _ (tells alone : Bool) (s t v : List Seen) (es : List EndpointParts) (u :
     where
       gained : GainedBoth tells s v h.exchanges k.exchanges
       gained = gained_both tells s t v h.exchanges k.exchanges h.gained k.gained
+
+      all_batches : IsPermutation (batches_sent es u first ++ batches_sent es u others) (batches_sent es u (first ++ others))
+      all_batches = subst (IsPermutation (batches_sent es u first ++ batches_sent es u others)) (sym (flat_map-append (unit_sent es u) first others)) (IsPermutation-refl (batches_sent es u first ++ batches_sent es u others))
 
       unfailed : (o : Result (List Row) FlowError) → IfOk o (λ _. k.failed ≡ 0) → IfOk (after_made o) (λ _. k.failed ≡ 0)
       unfailed (Ok more) e = e
@@ -134,6 +143,11 @@ step_refused tells alone s t es u first others why h = record {
       subst (λ (l : List Sent). Sends l (h.left ++ batches_sent es u others) h.exchanges) (sym (flat_map-append (unit_sent es u) first others))
       (subst (λ (x : List Exchange). Sends (batches_sent es u first ++ batches_sent es u others) (h.left ++ batches_sent es u others) x) (append-nil h.exchanges)
       (sent_laws.together (batches_sent es u first) h.left (batches_sent es u others) (batches_sent es u others) h.exchanges [] h.sent (sent_laws.nothing (batches_sent es u others))));
+  in_part =
+      in_part_wider es (length s + 0) (length s) (batches_sent es u first ++ batches_sent es u others) (batches_sent es u (first ++ others)) (h.exchanges ++ []) h.exchanges (omega arith)
+      (subst (IsPermutation (batches_sent es u first ++ batches_sent es u others)) (sym (flat_map-append (unit_sent es u) first others)) (IsPermutation-refl (batches_sent es u first ++ batches_sent es u others)))
+      (subst (λ (x : List Exchange). IsPermutation x h.exchanges) (sym (append-nil h.exchanges)) (IsPermutation-refl h.exchanges))
+      (in_part_together es (length s) 0 (batches_sent es u first) (batches_sent es u others) h.exchanges [] h.in_part (unasked_in_part es u others));
   whole = tt;
   short = h.short;
   faultless = tt;
@@ -158,6 +172,7 @@ nothing_asked tells alone wires es u = record {
   counted = λ is address. omega arith;
   left = [];
   sent = IsPermutation-refl [];
+  in_part = in_part_wider es 0 (length wires) [] [] [] [] zero-le (IsPermutation-refl []) (IsPermutation-refl []) (unasked_in_part es u []);
   whole = refl;
   short = All-nil IsShort;
   faultless = All-nil (IsBatchRead (λ z. z ≡ u));
@@ -177,6 +192,7 @@ not_asked tells alone wires es u batches = record {
   counted = λ is address. omega arith;
   left = batches_sent es u batches;
   sent = IsPermutation-refl (batches_sent es u batches);
+  in_part = in_part_wider es 0 (length wires) (batches_sent es u batches) (batches_sent es u batches) [] [] zero-le (IsPermutation-refl (batches_sent es u batches)) (IsPermutation-refl []) (unasked_in_part es u batches);
   whole = tt;
   short = All-nil IsShort;
   faultless = tt;

@@ -12,7 +12,7 @@ use Rattle.fx_spelling.specs.Units.{IsSound}
 use Rattle.fx_steps.specs.Steps.{stepped}
 use Rattle.fx_traffic.specs.Batches.{IsBatchText, IsRunSent}
 use Rattle.fx_traffic.specs.Gains.{IsMemberIn, TellOf, faults_at}
-use Rattle.fx_traffic.specs.Sent.{Sent}
+use Rattle.fx_traffic.specs.Sent.{Sent, Sends}
 use Rattle.fx_traffic.proofs.CutLemmas.{batch_laws}
 use Rattle.fx_traffic.proofs.GainLemmas.{gain_laws}
 use Rattle.fx_traffic.proofs.SentLemmas.{sent_laws}
@@ -26,6 +26,7 @@ use Rattle.fx_pool.specs.Runs.{IsHonestOver}
 use Rattle.fx_pool.proofs.BesideLemmas.{back_all, front_all}
 use Rattle.fx_pool.proofs.WireLemmas.{after_itself}
 use Rattle.fx_pool.proofs.WiresLemmas.{GainedBoth, all_after, as_many, gained_both, still_tell, still_tell_of}
+use Rattle.fx_flows.proofs.InPartLemmas.{in_part_together, in_part_whole, in_part_wider, none_in_part}
 use Rattle.fx_flows.proofs.FlowLemmas.{behind, has_wider, in_front, no_rows, told_fewer}
 
 -- ---- rows
@@ -121,6 +122,10 @@ run_in_turn tells alone s t v es us vs block rows mid result s_tells t_tells h k
   sent =
       sent_laws.any_order (h.wanted ++ k.wanted) (h.left ++ k.left) (h.exchanges ++ k.exchanges) gained.all gained.same
       (sent_laws.together h.wanted h.left k.wanted k.left h.exchanges k.exchanges h.sent k.sent);
+  in_part =
+      in_part_wider es (0 + length t) (length s) (h.wanted ++ k.wanted) (h.wanted ++ k.wanted) (h.exchanges ++ k.exchanges) gained.all (omega (arith, as_many s t h.after_all)) (IsPermutation-refl (h.wanted ++ k.wanted)) gained.same
+      (in_part_together es 0 (length t) h.wanted k.wanted h.exchanges k.exchanges
+      (in_part_whole es (length s) h.wanted h.exchanges (subst (λ (l : List Sent). Sends h.wanted l h.exchanges) h.whole h.sent) h.in_part) k.in_part);
   of_batches = All-append (IsBatchText es block (Contains (us ++ vs))) h.wanted k.wanted (of_more es block us (us ++ vs) front h.wanted h.of_batches) (of_more es block vs (us ++ vs) back k.wanted k.of_batches);
   whole = whole result k.whole;
   short = All-permutation IsShort (h.exchanges ++ k.exchanges) gained.all gained.same (All-append IsShort h.exchanges k.exchanges h.short k.short);
@@ -192,6 +197,7 @@ run_refused tells alone s t es us vs block rows why h = record {
   wanted = h.wanted;
   left = h.left;
   sent = h.sent;
+  in_part = h.in_part;
   of_batches = of_more es block us (us ++ vs) (λ u m. in_front us vs u m) h.wanted h.of_batches;
   whole = tt;
   short = h.short;
@@ -218,6 +224,7 @@ run_of_none tells alone wires es block rows = record {
   wanted = [];
   left = [];
   sent = IsPermutation-refl [];
+  in_part = in_part_wider es 0 (length wires) [] [] [] [] zero-le (IsPermutation-refl []) (IsPermutation-refl []) (none_in_part es []);
   of_batches = All-nil (IsBatchText es block (Contains []));
   whole = refl;
   short = All-nil IsShort;

@@ -3,6 +3,7 @@ pub mod Parcels
 pub mod FlowLaw
 pub mod Lines
 pub mod Cuts
+pub mod InPart
 pub mod RunFlows
 pub mod Followed
 pub mod RunLaws

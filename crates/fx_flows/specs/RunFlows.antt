@@ -12,6 +12,7 @@ use Rattle.fx_traffic.specs.Gains.{AreAfter, HaveGained, IsMemberIn, Tell, TellO
 use Rattle.fx_traffic.specs.Sent.{Sent, Sends}
 use Rattle.fx_wire.specs.Exchanges.{Exchange, Seen}
 use Rattle.fx_flows.specs.Flows.{IsBatchRead, IsCause, IsShort, Names}
+use Rattle.fx_flows.specs.InPart.{AreSentInPart}
 use Rattle.fx_pool.specs.Runs.{IsHonestOver}
 use Rattle.fx_flows.specs.declared.flows.FlowError.{FlowError}
 use Rattle.fx_flows.specs.declared.flows.FlowError.TheVariants as flow
@@ -52,6 +53,7 @@ pub record RunFlowed (tells alone : Bool) (before after : List Seen) (endpoints 
   pub left : List Sent
   pub sent : Sends wanted left exchanges
   pub of_batches : All (IsBatchText endpoints block (Contains us)) wanted
+  pub in_part : AreSentInPart endpoints (length before) wanted exchanges
   pub whole : IfOk result (λ _. left ≡ [])
   pub short : All IsShort exchanges
   pub faultless : IfOk result (λ _. All (IsBatchRead (Contains us)) exchanges)

@@ -18,6 +18,7 @@ use Rattle.fx_traffic.specs.Gains.{AreAfter, HaveGained, Tell, TellOf, WiresSeen
 use Rattle.fx_traffic.specs.Sent.{Sent, Sends}
 use Rattle.fx_wire.specs.Exchanges.{Exchange, Seen}
 use Rattle.fx_flows.specs.Flows.{AskedBatch, IsBatchRead, IsCause, IsReadFor, IsShort, Names}
+use Rattle.fx_flows.specs.InPart.{AreSentInPart}
 use Rattle.fx_flows.specs.RunLaws.{AllTell}
 use Rattle.fx_pool.specs.Runs.{IsHonestOver}
 use Rattle.fx_flows.specs.declared.flows.FlowError.{FlowError}
@@ -117,6 +118,7 @@ pub record StepAsked (tells alone : Bool) (before after : List Seen) (endpoints 
   pub counted : IsTrue alone → (address : List ℕ) → faults_at after address ≤ faults_at before address + failed
   pub left : List Sent
   pub sent : Sends (batches_sent endpoints u batches) left exchanges
+  pub in_part : AreSentInPart endpoints (length before) (batches_sent endpoints u batches) exchanges
   pub whole : IfOk result (λ _. left ≡ [])
   pub short : All IsShort exchanges
   pub faultless : IfOk result (λ _. All (IsBatchRead (λ v. v ≡ u)) exchanges)

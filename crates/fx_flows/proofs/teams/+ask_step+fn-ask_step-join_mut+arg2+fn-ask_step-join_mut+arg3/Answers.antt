@@ -1,4 +1,5 @@
-use Rattle.std.proofs.Common.{map, rules}
+use Rattle.std.proofs.Common.{map, rules, arith}
+use Rattle.std.proofs.lemmas.List.{length-map}
 use Rattle.fx_flows.proofs.TeamStepLemmas.{both_steps, step_of_only}
 use Rattle.fx_flows.proofs.teams.+ask_step+fn-ask_step-join_mut+arg2+fn-ask_step-join_mut+arg3.Goals as goal
 
@@ -12,5 +13,6 @@ returns g t c =
 
 pub returns-then-batches-lt2 : goal.returns-then-batches-lt2
 returns-then-batches-lt2 g t c =
+    let long = length-map c.args.wires.now g.W.Wire.seen in
     step_of_only g.W.Wire.tells_log g.W.Wire.counts_alone (map g.W.Wire.seen c.args.wires.now) (map g.W.Wire.seen c.ask_batch_over.new.wires) c.args.endpoints.now c.args.unit.now c.args.batches.now
-    c.index-batches-0.result c.as_slice.result.now _ c.requires.wired.0 c.if-batches-lt2.true c.index-batches-0.is c.as_slice.ensures c.ask_batch_over.ensures
+    c.index-batches-0.result c.as_slice.result.now _ (omega (arith, long, c.requires.wired.0, c.requires.wired.1)) c.requires.wired.0 c.if-batches-lt2.true c.index-batches-0.is c.as_slice.ensures c.ask_batch_over.ensures
