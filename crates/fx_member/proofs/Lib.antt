@@ -5,6 +5,7 @@ pub mod ConjunctLemmas
 pub mod RunLemmas
 pub mod KnownLemmas
 pub mod OutsideLemmas
+pub mod HeldLemmas
 pub mod WalkLemmas
 pub mod CountLemmas
 pub mod PlaceLemmas

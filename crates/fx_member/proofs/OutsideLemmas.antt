@@ -2,6 +2,7 @@
 use Rattle.std.proofs.Common.{◌≡◌, ◌∙◌, ap, sym, subst, refl, inl, inr, ◌⊎◌, ℕ, Bool, true, false, not, ◌&&◌, ◌||◌, cond, List, [], ◌∷◌, ◌++◌, map, filter, Option, Some, None, is_some, IsTrue, IsPermutation, append-nil, append_assoc}
 use Rattle.std.specs.Prelude.{All}
 use Rattle.std.specs.List.{AllByRecursion, flat_map, list_all, list_any}
+use Rattle.std.proofs.lemmas.Grind.{flat_map-append}
 use Rattle.std.proofs.lemmas.List.{map-append}
 use Rattle.std.proofs.lemmas.List.Elements.{All-append, All-from_recursion, filter-append, recursion_from_All}
 use Rattle.std.proofs.lemmas.List.Folds.{list_any-append}
@@ -17,7 +18,7 @@ use Rattle.fx_algebra.specs.Values.{is_true, truth_of}
 use Rattle.fx_algebra.specs.declared.expressions.Expr.{Expr}
 use Rattle.fx_algebra.specs.declared.expressions.Expr.TheVariants.{Variable, Constant}
 use Rattle.fx_algebra.proofs.ForcedLemmas.{Extends}
-use Rattle.fx_algebra.proofs.JoinLemmas.{agree_has, merge_extends_right, same_join}
+use Rattle.fx_algebra.proofs.JoinLemmas.{agree_has, merge_extends_left, merge_extends_right, same_join}
 use Rattle.fx_algebra.proofs.MemberLemmas.{among_cases, among_from_flat_map, among_from_map}
 use Rattle.fx_algebra.proofs.OperatorLemmas.{filtered_moves, minus_moves}
 use Rattle.fx_steps.specs.Fewer.{AreFewer, IsGone}
@@ -135,6 +136,24 @@ fewer_joined conditions before found rows h =
           let b = among_from_map (merge a.0) s (filter (agree a.0) h.gone) a.2 in
           let k = in_filter (agree a.0) b.0 h.gone b.1 in
           subst (IsGone conditions) b.2 (gone_grows conditions b.0 (merge a.0 b.0) (merge_extends_right a.0 b.0 k.1) (among_its (IsGone conditions) h.gone each b.0 k.0))));
+    }
+
+-- fewer rows on its left
+pub fewer_on_the_left : (conditions : List Expr) (found rows table : List Bindings) → AreFewer conditions found rows → AreFewer conditions (join found table) (join rows table)
+fewer_on_the_left conditions found rows table h =
+    let gone = join h.gone table in
+    let each = recursion_from_All (IsGone conditions) h.gone h.are_gone in
+    record {
+      gone = gone;
+      rows_are =
+          subst (λ (v : List Bindings). IsPermutation v (join rows table)) (flat_map-append (merges table) found h.gone) (same_join (found ++ h.gone) rows table table h.rows_are (IsPermutation-refl table));
+      are_gone =
+          All-from_recursion (IsGone conditions) gone
+          (all_among (IsGone conditions) gone
+          (λ s m.
+          let a = among_from_flat_map (merges table) s h.gone m in
+          let b = among_from_map (merge a.0) s (filter (agree a.0) table) a.2 in
+          subst (IsGone conditions) b.2 (gone_grows conditions a.0 (merge a.0 b.0) (merge_extends_left a.0 b.0) (among_its (IsGone conditions) h.gone each a.0 a.1))));
     }
 
 pub fewer_appended : (conditions : List Expr) (found rows more others : List Bindings) → AreFewer conditions found rows → AreFewer conditions more others → AreFewer conditions (found ++ more) (rows ++ others)

@@ -1,13 +1,14 @@
 -- A group is gone through with the patterns of a run held back.
-use Rattle.std.proofs.Common.{◌≡◌, ◌∙◌, ap, sym, subst, refl, inl, ℕ, ◌+◌, ◌<◌, ◌≤◌, Bool, not, ◌&&◌, List, [], ◌∷◌, ◌++◌, map, filter, length, take, drop, get_or, IsTrue, IsPermutation, arith, append_assoc}
+use Rattle.std.proofs.Common.{◌≡◌, ◌∙◌, ap, sym, subst, refl, inl, ℕ, ◌+◌, ◌<◌, ◌≤◌, Bool, true, not, ◌&&◌, List, [], ◌∷◌, ◌++◌, map, filter, length, take, drop, get_or, IsTrue, IsPermutation, arith, append_assoc}
 use Rattle.std.specs.Prelude.{All}
-use Rattle.std.specs.List.{filter_map, flat_map, list_any}
+use Rattle.std.specs.List.{AllByRecursion, filter_map, flat_map, list_any}
 use Rattle.std.proofs.lemmas.List.{drop_more, drop_all}
 use Rattle.std.specs.List.Sorted.{IsStrictlySortedBy}
 use Rattle.fx_terms.specs.Triples.{triple_cmp}
 use Rattle.fx_algebra.specs.Operators.{filtered, inline_rows, join, left_join, minus}
 use Rattle.fx_member.proofs.ConditionLemmas.{all_of_them}
-use Rattle.fx_member.proofs.RunLemmas.{bgps_move, table_first}
+use Rattle.fx_member.proofs.HeldLemmas.{one_table_more, pattern_past, rise_run, rise_tables, tables_more}
+use Rattle.fx_member.proofs.RunLemmas.{bgps_move}
 use Rattle.std.proofs.lemmas.List.Elements.{All-from_recursion, recursion_from_All}
 use Rattle.std.proofs.lemmas.List.Sorted.{IsPermutation-append, IsPermutation-refl, IsPermutation-sym, IsPermutation-trans}
 use Rattle.fx_terms.specs.declared.triples.Triple.{Triple}
@@ -29,21 +30,34 @@ use Rattle.fx_steps.proofs.FewerLemmas.{fewer_laws}
 use Rattle.fx_steps.proofs.GroupLemmas.{PartGoes, part_goes}
 use Rattle.fx_terms.proofs.SetLemmas.{Among}
 use Rattle.std.proofs.lemmas.Grind.{flat_map-append}
-use Rattle.fx_member.specs.GroupRows.{AreAfter, AreAlternatives, AreConditions, AreDown, AreFewerRows, AreKnown, AreNearly, AreRowsOf, AreUnfiltered, after_part, part_of}
+use Rattle.fx_member.specs.GroupRows.{AreAfter, AreAlternatives, AreConditions, AreDown, AreFewerRows, AreJoined, AreKnown, AreNearly, AreNearlyAfter, AreRowsOf, AreTables, AreUnfiltered, after_part, part_of, with_tables}
 use Rattle.fx_member.specs.Optionals.{IsRunOf, matches_or_itself}
-use Rattle.fx_member.proofs.GroupLemmas.{AllRise, after_filter, after_triple, after_values, all_rise, by_part, down_within, meaning_is, part_minus, part_optional, part_step, part_union, plus_none, services_append, services_of, taken}
+use Rattle.fx_member.proofs.GroupLemmas.{AllRise, all_rise, by_part, down_within, meaning_is, part_filter, part_minus, part_optional, part_step, part_triple, part_union, part_values, plus_none, services_append, services_of, taken}
 use Rattle.fx_member.proofs.OutsideLemmas.{all_there, fewer_filtered, fewer_joined, join_known, left_join_known, minus_known}
-use Rattle.fx_member.proofs.OptionalLemmas.{left_join_of_run, rising_rows_from, rows_from_more}
+use Rattle.fx_member.proofs.OptionalLemmas.{left_join_of_run, rows_from_more}
 
--- what is left completes the rows after the elements so far, without some that conditions refuse
-pub record IsNear (conditions : List Expr) (all done left : List Element) (graph : List Triple) (rows : List Bindings) : Type 0 where
+-- what is left completes the rows after the elements so far, joined with tables of those that are held back, without some that conditions refuse
+pub record IsNearAt (conditions : List Expr) (graphs : List ℕ → List Triple) (down : List ℕ) (number : ℕ) (all done left : List Element) (graph : List Triple) (rows : List Bindings) (held : List Element) : Type 0 where
+  pub tables : List (List Bindings)
+  pub are : AreTables graphs down graph held tables
+  pub fewer : AreFewer conditions (after graph (number + services_of graphs down done) (with_tables rows tables) (steps_of (map (part_of graphs down) left))) (after graph number one_empty (steps_of (map (part_of graphs down) all)))
+
+pub record IsNear (conditions : List Expr) (all done left : List Element) (graph : List Triple) (rows : List Bindings) (held : List Element) : Type 0 where
   pub split : done ++ left ≡ all
-  pub same : (graphs : List ℕ → List Triple) (down : List ℕ) (number : ℕ) → AreDown down number (services_of graphs down all)
-      → AreFewer conditions (after graph (number + services_of graphs down done) rows (steps_of (map (part_of graphs down) left))) (after graph number one_empty (steps_of (map (part_of graphs down) all)))
+  pub same : (graphs : List ℕ → List Triple) (down : List ℕ) (number : ℕ) → AreDown down number (services_of graphs down all) → IsNearAt conditions graphs down number all done left graph rows held
 
--- the rows are those after an element that had these before it, without some that conditions refuse
-record AreNearlyAfter (conditions : List Expr) (e : Element) (graph : List Triple) (before rows : List Bindings) : Type 0 where
-  pub same : (graphs : List ℕ → List Triple) (down : List ℕ) (number : ℕ) → AreDown down number (part_services (part_of graphs down e)) → AreFewer conditions rows (after_part graph number before (part_of graphs down e))
+-- the rows after one element more: some of those before it may be gone, and tables of others may be held back behind it
+pub record IsNextAt (conditions : List Expr) (graphs : List ℕ → List Triple) (down : List ℕ) (number : ℕ) (e : Element) (graph : List Triple) (before rows : List Bindings) (held : List Element) : Type 0 where
+  pub kept : List Bindings
+  pub rising : AllRise kept
+  pub fewer : AreFewer conditions kept before
+  pub tables : List (List Bindings)
+  pub are : AreTables graphs down graph held tables
+  pub next : AreFewer conditions (with_tables rows tables) (after_part graph number kept (part_of graphs down e))
+
+abbrev pub IsNext : List Expr → Element → List Triple → List Bindings → List Element → List Bindings → List Element → Type 0
+IsNext conditions e graph before held rows more = (graphs : List ℕ → List Triple) (down : List ℕ) (number : ℕ) (tables : List (List Bindings)) → AreTables graphs down graph held tables → AreDown down number (part_services (part_of graphs down e))
+    → IsNextAt conditions graphs down number e graph (with_tables before tables) rows more
 
 module _ (conditions : List Expr) where
   -- the steps of a group, as they stand
@@ -65,29 +79,20 @@ module _ (conditions : List Expr) where
       let steps = steps_of (map (part_of graphs down) elements) in
       fewer_laws.steps (record { elements = elements }) graphs down conditions graph number found rows (after graph number found steps) h (comes_out graph number steps found)
 
-  pub near_first : (all : List Element) (graph : List Triple) → IsNear conditions all [] all graph one_empty
-  near_first all graph = record {
-    split = refl;
-    same = λ graphs down number h.
-        let whole = after graph number one_empty (steps_of (map (part_of graphs down) all)) in
-        subst (λ n. AreFewer conditions (after graph n one_empty (steps_of (map (part_of graphs down) all))) whole) (sym (plus_none number)) (all_of_them conditions whole);
-  }
-
-  -- fewer rows
-  pub near_fewer : (all done left : List Element) (graph : List Triple) (rows kept : List Bindings) → AreFewer conditions kept rows → IsNear conditions all done left graph rows → IsNear conditions all done left graph kept
-  near_fewer all done left graph rows kept fewer so = record {
-    split = so.split;
-    same = λ graphs down number h.
-        let steps = steps_of (map (part_of graphs down) left) in
-        let here = number + services_of graphs down done in
-        fewer_laws.in_turn conditions (after graph here kept steps) (after graph here rows steps) (after graph number one_empty (steps_of (map (part_of graphs down) all)))
-        (fewer_behind graphs down left graph here kept rows fewer) (so.same graphs down number h);
-  }
+  pub near_first : (all : List Element) (graph : List Triple) (rows : List Bindings) (held : List Element) → rows ≡ one_empty → held ≡ [] → IsNear conditions all [] all graph rows held
+  near_first all graph rows held first none =
+      subst (λ (v : List Element). IsNear conditions all [] all graph rows v) (sym none)
+      (subst (λ (v : List Bindings). IsNear conditions all [] all graph v []) (sym first) (record {
+        split = refl;
+        same = λ graphs down number h.
+            let whole = after graph number one_empty (steps_of (map (part_of graphs down) all)) in
+            record { tables = []; are = tt; fewer = subst (λ n. AreFewer conditions (after graph n one_empty (steps_of (map (part_of graphs down) all))) whole) (sym (plus_none number)) (all_of_them conditions whole) };
+      }))
 
   -- one element more
-  near_more : (all done left : List Element) (e : Element) (graph : List Triple) (before rows : List Bindings) → IsNear conditions all done (e ∷ left) graph before → AllRise before → AreNearlyAfter conditions e graph before rows
-      → IsNear conditions all (done ++ e ∷ []) left graph rows
-  near_more all done left e graph before rows so up next = record {
+  near_more : (all done left : List Element) (e : Element) (graph : List Triple) (before rows : List Bindings) (held more : List Element) → IsNear conditions all done (e ∷ left) graph before held
+      → IsNext conditions e graph before held rows more → IsNear conditions all (done ++ e ∷ []) left graph rows more
+  near_more all done left e graph before rows held more so step = record {
     split = append_assoc done (e ∷ []) left ∙ so.split;
     same = λ graphs down number h.
         let part = part_of graphs down e in
@@ -99,93 +104,174 @@ module _ (conditions : List Expr) where
         let all_here : AreDown down here (part_services part) = down_within down number (services_of graphs down all) here (part_services part) h (omega arith) (omega (arith, counted, whole)) in
         let one : services_of graphs down (done ++ e ∷ []) ≡ services_of graphs down done + services_of graphs down (e ∷ []) = services_append graphs down done (e ∷ []) in
         let behind : here + part_services part ≡ number + services_of graphs down (done ++ e ∷ []) = omega (arith, one) in
-        let between = after_part graph here before part in
         let there = here + part_services part in
-        subst (λ n. AreFewer conditions (after graph n rows steps) start) behind
-        (fewer_laws.in_turn conditions (after graph there rows steps) (after graph there between steps) start
-        (fewer_behind graphs down left graph there rows between (next.same graphs down here all_here))
-        (subst (λ (v : List Bindings). AreFewer conditions v start) (part_step graph here part steps before up) (so.same graphs down number h)));
+        let near = so.same graphs down number h in
+        let next = step graphs down here near.tables near.are all_here in
+        let last = with_tables rows next.tables in
+        let between = after_part graph here next.kept part in
+        record {
+          tables = next.tables;
+          are = next.are;
+          fewer =
+              subst (λ n. AreFewer conditions (after graph n last steps) start) behind
+              (fewer_laws.in_turn conditions (after graph there last steps) (after graph there between steps) start (fewer_behind graphs down left graph there last between next.next)
+              (subst (λ (v : List Bindings). AreFewer conditions v start) (part_step graph here part steps next.kept next.rising)
+              (fewer_laws.in_turn conditions (after graph here next.kept (steps_of (map (part_of graphs down) (e ∷ left)))) (after graph here (with_tables before near.tables) (steps_of (map (part_of graphs down) (e ∷ left)))) start
+              (fewer_behind graphs down (e ∷ left) graph here next.kept (with_tables before near.tables) next.fewer) near.fewer)));
+        };
   }
 
-  near_by : (all : List Element) (i : ℕ) (e : Element) (graph : List Triple) (before rows : List Bindings) → i < length all → e ≡ get_or all i e
-      → IsNear conditions all (take i all) (drop i all) graph before → AllRise before → AreNearlyAfter conditions e graph before rows → IsNear conditions all (take (i + 1) all) (drop (i + 1) all) graph rows
-  near_by all i e graph before rows b is so up next =
+  pub near_by : (all : List Element) (i : ℕ) (e : Element) (graph : List Triple) (before rows : List Bindings) (held more : List Element) → i < length all → e ≡ get_or all i e
+      → IsNear conditions all (take i all) (drop i all) graph before held → IsNext conditions e graph before held rows more → IsNear conditions all (take (i + 1) all) (drop (i + 1) all) graph rows more
+  near_by all i e graph before rows held more b is so step =
       let split : drop i all ≡ e ∷ drop (i + 1) all = drop_more all i e b ∙ ap (λ (v : Element). v ∷ drop (i + 1) all) (sym is) in
-      let here : IsNear conditions all (take i all) (e ∷ drop (i + 1) all) graph before = subst (λ (v : List Element). IsNear conditions all (take i all) v graph before) split so in
-      subst (λ (v : List Element). IsNear conditions all v (drop (i + 1) all) graph rows) (taken all i e b is) (near_more all (take i all) (drop (i + 1) all) e graph before rows here up next)
+      let here : IsNear conditions all (take i all) (e ∷ drop (i + 1) all) graph before held = subst (λ (v : List Element). IsNear conditions all (take i all) v graph before held) split so in
+      subst (λ (v : List Element). IsNear conditions all v (drop (i + 1) all) graph rows more) (taken all i e b is) (near_more all (take i all) (drop (i + 1) all) e graph before rows held more here step)
 
-  pub near_at : (all : List Element) (i : ℕ) (e : Element) (graph : List Triple) (before rows : List Bindings) → i < length all → e ≡ get_or all i e
-      → IsNear conditions all (take i all) (drop i all) graph before → AllRise before → AreAfter e graph before rows → IsNear conditions all (take (i + 1) all) (drop (i + 1) all) graph rows
-  near_at all i e graph before rows b is so up next =
-      near_by all i e graph before rows b is so up
-      (record { same = λ graphs down number h. let whole = after_part graph number before (part_of graphs down e) in fewer_laws.none conditions rows whole (IsPermutation-sym whole rows (next.same graphs down number h)) })
-
-  near_all : (g : Group) (done : List Element) (graph : List Triple) (rows : List Bindings) → IsNear conditions g.elements done [] graph rows → AreNearly g graph conditions rows
-  near_all g done graph rows so = record {
+  near_all : (g : Group) (done : List Element) (graph : List Triple) (before rows : List Bindings) (held : List Element) → IsNear conditions g.elements done [] graph before held → AreJoined conditions held graph before rows → AreNearly g graph conditions rows
+  near_all g done graph before rows held so joined = record {
     same = λ graphs down number h.
         subst (λ (m : Meaning). AreFewer conditions rows (m.rows graph number)) (sym (meaning_is graphs down g))
-        (so.same graphs down number (subst (λ (m : Meaning). AreDown down number m.services) (meaning_is graphs down g) h));
+        (by graphs down number (so.same graphs down number (subst (λ (m : Meaning). AreDown down number m.services) (meaning_is graphs down g) h)));
   }
+    where
+      by : (graphs : List ℕ → List Triple) (down : List ℕ) (number : ℕ) → IsNearAt conditions graphs down number g.elements done [] graph before held
+          → AreFewer conditions rows (after graph number one_empty (steps_of (map (part_of graphs down) g.elements)))
+      by graphs down number near =
+          fewer_laws.in_turn conditions rows (with_tables before near.tables) (after graph number one_empty (steps_of (map (part_of graphs down) g.elements))) (joined.same graphs down near.tables near.are) near.fewer
 
-  near_end : (g : Group) (all : List Element) (i : ℕ) (graph : List Triple) (rows : List Bindings) → all ≡ g.elements → length all ≤ i → IsNear conditions all (take i all) (drop i all) graph rows → AreNearly g graph conditions rows
-  near_end g all i graph rows e b so =
-      near_all g (take i all) graph rows
-      (subst (λ (v : List Element). IsNear conditions v (take i all) [] graph rows) e (subst (λ (v : List Element). IsNear conditions all (take i all) v graph rows) (drop_all i all b) so))
+  near_end : (g : Group) (all : List Element) (i : ℕ) (graph : List Triple) (before rows : List Bindings) (held : List Element) → all ≡ g.elements → length all ≤ i → IsNear conditions all (take i all) (drop i all) graph before held
+      → AreJoined conditions held graph before rows → AreNearly g graph conditions rows
+  near_end g all i graph before rows held e b so joined =
+      near_all g (take i all) graph before rows held
+      (subst (λ (v : List Element). IsNear conditions v (take i all) [] graph before held) e (subst (λ (v : List Element). IsNear conditions all (take i all) v graph before held) (drop_all i all b) so)) joined
 
--- the rows after the elements so far are nearly those that a run, which is held back, gives of the rows in hand
-abbrev pub IsHeld : List Expr → List Element → ℕ → List Triple → List Bindings → List Pattern → Type 0
-IsHeld conditions all i graph rows patterns = IsNear conditions all (take i all) (drop i all) graph (rows_from graph rows patterns)
+-- the rows after the elements so far are nearly those that come of the rows in hand by a run and other elements, all of which are held back
+abbrev pub IsHeld : List Expr → List Element → ℕ → List Triple → List Bindings → List Pattern → List Element → Type 0
+IsHeld conditions all i graph rows patterns held = IsNear conditions all (take i all) (drop i all) graph (rows_from graph rows patterns) held
 
-module _ (conditions : List Expr) (all : List Element) (i : ℕ) (e : Element) (graph : List Triple) (rows : List Bindings) (patterns : List Pattern) (b : i < length all) (is : e ≡ get_or all i e) (so : IsHeld conditions all i graph rows patterns) where
-  step : (more : List Pattern) → All (λ s. IsTrue (rises s)) rows → AreAfter e graph (rows_from graph rows patterns) (rows_from graph rows more) → IsHeld conditions all (i + 1) graph rows more
-  step more up next =
-      near_at conditions all i e graph (rows_from graph rows patterns) (rows_from graph rows more) b is so
-      (rising_rows_from graph patterns rows (all_rise rows (recursion_from_All (λ s. IsTrue (rises s)) rows up))) next
+-- an element that joins the rows before it with a table
+record Joins (e : Element) (graph : List Triple) : Type 0 where
+  pub table : (List ℕ → List Triple) → List ℕ → ℕ → List Bindings
+  pub same : (graphs : List ℕ → List Triple) (down : List ℕ) (number : ℕ) (rows : List Bindings) → after_part graph number rows (part_of graphs down e) ≡ join rows (table graphs down number)
 
-  pub held_triple : (p q : Pattern) (more : List Pattern) → All (λ s. IsTrue (rises s)) rows → e ≡ Triple-E p → q ≡ p → more ≡ patterns ++ q ∷ [] → IsHeld conditions all (i + 1) graph rows more
+joins_values : (inline : Inline) (graph : List Triple) → Joins (Values inline) graph
+joins_values inline graph = record { table = λ graphs down number. inline_rows inline; same = λ graphs down number rows. ap (after_part graph number rows) (part_values graphs down inline) }
+
+joins_union : (gs : List Group) (graph : List Triple) → Joins (Union gs) graph
+joins_union gs graph = record { table = λ graphs down number. alternatives (map (meaning graphs down) gs) graph number; same = λ graphs down number rows. ap (after_part graph number rows) (part_union graphs down gs) }
+
+module _ (conditions : List Expr) (all : List Element) (i : ℕ) (e : Element) (graph : List Triple) (rows : List Bindings) (patterns : List Pattern) (held : List Element) (b : i < length all) (is : e ≡ get_or all i e)
+    (so : IsHeld conditions all i graph rows patterns held) where
+  abbrev pub before : List Bindings
+  before = rows_from graph rows patterns
+
+  rising_before : All (λ s. IsTrue (rises s)) rows → AllByRecursion (λ s. rises s ≡ true) before
+  rising_before up = rise_run graph rows patterns (recursion_from_All (λ s. IsTrue (rises s)) rows up)
+
+  rising_tables : (tables : List (List Bindings)) → All (λ s. IsTrue (rises s)) rows → AllRise (with_tables before tables)
+  rising_tables tables up = all_rise (with_tables before tables) (rise_tables before tables (rising_before up))
+
+  pub held_triple : (p q : Pattern) (more : List Pattern) → All (λ s. IsTrue (rises s)) rows → e ≡ Triple-E p → q ≡ p → more ≡ patterns ++ q ∷ [] → IsHeld conditions all (i + 1) graph rows more held
   held_triple p q more up named same added =
       let pushed : more ≡ patterns ++ p ∷ [] = added ∙ ap (λ (x : Pattern). patterns ++ x ∷ []) same in
-      step more up (subst (λ (x : Element). AreAfter x graph (rows_from graph rows patterns) (rows_from graph rows more)) (sym named)
-      (after_triple graph (rows_from graph rows patterns) (rows_from graph rows more) p (ap (rows_from graph rows) pushed ∙ rows_from_more graph rows patterns p)))
+      let longer : rows_from graph rows more ≡ extended graph p before = ap (rows_from graph rows) pushed ∙ rows_from_more graph rows patterns p in
+      near_by conditions all i e graph before (rows_from graph rows more) held held b is so
+      (λ graphs down number tables are h.
+      let whole = with_tables before tables in
+      let part_is : part_of graphs down e ≡ pattern p = ap (part_of graphs down) named ∙ part_triple graphs down p in
+      record {
+        kept = whole;
+        rising = rising_tables tables up;
+        fewer = all_of_them conditions whole;
+        tables = tables;
+        are = are;
+        next =
+            subst (λ (v : List Bindings). AreFewer conditions (with_tables v tables) (after_part graph number whole (part_of graphs down e))) (sym longer)
+            (subst (λ (part : Part). AreFewer conditions (with_tables (extended graph p before) tables) (after_part graph number whole part)) (sym part_is)
+            (fewer_laws.none conditions (with_tables (extended graph p before) tables) (extended graph p whole) (pattern_past graph before p tables (rising_before up))));
+      })
 
-  pub held_filter : (x : Expr) → All (λ s. IsTrue (rises s)) rows → e ≡ Filter x → IsHeld conditions all (i + 1) graph rows patterns
+  pub held_filter : (x : Expr) → All (λ s. IsTrue (rises s)) rows → e ≡ Filter x → IsHeld conditions all (i + 1) graph rows patterns held
   held_filter x up named =
-      step patterns up (subst (λ (y : Element). AreAfter y graph (rows_from graph rows patterns) (rows_from graph rows patterns)) (sym named) (after_filter graph (rows_from graph rows patterns) (rows_from graph rows patterns) x refl))
+      near_by conditions all i e graph before before held held b is so
+      (λ graphs down number tables are h.
+      let whole = with_tables before tables in
+      let part_is : part_of graphs down e ≡ condition x = ap (part_of graphs down) named ∙ part_filter graphs down x in
+      record {
+        kept = whole;
+        rising = rising_tables tables up;
+        fewer = all_of_them conditions whole;
+        tables = tables;
+        are = are;
+        next = subst (λ (part : Part). AreFewer conditions whole (after_part graph number whole part)) (sym part_is) (all_of_them conditions whole);
+      })
 
-  -- any other element comes after the run
-  pub held_other : (found next : List Bindings) (none : List Pattern) → AreFewer conditions found (rows_from graph rows patterns) → All (λ s. IsTrue (rises s)) found → AreAfter e graph found next → none ≡ [] → IsHeld conditions all (i + 1) graph next none
-  held_other found next none moved up behind gone =
-      subst (λ (v : List Pattern). IsHeld conditions all (i + 1) graph next v) (sym gone)
-      (near_at conditions all i e graph found next b is (near_fewer conditions all (take i all) (drop i all) graph (rows_from graph rows patterns) found moved so) (all_rise found (recursion_from_All (λ s. IsTrue (rises s)) found up)) behind)
+  -- an element that joins is held back
+  held_more : (more : List Element) → All (λ s. IsTrue (rises s)) rows → Joins e graph → more ≡ held ++ e ∷ [] → IsHeld conditions all (i + 1) graph rows patterns more
+  held_more more up its added =
+      near_by conditions all i e graph before before held more b is so
+      (λ graphs down number tables are h.
+      let whole = with_tables before tables in
+      let table = its.table graphs down number in
+      record {
+        kept = whole;
+        rising = rising_tables tables up;
+        fewer = all_of_them conditions whole;
+        tables = tables ++ table ∷ [];
+        are =
+            subst (λ (v : List Element). AreTables graphs down graph v (tables ++ table ∷ [])) (sym added)
+            (tables_more graphs down graph held tables e table are (record { number = number; are_down = h; joined = its.same graphs down number }));
+        next =
+            subst (λ (v : List Bindings). AreFewer conditions v (after_part graph number whole (part_of graphs down e))) (sym (one_table_more before tables table))
+            (subst (λ (v : List Bindings). AreFewer conditions (join whole table) v) (sym (its.same graphs down number whole)) (all_of_them conditions (join whole table)));
+      })
 
-  -- a table of VALUES goes before the run that is held back
-  pub held_values : (inline : Inline) (next : List Bindings) → All (λ s. IsTrue (rises s)) rows → e ≡ Values inline → IsPermutation (join rows (inline_rows inline)) next → IsHeld conditions all (i + 1) graph next patterns
-  held_values inline next up named joined =
-      let before = rows_from graph rows patterns in
-      let behind = rows_from graph next patterns in
-      near_at conditions all i e graph before behind b is so
-      (rising_rows_from graph patterns rows (all_rise rows (recursion_from_All (λ s. IsTrue (rises s)) rows up)))
-      (subst (λ (x : Element). AreAfter x graph before behind) (sym named) (after_values graph before behind inline (inline_rows inline) refl (table_first graph rows (inline_rows inline) next patterns up joined)))
+  pub held_values : (inline : Inline) (more : List Element) → All (λ s. IsTrue (rises s)) rows → e ≡ Values inline → more ≡ held ++ e ∷ [] → IsHeld conditions all (i + 1) graph rows patterns more
+  held_values inline more up named added = held_more more up (subst (λ (x : Element). Joins x graph) (sym named) (joins_values inline graph)) added
 
-  -- so does what a UNION has, but for some that the conditions refuse
-  pub held_union : (gs : List Group) (found next : List Bindings) → All (λ s. IsTrue (rises s)) rows → e ≡ Union gs → AreAlternatives gs graph conditions found → IsPermutation (join rows found) next → IsHeld conditions all (i + 1) graph next patterns
-  held_union gs found next up named those joined =
-      let before = rows_from graph rows patterns in
-      let behind = rows_from graph next patterns in
-      near_by conditions all i e graph before behind b is so
-      (rising_rows_from graph patterns rows (all_rise rows (recursion_from_All (λ s. IsTrue (rises s)) rows up)))
-      (subst (λ (x : Element). AreNearlyAfter conditions x graph before behind) (sym named) (record {
-        same = λ graphs down number h.
-            let others = alternatives (map (meaning graphs down) gs) graph number in
-            let fewer : AreFewer conditions behind (join before others) =
-            fewer_laws.any_order conditions (join before found) behind (join before others) (join before others) (table_first graph rows found next patterns up joined) (IsPermutation-refl (join before others))
-            (fewer_joined conditions before found others (those.same graphs down number (subst (λ (part : Part). AreDown down number (part_services part)) (part_union graphs down gs) h))) in
-            subst (λ (part : Part). AreFewer conditions behind (after_part graph number before part)) (sym (part_union graphs down gs)) fewer;
-      }))
+  pub held_union : (gs : List Group) (more : List Element) → All (λ s. IsTrue (rises s)) rows → e ≡ Union gs → more ≡ held ++ e ∷ [] → IsHeld conditions all (i + 1) graph rows patterns more
+  held_union gs more up named added = held_more more up (subst (λ (x : Element). Joins x graph) (sym named) (joins_union gs graph)) added
 
-pub held_end : (conditions : List Expr) (g : Group) (all : List Element) (i : ℕ) (graph : List Triple) (rows found : List Bindings) (patterns : List Pattern) → all ≡ g.elements → length all ≤ i → IsHeld conditions all i graph rows patterns
-    → AreFewer conditions found (rows_from graph rows patterns) → AreNearly g graph conditions found
-held_end conditions g all i graph rows found patterns e b so moved = near_end conditions g all i graph found e b (near_fewer conditions all (take i all) (drop i all) graph (rows_from graph rows patterns) found moved so)
+  -- any other element comes behind all that was held back
+  pub held_other : (found next : List Bindings) (none : List Pattern) (gone : List Element) → AreJoined conditions held graph before found → All (λ s. IsTrue (rises s)) found → AreAfter e graph found next → none ≡ [] → gone ≡ []
+      → IsHeld conditions all (i + 1) graph next none gone
+  held_other found next none gone joined up behind no_pattern no_element =
+      subst (λ (v : List Pattern). IsHeld conditions all (i + 1) graph next v gone) (sym no_pattern)
+      (subst (λ (v : List Element). IsHeld conditions all (i + 1) graph next [] v) (sym no_element)
+      (near_by conditions all i e graph before next held [] b is so
+      (λ graphs down number tables are h.
+      let after_it = after_part graph number found (part_of graphs down e) in
+      record {
+        kept = found;
+        rising = all_rise found (recursion_from_All (λ s. IsTrue (rises s)) found up);
+        fewer = joined.same graphs down tables are;
+        tables = [];
+        are = tt;
+        next = fewer_laws.none conditions next after_it (IsPermutation-sym after_it next (behind.same graphs down number h));
+      })))
+
+pub held_end : (conditions : List Expr) (g : Group) (all : List Element) (i : ℕ) (graph : List Triple) (rows found : List Bindings) (patterns : List Pattern) (held : List Element) → all ≡ g.elements → length all ≤ i
+    → IsHeld conditions all i graph rows patterns held → AreJoined conditions held graph (rows_from graph rows patterns) found → AreNearly g graph conditions found
+held_end conditions g all i graph rows found patterns held e b so joined = near_end conditions g all i graph (rows_from graph rows patterns) found held e b so joined
+
+-- ---- what joins, with conditions
+
+pub after_is_near : (conditions : List Expr) (e : Element) (graph : List Triple) (before rows : List Bindings) → AreAfter e graph before rows → AreNearlyAfter conditions e graph before rows
+after_is_near conditions e graph before rows h = record {
+  same = λ graphs down number all. let whole = after_part graph number before (part_of graphs down e) in fewer_laws.none conditions rows whole (IsPermutation-sym whole rows (h.same graphs down number all));
+}
+
+pub union_is_near : (conditions : List Expr) (gs : List Group) (graph : List Triple) (before found rows : List Bindings) → AreAlternatives gs graph conditions found → IsPermutation (join before found) rows
+    → AreNearlyAfter conditions (Union gs) graph before rows
+union_is_near conditions gs graph before found rows those joined = record {
+  same = λ graphs down number h.
+      let others = alternatives (map (meaning graphs down) gs) graph number in
+      let fewer : AreFewer conditions rows (join before others) =
+      fewer_laws.any_order conditions (join before found) rows (join before others) (join before others) joined (IsPermutation-refl (join before others))
+      (fewer_joined conditions before found others (those.same graphs down number (subst (λ (part : Part). AreDown down number (part_services part)) (part_union graphs down gs) h))) in
+      subst (λ (part : Part). AreFewer conditions rows (after_part graph number before part)) (sym (part_union graphs down gs)) fewer;
+}
 
 -- ---- the filters at the end
 

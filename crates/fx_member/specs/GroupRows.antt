@@ -1,11 +1,13 @@
 -- The rows of a group where no other endpoint is asked, since each occurrence of SERVICE is down (SPARQL 1.1 Federated Query,
 -- section 4). The rows stand in some order.
-use Rattle.std.specs.Prelude.{◌≡◌, ℕ, ◌+◌, ◌<◌, ◌≤◌, true, false, List, [], ◌∷◌, ◌++◌, map, length, None, All, IsPermutation}
+use Rattle.std.specs.Prelude.{◌≡◌, ℕ, ◌+◌, ◌<◌, ◌≤◌, true, false, List, [], ◌∷◌, ◌++◌, map, length, take, drop, None, All, IsPermutation}
+use Rattle.std.specs.List.{flat_map}
 use Rattle.fx_terms.specs.declared.patterns.Pattern.{Pattern}
 use Rattle.fx_terms.specs.declared.triples.Triple.{Triple}
 use Rattle.fx_algebra.specs.Answers.{answer}
 use Rattle.fx_algebra.specs.Conditions.{holds}
 use Rattle.fx_algebra.specs.Evaluation.{extended}
+use Rattle.fx_algebra.specs.Operators.{join}
 use Rattle.fx_algebra.specs.Groups.{Part, pattern, condition, operator, Meaning, meaning, element_meaning, group_meaning, conditions_of, part_services, groups_services, group_rows, alternatives, is_down}
 use Rattle.fx_algebra.specs.Occurrences.{services}
 use Rattle.fx_algebra.specs.Solutions.{Bindings, agree}
@@ -71,6 +73,39 @@ pub record AreAlternatives (groups : List Group) (graph : List Triple) (outside 
 -- the rows are those after an element that had these before it
 pub record AreAfter (element : Element) (graph : List Triple) (before rows : List Bindings) : Type 0 where
   pub same : (graphs : List ℕ → List Triple) (down : List ℕ) (number : ℕ) → AreDown down number (part_services (part_of graphs down element)) → IsPermutation (after_part graph number before (part_of graphs down element)) rows
+
+-- they are those, without some that conditions refuse
+pub record AreNearlyAfter (conditions : List Expr) (element : Element) (graph : List Triple) (before rows : List Bindings) : Type 0 where
+  pub same : (graphs : List ℕ → List Triple) (down : List ℕ) (number : ℕ) → AreDown down number (part_services (part_of graphs down element)) → AreFewer conditions rows (after_part graph number before (part_of graphs down element))
+
+-- ---- elements that are held back: each joins the rows before it with a table of its own, so they may be taken in any order
+
+-- those that stand at these places
+abbrev pub elements_at : List Element → List ℕ → List Element
+elements_at elements places = flat_map (λ place. take 1 (drop place elements)) places
+
+-- the rows before an element are joined with this table, where all that it would ask are down
+pub record IsTable (graphs : List ℕ → List Triple) (down : List ℕ) (graph : List Triple) (element : Element) (table : List Bindings) : Type 0 where
+  pub number : ℕ
+  pub are_down : AreDown down number (part_services (part_of graphs down element))
+  pub joined : (rows : List Bindings) → after_part graph number rows (part_of graphs down element) ≡ join rows table
+
+abbrev pub AreTables : (List ℕ → List Triple) → List ℕ → List Triple → List Element → List (List Bindings) → Type 0
+AreTables graphs down graph [] [] = Unit {0}
+AreTables graphs down graph [] (table ∷ tables) = ⊥
+AreTables graphs down graph (element ∷ elements) [] = ⊥
+AreTables graphs down graph (element ∷ elements) (table ∷ tables) = IsTable graphs down graph element table × AreTables graphs down graph elements tables
+
+-- rows joined with each of the tables
+abbrev pub with_tables : List Bindings → List (List Bindings) → List Bindings
+with_tables rows [] = rows
+with_tables rows (table ∷ tables) = with_tables (join rows table) tables
+
+-- the rows are those before joined with what each of the elements has, without some that conditions refuse
+pub record AreJoined (conditions : List Expr) (elements : List Element) (graph : List Triple) (before rows : List Bindings) : Type 0 where
+  pub same : (graphs : List ℕ → List Triple) (down : List ℕ) (tables : List (List Bindings)) → AreTables graphs down graph elements tables → AreFewer conditions rows (with_tables before tables)
+
+-- ---- answers
 
 -- the answer is that of a query over a graph, whatever graphs the endpoints have, where all that the query would ask are down
 pub record IsAnswerOf (q : Query) (graph : List Triple) (found : Answer) : Type 0 where

@@ -1,5 +1,5 @@
 -- A run of triple patterns, as far as it was gone through.
-use Rattle.std.specs.Prelude.{◌≡◌, ◌⊎◌, ℕ, List, ◌∷◌, ◌++◌, Option, Some, None, IsPermutation}
+use Rattle.std.specs.Prelude.{◌≡◌, ◌⊎◌, ◌<◌, ℕ, List, ◌∷◌, ◌++◌, Option, Some, None, IsPermutation}
 use Rattle.fx_terms.specs.declared.patterns.Pattern.{Pattern}
 use Rattle.fx_terms.specs.declared.triples.Triple.{Triple}
 use Rattle.fx_algebra.specs.Evaluation.{extended, rows_from}
@@ -30,3 +30,8 @@ place_of (Apart place) = place
 abbrev pub IsOneOf : Option Outlook → Outlook → Outlook → Type 0
 IsOneOf None other found = found ≡ other
 IsOneOf (Some best) other found = (found ≡ other) ⊎ (found ≡ best)
+
+-- the place of an element that is held back, of so many; or none, where a pattern is left, of so many
+abbrev pub IsHeldNext : ℕ → ℕ → Option ℕ → Type 0
+IsHeldNext held patterns None = 0 < patterns
+IsHeldNext held patterns (Some place) = place < held

@@ -1,9 +1,9 @@
 //! Which triple pattern is looked up next: estimates, on which no row hangs.
-ghost use Rattle.std.specs.Prelude.{◌≡◌, ◌<◌, IfSome, length};
+ghost use Rattle.std.specs.Prelude.{◌≡◌, ◌<◌, IfOk, IfSome, length};
 ghost use Rattle.fx_member.specs.Runs as spec;
 
 use crate::known::known_by;
-use fx_algebra::{Element, Expr, Group, Solution};
+use fx_algebra::{Element, Expr, Group, Inline, Solution};
 use fx_store::Store;
 use fx_terms::{Memory, Name, Pattern, PatternTerm, Term};
 use std::alloc::Global;
@@ -38,7 +38,10 @@ impl Choice {
     }
 }
 
-// A pattern by its place, and how many rows it is likely to give.
+// How many of the elements that are held back are compared.
+const MOST_COMPARED: usize = 64;
+
+// A pattern or an element by its place, and how many rows it is likely to give.
 #[derive(Clone, Copy)]
 struct Outlook {
     place: usize,
@@ -233,7 +236,7 @@ pub(crate) fn is_small(
     rows: &[Solution],
 ) -> Result<bool, Memory> {
     let Some(row) = rows.first() else {
-        return Ok(false);
+        return Ok(true);
     };
     let count = rows.len() as u64;
     let all = triples_of(store, element, &Solution::empty(alloc));
@@ -245,24 +248,55 @@ pub(crate) fn is_small(
     Ok(one.saturating_mul(count) < all)
 }
 
-/// Whether a UNION is joined behind the patterns in front of it: it has more triples than the pattern that is looked up first. Where there is none, whether it is
-/// gone through for each row.
-pub(crate) fn is_behind(
+/// Which of the elements that are held back is joined next: of their places, where that stands of the one that has the fewest triples, or rows of its own. Nothing
+/// where it has more than the pattern of the run that has the fewest: then one of these is looked up before.
+pub(crate) fn held_next(
     alloc: Global,
     store: &Store,
-    union: &Element,
+    elements: &[Element],
+    held: &[usize],
     run: &[Pattern],
     rows: &[Solution],
     conditions: &[Expr],
-) -> Result<bool, Memory> {
+) -> Result<Option<usize>, Memory>
+    requires { 0 < length held.now }
+    ensures { IfOk result (λ next. spec.IsHeldNext (length held.now) (length run.now) next) }
+{
     let Some(row) = rows.first() else {
-        return Ok(false);
+        return Ok(Some(0));
     };
     let row = with_known(alloc, row, conditions)?;
     let known = iris_of(alloc, &row, &[])?;
+    let lightest = lightest(store, elements, held, &known);
     match fewest_under(store, run, &row) {
-        None => is_small(alloc, store, union, rows),
-        Some(first) => Ok(triples_of(store, union, &known) > first),
+        Some(first) if lightest.rows > first => Ok(None),
+        _ => Ok(Some(lightest.place)),
+    }
+}
+
+// Of the first places of elements the one whose element has the fewest triples under a row.
+fn lightest(store: &Store, elements: &[Element], held: &[usize], row: &Solution) -> Outlook
+    requires { 0 < length held.now }
+    ensures { result.place < length held.now }
+{
+    let mut best = Outlook {
+        place: 0,
+        rows: triples_at(store, elements, held[0], row),
+    };
+    for place in 1..held.len().min(MOST_COMPARED) {
+        let rows = triples_at(store, elements, held[place], row);
+        if rows < best.rows {
+            best = Outlook { place, rows };
+        }
+    }
+    best
+}
+
+// How many triples of the element at a place are likely to be found under a row.
+fn triples_at(store: &Store, elements: &[Element], place: usize, row: &Solution) -> u64 {
+    match elements.get(place) {
+        None => 0,
+        Some(element) => triples_of(store, element, row),
     }
 }
 
@@ -278,7 +312,9 @@ fn with_known(alloc: Global, row: &Solution, conditions: &[Expr]) -> Result<Solu
 }
 
 // The triples under a row of the pattern that has the fewest.
-fn fewest_under(store: &Store, patterns: &[Pattern], row: &Solution) -> Option<u64> {
+fn fewest_under(store: &Store, patterns: &[Pattern], row: &Solution) -> Option<u64>
+    ensures { IfSome result (λ _. 0 < length patterns.now) }
+{
     let mut fewest: Option<u64> = None;
     for pattern in patterns {
         fewest = Some(least(fewest, store.count(pattern, row)));
@@ -324,30 +360,42 @@ fn triples_of(store: &Store, element: &Element, row: &Solution) -> u64 {
         Element::Optional(group) => triples_in(store, group, row),
         Element::Minus(group) => triples_in(store, group, row),
         Element::Union(groups) => triples_in_all(store, groups.as_slice(), row),
-        Element::Values(inline) => inline.rows.as_slice().len() as u64,
+        Element::Values(inline) => rows_of_table(inline, row),
         _ => 0,
     }
 }
 
-// Those of the triple pattern of a group that has the fewest: what stands behind patterns is looked up under what these give. A UNION in front of all has its own.
-// Where a group has no pattern, those of its elements.
+// How many rows of a table of VALUES are likely to agree with a row: one, where both bind a variable.
+fn rows_of_table(inline: &Inline, row: &Solution) -> u64 {
+    if inline
+        .columns
+        .as_slice()
+        .iter()
+        .any(|name| row.get(name).is_some())
+    {
+        1
+    } else {
+        inline.rows.as_slice().len() as u64
+    }
+}
+
+// Those of the triple pattern of a group that has the fewest, or of the UNION: the others are looked up under what it gives. Where a group has neither, those of its
+// elements.
 #[cycle(triples)]
 fn triples_in(store: &Store, group: &Group, row: &Solution) -> u64 {
     let mut fewest: Option<u64> = None;
-    let mut whole = 0u64;
     let mut others = 0u64;
     for element in group.elements.as_slice() {
         match element {
             Element::Triple(pattern) => fewest = Some(least(fewest, store.count(pattern, row))),
-            Element::Union(groups) => {
-                if fewest.is_none() {
-                    whole = whole.saturating_add(triples_in_all(store, groups.as_slice(), row));
-                }
-            }
+            Element::Union(groups) => fewest = Some(least(
+                fewest,
+                triples_in_all(store, groups.as_slice(), row),
+            )),
             _ => others = others.saturating_add(triples_of(store, element, row)),
         }
     }
-    whole.saturating_add(fewest.unwrap_or(others))
+    fewest.unwrap_or(others)
 }
 
 #[cycle(triples)]

@@ -1,15 +1,16 @@
 //! The rows of groups (SPARQL 1.1 sections 18.2.2 and 18.6).
 ghost use Rattle.std.specs.Prelude.{◌≡◌, ◌∷◌, [], IfOk, IsPermutation, OnOk};
+ghost use Rattle.fx_algebra.specs.Evaluation.{rows_from};
 ghost use Rattle.fx_algebra.specs.Operators.{inline_rows as inline_rows_of, join};
 ghost use Rattle.fx_algebra.specs.declared.queries.Element.TheVariants as element;
 ghost use Rattle.fx_member.specs.GroupRows as spec;
 ghost use Rattle.fx_member.specs.Optionals.{IsRunOf};
 
 use crate::conditions::{both, conjuncts};
-use crate::estimates::{is_behind, is_small};
-use crate::known::known_of;
+use crate::estimates::{held_next, is_small};
+use crate::known::{known_of, with_known};
 use crate::optionals::{run_under, with_matches};
-use crate::runs::{in_order, with_run};
+use crate::runs::{Run, in_order, with_next_of, with_run};
 use fx_algebra::{Element, Expr, Group, Inline, Solution};
 use fx_solutions::known_rows::known_to_rise;
 use fx_solutions::{extend, filter, inline_rows, join_with, left_join_with, minus_with};
@@ -60,56 +61,108 @@ fn nearly(
 ) -> Result<Vec<Solution>, Memory>
     ensures { IfOk result (λ rows. spec.AreNearly group.now store.now conditions.now rows.items) }
 {
+    let elements = group.elements.as_slice();
     let mut rows = Vec::new(alloc);
     rows.push(Solution::empty(alloc))?;
-    let mut run = Vec::new(alloc);
-    for element in group.elements.as_slice() {
+    let mut left = Vec::new(alloc);
+    let mut held = Vec::new(alloc);
+    for place in 0..elements.len() {
+        let element = &elements[place];
         known_to_rise(rows.as_slice());
         match element {
-            Element::Triple(pattern) => run.push(pattern.copy()?)?,
+            Element::Triple(pattern) => left.push(pattern.copy()?)?,
             Element::Filter(_) => {}
-            Element::Values(inline) => rows = with_values(alloc, inline, rows)?,
-            Element::Union(groups) => {
-                if is_behind(
-                    alloc,
-                    store,
-                    element,
-                    run.as_slice(),
-                    rows.as_slice(),
-                    conditions,
-                )? {
-                    let found = with_run(alloc, store, run, rows, conditions, false)?;
-                    known_to_rise(found.as_slice());
-                    rows = after_element(alloc, store, element, found)?;
-                    run = Vec::new(alloc);
-                } else {
-                    let found = alternatives(alloc, store, groups.as_slice(), conditions)?;
-                    rows = join_with(alloc, rows.as_slice(), found)?;
-                }
-            }
+            Element::Values(_) => held.push(place)?,
+            Element::Union(_) => held.push(place)?,
             _ => {
-                let found = with_run(alloc, store, run, rows, conditions, false)?;
+                let run = Run { rows, left };
+                let found = with_held(alloc, store, elements, held, run, conditions, false)?;
                 known_to_rise(found.as_slice());
                 rows = after_element(alloc, store, element, found)?;
-                run = Vec::new(alloc);
+                left = Vec::new(alloc);
+                held = Vec::new(alloc);
             }
         }
     }
-    let found = with_run(alloc, store, run, rows, conditions, true)?;
+    let run = Run { rows, left };
+    let found = with_held(alloc, store, elements, held, run, conditions, true)?;
     Ok(found)
 }
 
-// Rows joined with a table of VALUES.
-fn with_values(
+// The rows of a run, joined with those of the elements at some places, which are held back with it, without some that conditions refuse. Now a pattern is
+// looked up, now an element joined, as few rows are likely to come of it.
+#[cycle(rows)]
+fn with_held(
     alloc: Global,
-    inline: &Inline,
-    before: Vec<Solution>,
+    store: &Store,
+    elements: &[Element],
+    held: Vec<usize>,
+    run: Run,
+    conditions: &[Expr],
+    is_last: bool,
 ) -> Result<Vec<Solution>, Memory>
-    ensures { IfOk result (λ rows. IsPermutation (join before.items (inline_rows_of inline.now)) rows.items) }
+    ensures { IfOk result (λ rows. spec.AreJoined conditions.now (spec.elements_at elements.now held.items) store.now (rows_from store.now run.rows.items run.left.items) rows.items) }
 {
-    let found = inline_rows(alloc, inline)?;
-    let rows = join_with(alloc, before.as_slice(), found)?;
+    let known = with_known(alloc, run.rows, run.left.as_slice(), conditions)?;
+    let mut left = held;
+    let mut more = Run {
+        rows: known,
+        left: run.left,
+    };
+    while !left.is_empty() {
+        known_to_rise(more.rows.as_slice());
+        match held_next(
+            alloc,
+            store,
+            elements,
+            left.as_slice(),
+            more.left.as_slice(),
+            more.rows.as_slice(),
+            conditions,
+        )? {
+            None => more = with_next_of(alloc, store, more, conditions, false)?,
+            Some(at) => {
+                if let Some(element) = elements.get(left.remove(at)) {
+                    let rows = joined_with(alloc, store, element, more.rows, conditions)?;
+                    known_to_rise(rows.as_slice());
+                    more = Run {
+                        rows,
+                        left: more.left,
+                    };
+                }
+            }
+        }
+    }
+    let rows = with_run(alloc, store, more.left, more.rows, conditions, is_last)?;
     Ok(rows)
+}
+
+// The rows after an element, without some that conditions refuse. A UNION whose triples are many for the rows before it is gone through for each of them by itself.
+#[cycle(rows)]
+fn joined_with(
+    alloc: Global,
+    store: &Store,
+    element: &Element,
+    before: Vec<Solution>,
+    conditions: &[Expr],
+) -> Result<Vec<Solution>, Memory>
+    ensures { IfOk result (λ rows. spec.AreNearlyAfter conditions.now element.now store.now before.items rows.items) }
+{
+    match element {
+        Element::Union(groups) => {
+            if is_small(alloc, store, element, before.as_slice())? {
+                let rows = row_by_row(alloc, store, element, before)?;
+                return Ok(rows);
+            }
+            let found = alternatives(alloc, store, groups.as_slice(), conditions)?;
+            let rows = join_with(alloc, before.as_slice(), found)?;
+            Ok(rows)
+        }
+        _ => {
+            let found = after_known(alloc, store, element, before, &[])?;
+            Ok(found)
+        }
+    }
 }
 
 // The rows after an element, from those before it. An OPTIONAL, a UNION or a MINUS whose triples are many for these rows is gone through for each row by itself.

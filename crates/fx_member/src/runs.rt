@@ -48,8 +48,8 @@ pub(crate) fn with_run(
     Ok(run.rows)
 }
 
-// A run with one pattern more, or with a part more, and the conditions whose variables this binds.
-fn with_next_of(
+/// A run with one pattern more, or with a part more, and the conditions whose variables this binds.
+pub(crate) fn with_next_of(
     alloc: Global,
     store: &Store,
     run: Run,
