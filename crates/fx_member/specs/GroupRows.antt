@@ -6,7 +6,7 @@ use Rattle.fx_terms.specs.declared.patterns.Pattern.{Pattern}
 use Rattle.fx_terms.specs.declared.triples.Triple.{Triple}
 use Rattle.fx_algebra.specs.Answers.{answer}
 use Rattle.fx_algebra.specs.Conditions.{holds}
-use Rattle.fx_algebra.specs.Evaluation.{extended}
+use Rattle.fx_algebra.specs.Evaluation.{extended, rows_from}
 use Rattle.fx_algebra.specs.Operators.{join}
 use Rattle.fx_algebra.specs.Groups.{Part, pattern, condition, operator, Meaning, meaning, element_meaning, group_meaning, conditions_of, part_services, groups_services, group_rows, alternatives, is_down}
 use Rattle.fx_algebra.specs.Occurrences.{services}
@@ -19,6 +19,7 @@ use Rattle.fx_algebra.specs.declared.queries.Form.TheVariants.{Ask}
 use Rattle.fx_algebra.specs.declared.queries.Group.{Group}
 use Rattle.fx_algebra.specs.declared.queries.Query.{Query}
 use Rattle.fx_steps.specs.Fewer.{AreFewer, IsGone}
+use Rattle.fx_member.specs.declared.runs.Run.{Run}
 
 -- as many occurrences of SERVICE, from a number on, are down
 pub record AreDown (down : List ℕ) (number count : ℕ) : Type 0 where
@@ -104,6 +105,10 @@ with_tables rows (table ∷ tables) = with_tables (join rows table) tables
 -- the rows are those before joined with what each of the elements has, without some that conditions refuse
 pub record AreJoined (conditions : List Expr) (elements : List Element) (graph : List Triple) (before rows : List Bindings) : Type 0 where
   pub same : (graphs : List ℕ → List Triple) (down : List ℕ) (tables : List (List Bindings)) → AreTables graphs down graph elements tables → AreFewer conditions rows (with_tables before tables)
+
+-- they are those that a run and the elements at these places give together
+abbrev pub AreHeldRows : List Expr → List Element → List ℕ → List Triple → Run → List Bindings → Type 0
+AreHeldRows conditions elements places graph run rows = AreJoined conditions (elements_at elements places) graph (rows_from graph run.rows.items run.left.items) rows
 
 -- ---- answers
 

@@ -1,7 +1,5 @@
 //! The rows of groups (SPARQL 1.1 sections 18.2.2 and 18.6).
-ghost use Rattle.std.specs.Prelude.{◌≡◌, ◌∷◌, [], IfOk, IsPermutation, OnOk};
-ghost use Rattle.fx_algebra.specs.Evaluation.{rows_from};
-ghost use Rattle.fx_algebra.specs.Operators.{inline_rows as inline_rows_of, join};
+ghost use Rattle.std.specs.Prelude.{◌≡◌, ◌∷◌, [], IfOk, OnOk};
 ghost use Rattle.fx_algebra.specs.declared.queries.Element.TheVariants as element;
 ghost use Rattle.fx_member.specs.GroupRows as spec;
 ghost use Rattle.fx_member.specs.Optionals.{IsRunOf};
@@ -11,7 +9,7 @@ use crate::estimates::{held_next, is_small};
 use crate::known::{known_of, with_known};
 use crate::optionals::{run_under, with_matches};
 use crate::runs::{Run, in_order, with_next_of, with_run};
-use fx_algebra::{Element, Expr, Group, Inline, Solution};
+use fx_algebra::{Element, Expr, Group, Solution};
 use fx_solutions::known_rows::known_to_rise;
 use fx_solutions::{extend, filter, inline_rows, join_with, left_join_with, minus_with};
 use fx_store::Store;
@@ -21,8 +19,9 @@ use std::alloc::Global;
 /// The rows of a group over a store's graph, in some order, where every occurrence of SERVICE in the group is down: none is asked, and
 /// each leaves the rows before it as they are.
 ///
-/// The group is gone through from left to right. The triple patterns of a run are held back, and a VALUES or a UNION that stands among or behind them is joined with the
-/// rows before them; they are looked up where an element comes that isn't one of these, nor a filter, and at the end, in an order that gives few rows. So the rows before
+/// The group is gone through from left to right. The triple patterns of a run are held back, and so is each VALUES, UNION and nested group that stands in front of them, among
+/// them or behind them. Where an element comes that isn't one of these, nor a filter, and at the end, they are taken one by one: now a pattern is looked up, now an element
+/// joined, in an order that gives few rows. So the rows before
 /// a run are known to its look-ups, as are those before an OPTIONAL whose group holds triple patterns and filters alone, unless they are many and the triples of these
 /// patterns few. A nested group, a UNION, any other OPTIONAL and a MINUS begin with the one empty solution; where the rows before them are few, they are gone through for each
 /// of these, and what this binds to IRIs is known to their look-ups. The filters of the group are applied at its end; a row that binds
@@ -101,7 +100,7 @@ fn with_held(
     conditions: &[Expr],
     is_last: bool,
 ) -> Result<Vec<Solution>, Memory>
-    ensures { IfOk result (λ rows. spec.AreJoined conditions.now (spec.elements_at elements.now held.items) store.now (rows_from store.now run.rows.items run.left.items) rows.items) }
+    ensures { IfOk result (λ rows. spec.AreHeldRows conditions.now elements.now held.items store.now run rows.items) }
 {
     let known = with_known(alloc, run.rows, run.left.as_slice(), conditions)?;
     let mut left = held;
