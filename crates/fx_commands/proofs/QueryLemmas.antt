@@ -10,7 +10,7 @@ use Rattle.fx_results.specs.Documents.{document}
 use Rattle.fx_sources.specs.Registries.{read_registry}
 use Rattle.fx_sources.specs.Sources as source
 use Rattle.fx_sources.specs.declared.errors.RegistryError.TheVariants as error
-use Rattle.fx_traffic.specs.Gains.{TellAll}
+use Rattle.fx_traffic.specs.Gains.{TellAll, WiresSeen}
 use Rattle.fx_wire.specs.Exchanges.{Seen}
 use Rattle.fx_engine.specs.Mediation.{AreKnown}
 use Rattle.fx_engine.specs.declared.mediator.FedError.{FedError}
@@ -23,7 +23,7 @@ use Rattle.fx_local.specs.declared.refusals.RegistryRefusal.{RegistryRefusal}
 use Rattle.fx_local.specs.declared.refusals.RegistryRefusal.TheVariants as registry
 use Rattle.fx_local.specs.declared.statuses.Status.{Status}
 use Rattle.fx_local.specs.declared.statuses.Status.TheVariants as status
-use Rattle.fx_commands.specs.Asking.{WiresSeen, IsRefusedBefore}
+use Rattle.fx_commands.specs.Asking.{IsRefusedBefore}
 use Rattle.fx_commands.specs.FedRefusals.{IsGivenEnd, fed_line, fed_status_of}
 use Rattle.fx_local.specs.Files.{FileRead, IsRegistryFile}
 use Rattle.fx_commands.specs.MemberLines.{down_lines}

@@ -1,5 +1,6 @@
 -- What is seen of the wires of a run that asks the members of a registry, and why it ends before any is asked.
 use Rattle.std.specs.Prelude.{◌≡◌, ◌⊎◌, ℕ, Bool, List, map}
+use Rattle.fx_traffic.specs.Gains.{WiresSeen}
 use Rattle.fx_grammar.specs.declared.refusals.SyntaxKind.{SyntaxKind}
 use Rattle.fx_sources.specs.declared.errors.RegistryError.{RegistryError}
 use Rattle.fx_wire.specs.Exchanges.{Seen}
@@ -8,16 +9,6 @@ use Rattle.fx_local.specs.declared.statuses.Status.{Status}
 use Rattle.fx_local.specs.declared.statuses.Status.TheVariants as status
 use Rattle.fx_local.specs.Files.{FileRead, HasFailed, IsTooLong, IsNoQuery, IsRegistryFile, IsNoRegistry}
 use Rattle.fx_local.specs.Lines.{cannot_read, query_refused, query_too_long, registry_too_long, registry_refused, no_memory}
-
--- whether they tell their logs, whether they count each address alone, and what is seen of them before the call and after it
-pub record WiresSeen : Type 0 where
-  pub tells : Bool
-  pub alone : Bool
-  pub before : List Seen
-  pub after : List Seen
-
-abbrev pub wires_seen : {W : Type 0} → Bool → Bool → (W → Seen) → List W → List W → WiresSeen
-wires_seen tells alone seen old new = record { tells = tells; alone = alone; before = map seen old; after = map seen new }
 
 -- nothing was exchanged, and no exchange failed
 abbrev pub IsUnasked : WiresSeen → Type 0

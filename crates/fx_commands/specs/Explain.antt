@@ -9,13 +9,13 @@ use Rattle.fx_plan.specs.Explained.{explained}
 use Rattle.fx_plan.specs.declared.parts.Part.{Part}
 use Rattle.fx_sources.specs.Probes.{Entry}
 use Rattle.fx_sources.specs.Registries.{read_registry}
-use Rattle.fx_traffic.specs.Gains.{TellAll}
+use Rattle.fx_traffic.specs.Gains.{TellAll, WiresSeen}
 use Rattle.fx_wire.specs.Exchanges.{Seen}
 use Rattle.fx_engine.specs.Mediation.{Planned}
-use Rattle.fx_engine.specs.Sections.{parts_with}
+use Rattle.fx_walks.specs.Sections.{parts_with}
 use Rattle.fx_engine.specs.declared.mediator.FedError.{FedError}
 use Rattle.fx_local.specs.declared.statuses.Status.{Status}
-use Rattle.fx_commands.specs.Asking.{WiresSeen, IsUnasked, IsRefusedBefore}
+use Rattle.fx_commands.specs.Asking.{IsUnasked, IsRefusedBefore}
 use Rattle.fx_commands.specs.FedRefusals.{IsEnd}
 use Rattle.fx_local.specs.Files.{FileRead, IsQueryOf, IsRegistryOf}
 use Rattle.fx_local.specs.Sinks.{Wrote}

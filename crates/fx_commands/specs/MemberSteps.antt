@@ -10,7 +10,8 @@ use Rattle.fx_engine.specs.declared.mediator.FedError.TheVariants as fed
 use Rattle.fx_engine.specs.declared.mediator.Outcome.{Outcome}
 use Rattle.fx_local.specs.declared.statuses.Status.{Status}
 use Rattle.fx_local.specs.declared.statuses.Status.TheVariants as status
-use Rattle.fx_commands.specs.Asking.{WiresSeen, IsUnasked}
+use Rattle.fx_commands.specs.Asking.{IsUnasked}
+use Rattle.fx_traffic.specs.Gains.{WiresSeen}
 use Rattle.fx_commands.specs.FedRefusals.{IsEnd}
 use Rattle.fx_local.specs.Lines.{no_memory}
 use Rattle.fx_commands.specs.MemberLines.{down_lines}

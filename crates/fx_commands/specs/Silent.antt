@@ -3,7 +3,7 @@ use Rattle.std.specs.Prelude.{◌≡◌, ◌≤◌, ◌+◌, ℕ, suc, List, [],
 use Rattle.fx_terms.specs.declared.triples.Triple.{Triple}
 use Rattle.fx_outside.specs.Endpoints.{EndpointParts}
 use Rattle.fx_algebra.specs.declared.queries.Query.{Query}
-use Rattle.fx_traffic.specs.Gains.{HaveGained, TellAll, faults_at}
+use Rattle.fx_traffic.specs.Gains.{HaveGained, TellAll, WiresSeen, faults_at}
 use Rattle.fx_traffic.specs.Sent.{Sent}
 use Rattle.fx_traffic.specs.Traffic.{IsTraffic}
 use Rattle.fx_wire.specs.Exchanges.{Exchange}
@@ -11,10 +11,9 @@ use Rattle.fx_engine.specs.Calls.{AreCalls, Call, HasFirstRefused, IsPassed, dow
 use Rattle.fx_services.specs.Beside.{Occurrence}
 use Rattle.fx_services.specs.Noted.{places}
 use Rattle.fx_engine.specs.Mediation.{Serve}
-use Rattle.fx_engine.specs.Unknown.{is_registered}
+use Rattle.fx_walks.specs.Unknown.{is_registered}
 use Rattle.fx_services.specs.declared.noted.Down.{Down}
 use Rattle.fx_services.specs.declared.noted.DownCause.TheVariants as cause
-use Rattle.fx_commands.specs.Asking.{WiresSeen}
 
 -- the numbers of occurrences that name no endpoint, from a number on
 abbrev pub unregistered : List EndpointParts → ℕ → List Occurrence → List ℕ

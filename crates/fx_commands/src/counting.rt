@@ -1,7 +1,6 @@
 //! The rows of a fixed query, counted over members.
 ghost use Rattle.std.specs.Prelude.{◌≡◌, ◌<◌, ◌≤◌, IfErr, IfOk, length, map};
-ghost use Rattle.fx_traffic.specs.Gains.{AreAfter};
-ghost use Rattle.fx_commands.specs.Asking.{wires_seen};
+ghost use Rattle.fx_traffic.specs.Gains.{AreAfter, wires_seen};
 ghost use Rattle.fx_commands.specs.Counting.{IsOfMember, IsRowCount, WasCounted, generated_members, generated_query};
 ghost use Rattle.fx_commands.specs.Counting as spec;
 ghost use Rattle.fx_commands.specs.MemberSteps.{IsAnswered};

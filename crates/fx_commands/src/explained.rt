@@ -3,8 +3,7 @@ ghost use Rattle.std.specs.Prelude.{◌≡◌, ◌<◌, ◌≤◌, [], All, IfOk
 ghost use Rattle.fx_grammar.specs.Accepted.{IsSpellable};
 ghost use Rattle.fx_engine.specs.Mediation.{parts_in};
 ghost use Rattle.fx_plan.specs.Explained.{HasMembers, explained};
-ghost use Rattle.fx_traffic.specs.Gains.{AreAfter, faults_at};
-ghost use Rattle.fx_commands.specs.Asking.{wires_seen};
+ghost use Rattle.fx_traffic.specs.Gains.{AreAfter, faults_at, wires_seen};
 ghost use Rattle.fx_local.specs.Counts.{CountsOnly};
 ghost use Rattle.fx_commands.specs.Explain.{IsExplainReported, IsExplainWritten, IsPlanText};
 ghost use Rattle.fx_commands.specs.FedRefusals.{IsGivenEnd};

@@ -2,8 +2,7 @@
 ghost use Rattle.std.specs.Prelude.{◌≡◌, ◌<◌, ◌≤◌, ◌++◌, IfOk, IsTrue, List, OnOk, ℕ, length, map};
 ghost use Rattle.fx_grammar.specs.Accepted.{IsSpellable};
 ghost use Rattle.fx_results.specs.Documents.{document};
-ghost use Rattle.fx_traffic.specs.Gains.{AreAfter};
-ghost use Rattle.fx_commands.specs.Asking.{wires_seen};
+ghost use Rattle.fx_traffic.specs.Gains.{AreAfter, wires_seen};
 ghost use Rattle.fx_local.specs.Counts.{CountsOnly};
 ghost use Rattle.fx_commands.specs.FedRefusals.{IsGivenEnd};
 ghost use Rattle.fx_local.specs.Files.{file_read};

@@ -12,15 +12,15 @@ use Rattle.fx_flows.specs.declared.flows.FlowError.TheVariants as flow
 use Rattle.fx_traffic.specs.Sent.{Sent}
 use Rattle.fx_wire.specs.Exchanges.{Seen}
 use Rattle.fx_engine.specs.Asked.{Asked}
-use Rattle.fx_engine.specs.GroupsAsked.{AlternativesDue, AlternativesGiven, GroupDue, GroupGiven, IsNext, all_planned, seeds_in, stations_in}
-use Rattle.fx_services.specs.Served.{Served, group_in}
-use Rattle.fx_engine.specs.RunsSent.{AreRunsSent}
-use Rattle.fx_engine.specs.declared.tasks.RowsError.{RowsError}
-use Rattle.fx_engine.specs.declared.tasks.RowsError.TheVariants as rows_error
-use Rattle.fx_engine.specs.declared.tasks.Task.{Task}
+use Rattle.fx_walks.specs.GroupsAsked.{AlternativesDue, AlternativesGiven, GroupDue, GroupGiven, IsNext, all_planned, seeds_in, stations_in}
+use Rattle.fx_walks.specs.Served.{Served, group_in}
+use Rattle.fx_walks.specs.RunsSent.{AreRunsSent}
+use Rattle.fx_engine.specs.declared.rows.RowsError.{RowsError}
+use Rattle.fx_engine.specs.declared.rows.RowsError.TheVariants as rows_error
+use Rattle.fx_walks.specs.declared.tasks.Task.{Task}
 use Rattle.fx_engine.proofs.AskedLemmas.{AllTell, asked_behind, given_as, given_unasked, lost_behind, refused_as}
-use Rattle.fx_engine.proofs.EvenLemmas.{groups_are_even}
-use Rattle.fx_engine.proofs.StationLemmas.{next_first, next_others, no_run_sent, sent_behind}
+use Rattle.fx_walks.proofs.EvenLemmas.{groups_are_even}
+use Rattle.fx_walks.proofs.StationLemmas.{next_first, next_others, no_run_sent, sent_behind}
 
 -- ---- the groups so far
 

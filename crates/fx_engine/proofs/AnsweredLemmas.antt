@@ -18,16 +18,16 @@ use Rattle.fx_solutions.proofs.AnswerLemmas.{one_answer_holds}
 use Rattle.fx_traffic.specs.Sent.{Sent}
 use Rattle.fx_wire.specs.Exchanges.{Seen}
 use Rattle.fx_flows.specs.declared.flows.FlowError.TheVariants as flow
-use Rattle.fx_engine.specs.AnswersAsked.{AnswerDue, AnswerGiven, IsFromRows}
+use Rattle.fx_walks.specs.AnswersAsked.{AnswerDue, AnswerGiven, IsFromRows}
 use Rattle.fx_engine.specs.Asked.{Asked}
-use Rattle.fx_engine.specs.GroupsAsked.{GroupDue, GroupGiven, HasRows, IsNext, all_planned, seeds_in, stations_in}
-use Rattle.fx_services.specs.Served.{Served, group_in}
-use Rattle.fx_engine.specs.RunsSent.{AreRunsSent}
-use Rattle.fx_engine.specs.declared.tasks.RowsError.{RowsError}
-use Rattle.fx_engine.specs.declared.tasks.RowsError.TheVariants as rows_error
-use Rattle.fx_engine.specs.declared.tasks.Task.{Task}
+use Rattle.fx_walks.specs.GroupsAsked.{GroupDue, GroupGiven, HasRows, IsNext, all_planned, seeds_in, stations_in}
+use Rattle.fx_walks.specs.Served.{Served, group_in}
+use Rattle.fx_walks.specs.RunsSent.{AreRunsSent}
+use Rattle.fx_engine.specs.declared.rows.RowsError.{RowsError}
+use Rattle.fx_engine.specs.declared.rows.RowsError.TheVariants as rows_error
+use Rattle.fx_walks.specs.declared.tasks.Task.{Task}
 use Rattle.fx_engine.proofs.AskedLemmas.{given_as, lost_behind}
-use Rattle.fx_engine.proofs.StationLemmas.{no_run_sent}
+use Rattle.fx_walks.proofs.StationLemmas.{no_run_sent}
 use Rattle.fx_engine.proofs.TaskLemmas.{AreAtHand}
 
 -- ---- from rows

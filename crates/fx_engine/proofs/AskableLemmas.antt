@@ -23,14 +23,14 @@ use Rattle.fx_sources.specs.Probes.{Entry, chosen, is_yes, known, members_of}
 use Rattle.fx_plan.specs.Plans.{plan}
 use Rattle.fx_plan.specs.declared.parts.Part.{Part}
 use Rattle.fx_traffic.proofs.PlannedLemmas.{planned_laws}
-use Rattle.fx_engine.specs.GroupsAsked.{CanBeAsked}
-use Rattle.fx_engine.specs.Sections.{part_with, parts_by, section_of, sections}
-use Rattle.fx_engine.specs.Tasks.{tasks_with}
-use Rattle.fx_engine.specs.declared.tasks.Task.TheVariants as task
-use Rattle.fx_engine.proofs.PartLemmas.{by_function}
-use Rattle.fx_engine.proofs.SectionLemmas.{runs_have}
+use Rattle.fx_engine.specs.RowsAsked.{CanBeAsked}
+use Rattle.fx_walks.specs.Sections.{part_with, parts_by, section_of, sections}
+use Rattle.fx_walks.specs.Tasks.{tasks_with}
+use Rattle.fx_walks.specs.declared.tasks.Task.TheVariants as task
+use Rattle.fx_walks.proofs.PartLemmas.{by_function}
+use Rattle.fx_walks.proofs.SectionLemmas.{runs_have}
 use Rattle.fx_engine.proofs.TaskLemmas.{run_in_front}
-use Rattle.fx_engine.proofs.UnitLemmas.{range_rises}
+use Rattle.fx_walks.proofs.UnitLemmas.{range_rises}
 
 -- parts by what is known of each member and key
 pub by_members : (q : Query) (members : ℕ) (entries : List Entry) → parts_by (sections q) (chosen q members entries) ≡ map (part_with (λ p. members_of entries members (key_of p))) (sections q)

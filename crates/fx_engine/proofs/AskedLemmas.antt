@@ -12,7 +12,7 @@ use Rattle.fx_algebra.specs.declared.units.Unit as unit
 use Rattle.fx_algebra.proofs.MemberLemmas.{among_right}
 use Rattle.fx_bound.specs.Parts.{Parts}
 use Rattle.fx_traffic.specs.Batches.{IsBatchText}
-use Rattle.fx_traffic.specs.Gains.{AreAfter, Tell, faults_at}
+use Rattle.fx_traffic.specs.Gains.{AreAfter, IsMemberIn, Tell, faults_at}
 use Rattle.fx_traffic.specs.Sent.{Sent}
 use Rattle.fx_traffic.proofs.GainLemmas.{gain_laws}
 use Rattle.fx_traffic.proofs.SentLemmas.{sent_laws}
@@ -24,12 +24,13 @@ use Rattle.fx_flows.specs.declared.flows.FlowError.TheVariants as flow
 use Rattle.fx_services.proofs.WentLemmas.{went_nowhere}
 use Rattle.fx_engine.specs.Asked.{Asked, HasRowsCause, IfGiven, IfRefused, Knows}
 use Rattle.fx_services.specs.Went.{Went}
-use Rattle.fx_engine.specs.GroupsAsked.{solutions_in, units_in}
-use Rattle.fx_engine.specs.declared.tasks.RowsError.{RowsError}
-use Rattle.fx_engine.specs.declared.tasks.RowsError.TheVariants as rows_error
-use Rattle.fx_engine.specs.declared.tasks.Task.{Task}
+use Rattle.fx_walks.specs.GroupsAsked.{units_in}
+use Rattle.fx_engine.specs.RowsAsked.{solutions_in}
+use Rattle.fx_engine.specs.declared.rows.RowsError.{RowsError}
+use Rattle.fx_engine.specs.declared.rows.RowsError.TheVariants as rows_error
+use Rattle.fx_walks.specs.declared.tasks.Task.{Task}
 use Rattle.fx_pool.proofs.WiresLemmas.{all_after, gained_both, still_tell}
-pub use Rattle.fx_pool.proofs.WiresLemmas.{AllTell, all_tell, still_tell_all}
+pub use Rattle.fx_pool.proofs.WiresLemmas.{AllTell, all_tell, still_tell_of}
 
 -- ---- what was exchanged
 
@@ -231,7 +232,7 @@ module _ (tells alone : Bool) (endpoints : List EndpointParts) (tasks : List Tas
           sent = sent_laws.any_order (h.wanted ++ k.wanted) (h.left ++ k.left) (h.exchanges ++ k.exchanges) both.all both.same (sent_laws.together h.wanted h.left k.wanted k.left h.exchanges k.exchanges h.sent k.sent);
           of_batches = All-append (IsBatchText endpoints block (Contains (units_in tasks))) h.wanted k.wanted h.of_batches k.of_batches;
           faultless = faultless both.all both.same r k.faultless;
-          known = λ graphs told. known r graphs (h.known graphs told) (k.known graphs (still_tell_all before between none.after_all endpoints graphs told));
+          known = λ graphs told. known r graphs (h.known graphs told) (k.known graphs (still_tell_of before between none.after_all endpoints graphs (IsMemberIn (units_in tasks)) told));
           cause = cause both.all both.same r k.cause;
         }
       where

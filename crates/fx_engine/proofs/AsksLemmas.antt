@@ -1,7 +1,7 @@
--- What asking for probes leaves of wires: some at once, and some after the other.
-use Rattle.std.proofs.Common.{◌≡◌, ◌∙◌, ap, sym, subst, refl, ℕ, ◌+◌, ◌<◌, ◌≤◌, Bool, List, [], ◌∷◌, ◌++◌, map, Some, None, IfOk, IfErr, Result, Ok, Err, All, Contains, IsPermutation, length, length-append, slice_get, take, drop, take-append-drop, arith, append-nil, append_assoc}
+-- What asking for probes leaves of wires: all of them at once, or in pieces.
+use Rattle.std.proofs.Common.{◌≡◌, ◌∙◌, ap, sym, subst, refl, ℕ, ◌+◌, ◌<◌, ◌≤◌, Bool, List, [], ◌∷◌, ◌++◌, map, Some, None, IfOk, IfErr, Result, Ok, Err, All, Contains, IsPermutation, Option, length, slice_get, take, drop, take-append-drop, arith, append-nil, append_assoc}
 use Rattle.std.specs.List.{AllByRecursion, zip}
-use Rattle.std.proofs.lemmas.List.{length-map}
+use Rattle.std.proofs.lemmas.List.{length-map, map-append}
 use Rattle.std.proofs.lemmas.List.Elements.{All-append, All-contains, All-from_recursion, All-weaker, recursion_from_All, Contains-append_left, Contains-append_right}
 use Rattle.std.proofs.lemmas.List.Sorted.{All-permutation, Contains-permutation, IsPermutation-append, IsPermutation-append_left, IsPermutation-refl, IsPermutation-trans}
 use Rattle.fx_terms.specs.declared.triples.Triple.{Triple}
@@ -23,6 +23,9 @@ use Rattle.fx_flows.specs.declared.flows.FlowError.TheVariants as flow
 use Rattle.fx_pool.specs.declared.jobs.JobReply.{JobReply}
 use Rattle.fx_pool.specs.declared.jobs.JobReply.TheVariants as reply
 use Rattle.fx_pool.proofs.WireLemmas.{after_itself}
+use Rattle.fx_services.proofs.InTurnLemmas.{did_in_turn, did_in_vain}
+use Rattle.fx_pool.proofs.RunLemmas.{behind}
+use Rattle.fx_pool.specs.declared.jobs.Job.{Job}
 use Rattle.fx_engine.specs.AskSteps.{AreTruthsOf, IsRefusal, IsRefused, job_of}
 use Rattle.fx_engine.specs.Asks.{AskedAll, HasFailedAsk, HasProbeCause, IsAnsweredBy, IsAskCause, IsAskRead, IsProbeCause}
 use Rattle.fx_pool.proofs.WiresLemmas.{AllTell, all_after, gained_both, still_tell, still_tell_all}
@@ -211,147 +214,11 @@ module _ (tells alone : Bool) (es : List EndpointParts) where
         failed_in (Err (flow.RequestTooLong at size)) are = tt
         failed_in (Err flow.Memory) are = tt
 
-  -- ---- a cause is one of more that was asked for, too
+  -- ---- in pieces
 
-  module _ (s t u : List Seen) (after : AreAfter s t) (ps more : List Probe) (of : (p : Probe) → Contains ps p → Contains more p) (xs all : List Exchange) (among : AllAmong xs all) where
-    ask_cause : (e : EndpointParts) (p : Probe) (why : FlowError) → IsAskCause (faults_at t e.iri < faults_at u e.iri) (Tell t e.iri) e p xs why → IsAskCause (faults_at s e.iri < faults_at u e.iri) (Tell s e.iri) e p all why
-    ask_cause e p (flow.Member at) k =
-        let low : faults_at s e.iri ≤ faults_at t e.iri = gain_laws.never_fall s t e.iri after in
-        let rose : faults_at t e.iri < faults_at u e.iri = k in
-        omega (arith, low, rose)
-    ask_cause e p (flow.BadReply at bad) k = record {
-      of_kind = k.of_kind;
-      posts = k.posts;
-      exchanged_so = among _ k.exchanged_so;
-      fault = k.fault;
-      long = λ g told. k.long g (still_tell s t e.iri g after told);
-    }
-    ask_cause e p (flow.RequestTooLong at size) k = k
-    ask_cause e p flow.Memory k = tt
-
-    probe_cause : (why : FlowError) → IsProbeCause t u es ps xs why → IsProbeCause s u es more all why
-    probe_cause why k = record { probe = k.probe; among = of k.probe k.among; endpoint = k.endpoint; found = k.found; named = k.named; cause = ask_cause k.endpoint k.probe why k.cause }
-
-    pub cause_behind : (why : FlowError) → HasProbeCause t u es ps xs why → HasProbeCause s u es more all why
-    cause_behind (flow.Member at) k = probe_cause (flow.Member at) k
-    cause_behind (flow.BadReply at bad) k = probe_cause (flow.BadReply at bad) k
-    cause_behind (flow.RequestTooLong at size) k = probe_cause (flow.RequestTooLong at size) k
-    cause_behind flow.Memory k = tt
-
-  -- an ASK that failed is left of more that was wanted
-  failed_behind : (s t u : List Seen) → AreAfter s t → (ps more : List Probe) → ((p : Probe) → Contains ps p → Contains more p) → (left all : List Sent) → ((x : Sent) → Contains left x → Contains all x)
-      → (why : FlowError) → HasFailedAsk t u es ps left why → HasFailedAsk s u es more all why
-  failed_behind s t u after ps more of left all among (flow.Member at) k =
-      let low : faults_at s k.0.iri ≤ faults_at t k.0.iri = gain_laws.never_fall s t k.0.iri after in
-      let rose : faults_at t k.0.iri < faults_at u k.0.iri = k.2 in
-      (k.0, k.1, omega (arith, low, rose), record { probe = k.3.probe; among = of k.3.probe k.3.among; found = k.3.found; unsent = among _ k.3.unsent })
-  failed_behind s t u after ps more of left all among (flow.BadReply at bad) k = tt
-  failed_behind s t u after ps more of left all among (flow.RequestTooLong at size) k = tt
-  failed_behind s t u after ps more of left all among flow.Memory k = tt
-
-  -- ---- some after the other
-
-  asks_read : (ps more : List Probe) → ((p : Probe) → Contains ps p → Contains more p) → (xs : List Exchange) → All (IsAskRead ps) xs → All (IsAskRead more) xs
-  asks_read ps more of xs h = All-weaker (IsAskRead ps) (IsAskRead more) (λ x r. record { probe = r.probe; among = of r.probe r.among; posts = r.posts; truth = r.truth; tells = r.tells }) xs h
-
-  asks_both : (ps qs : List Probe) (ws vs : List Sent) → AreAsksSent es ps ws → AreAsksSent es qs vs → AreAsksSent es (ps ++ qs) (ws ++ vs)
-  asks_both [] qs ws vs h k = subst (λ (v : List Sent). AreAsksSent es qs (v ++ vs)) (sym h) k
-  asks_both (p ∷ ps) qs [] vs h k = absurd h
-  asks_both (p ∷ ps) qs (w ∷ ws) vs h k = (h.0, asks_both ps qs ws vs h.1 k)
-
-  zip_both : (ps qs : List Probe) (ts us : List Bool) → length ts ≡ length ps → zip (ps ++ qs) (ts ++ us) ≡ zip ps ts ++ zip qs us
-  zip_both [] qs [] us h = refl
-  zip_both [] qs (t ∷ ts) us h = absurd (omega (arith, h))
-  zip_both (p ∷ ps) qs [] us h = absurd (omega (arith, h))
-  zip_both (p ∷ ps) qs (t ∷ ts) us h = ap (λ (v : List (Probe × Bool)). (p, t) ∷ v) (zip_both ps qs ts us (omega (arith, h)))
-
-  answered_among : (xs all : List Exchange) → AllAmong xs all → (pairs : List (Probe × Bool)) → AllByRecursion (IsAnsweredBy es xs) pairs → AllByRecursion (IsAnsweredBy es all) pairs
-  answered_among xs all among [] h = tt
-  answered_among xs all among (pair ∷ pairs) h =
-      (record { exchange = h.0.exchange; among = among h.0.exchange h.0.among; found = h.0.found; posts = h.0.posts; told = h.0.told }, answered_among xs all among pairs h.1)
-
-  -- truths of both, where the second have any
-  abbrev pub behind : List Bool → Result (List Bool) FlowError → Result (List Bool) FlowError
-  behind truths (Ok more) = Ok (truths ++ more)
-  behind truths (Err e) = Err e
-
-  module _ (s t u : List Seen) (a : AllTell tells s) (b : AllTell tells t) (ps qs : List Probe) (truths : List Bool) (h : AskedAll tells alone s t es ps (Ok truths)) where
-    pub asked_behind : (r : Result (List Bool) FlowError) → AskedAll tells alone t u es qs r → AskedAll tells alone s u es (ps ++ qs) (behind truths r)
-    asked_behind r k =
-        let both = gained_both tells s t u h.exchanges k.exchanges h.gained k.gained in
-        let front : AllAmong h.exchanges both.all = λ x m. Contains-permutation (h.exchanges ++ k.exchanges) both.all x both.same (Contains-append_left h.exchanges k.exchanges x m) in
-        let back : AllAmong k.exchanges both.all = λ x m. Contains-permutation (h.exchanges ++ k.exchanges) both.all x both.same (Contains-append_right h.exchanges k.exchanges x m) in
-        record {
-          exchanges = both.all;
-          gained = both.gained;
-          after_all = all_after tells s t u a b h.after_all k.after_all;
-          quiet = λ is. quiet r (h.quiet is) (k.quiet is);
-          asked = h.asked ++ k.asked;
-          unasked = h.unasked ++ k.unasked;
-          split =
-              IsPermutation-trans ((h.asked ++ k.asked) ++ (h.unasked ++ k.unasked)) ((h.asked ++ h.unasked) ++ (k.asked ++ k.unasked)) (ps ++ qs) (middle_changes h.asked k.asked h.unasked k.unasked)
-              (IsPermutation-append (h.asked ++ h.unasked) ps (k.asked ++ k.unasked) qs h.split k.split);
-          wanted = h.wanted ++ k.wanted;
-          left = h.left ++ k.left;
-          texts = asks_both h.asked k.asked h.wanted k.wanted h.texts k.texts;
-          sent = sent_laws.any_order (h.wanted ++ k.wanted) (h.left ++ k.left) (h.exchanges ++ k.exchanges) both.all both.same (sent_laws.together h.wanted h.left k.wanted k.left h.exchanges k.exchanges h.sent k.sent);
-          many = many r k.many;
-          faultless = faultless both.all both.same r k.faultless;
-          answered = answered both.all front k.exchanges back r k.answered;
-          told = told r k.told;
-          cause = cause_of both.all k.exchanges back r k.cause;
-          failed = failed r k.failed;
-        }
-      where
-        quiet : (o : Result (List Bool) FlowError) → ((address : List ℕ) → faults_at t address ≡ faults_at s address) → IfOk o (λ _. (address : List ℕ) → faults_at u address ≡ faults_at t address)
-            → IfOk (behind truths o) (λ _. (address : List ℕ) → faults_at u address ≡ faults_at s address)
-        quiet (Ok more) f g = λ address. g address ∙ f address
-        quiet (Err e) f g = tt
-
-        many : (o : Result (List Bool) FlowError) → IfOk o (λ more. length more ≡ length qs) → IfOk (behind truths o) (λ all. length all ≡ length (ps ++ qs))
-        many (Ok more) g =
-            let first : length truths ≡ length ps = h.many in
-            let second : length more ≡ length qs = g in
-            let one : length (truths ++ more) ≡ length truths + length more = length-append truths more in
-            let two : length (ps ++ qs) ≡ length ps + length qs = length-append ps qs in
-            omega (arith, first, second, one, two)
-        many (Err e) g = tt
-
-        faultless : (all : List Exchange) → IsPermutation (h.exchanges ++ k.exchanges) all → (o : Result (List Bool) FlowError) → IfOk o (λ _. All (IsAskRead qs) k.exchanges) → IfOk (behind truths o) (λ _. All (IsAskRead (ps ++ qs)) all)
-        faultless all same (Ok more) g =
-            All-permutation (IsAskRead (ps ++ qs)) (h.exchanges ++ k.exchanges) all same
-            (All-append (IsAskRead (ps ++ qs)) h.exchanges k.exchanges (asks_read ps (ps ++ qs) (λ p m. Contains-append_left ps qs p m) h.exchanges h.faultless) (asks_read qs (ps ++ qs) (λ p m. Contains-append_right ps qs p m) k.exchanges g))
-        faultless all same (Err e) g = tt
-
-        zipped : (P : Probe × Bool → Type 0) (more : List Bool) → All P (zip ps truths) → All P (zip qs more) → All P (zip (ps ++ qs) (truths ++ more))
-        zipped P more f g = subst (All P) (sym (zip_both ps qs truths more h.many)) (All-append P (zip ps truths) (zip qs more) f g)
-
-        of_all : (all xs : List Exchange) → AllAmong xs all → (pairs : List (Probe × Bool)) → All (IsAnsweredBy es xs) pairs → All (IsAnsweredBy es all) pairs
-        of_all all xs among pairs f = All-from_recursion (IsAnsweredBy es all) pairs (answered_among xs all among pairs (recursion_from_All (IsAnsweredBy es xs) pairs f))
-
-        answered : (all : List Exchange) → AllAmong h.exchanges all → (xs : List Exchange) → AllAmong xs all → (o : Result (List Bool) FlowError) → IfOk o (λ more. All (IsAnsweredBy es xs) (zip qs more))
-            → IfOk (behind truths o) (λ both. All (IsAnsweredBy es all) (zip (ps ++ qs) both))
-        answered all front xs back (Ok more) g = zipped (IsAnsweredBy es all) more (of_all all h.exchanges front (zip ps truths) h.answered) (of_all all xs back (zip qs more) g)
-        answered all front xs back (Err e) g = tt
-
-        told : (o : Result (List Bool) FlowError) → IfOk o (λ more. (graphs : List (List Triple)) → TellAll t es graphs → All (source.Tells graphs) (zip qs more))
-            → IfOk (behind truths o) (λ both. (graphs : List (List Triple)) → TellAll s es graphs → All (source.Tells graphs) (zip (ps ++ qs) both))
-        told (Ok more) g = λ graphs tells_all. zipped (source.Tells graphs) more (h.told graphs tells_all) (g graphs (still_tell_all s t h.after_all es graphs tells_all))
-        told (Err e) g = tt
-
-        cause_of : (all xs : List Exchange) → AllAmong xs all → (o : Result (List Bool) FlowError) → IfErr o (HasProbeCause t u es qs xs) → IfErr (behind truths o) (HasProbeCause s u es (ps ++ qs) all)
-        cause_of all xs back (Ok more) g = tt
-        cause_of all xs back (Err e) g = cause_behind s t u h.after_all qs (ps ++ qs) (λ p m. Contains-append_right ps qs p m) xs all back e g
-
-        failed : (o : Result (List Bool) FlowError) → IfErr o (HasFailedAsk t u es qs k.left) → IfErr (behind truths o) (HasFailedAsk s u es (ps ++ qs) (h.left ++ k.left))
-        failed (Ok more) g = tt
-        failed (Err e) g = failed_behind s t u h.after_all qs (ps ++ qs) (λ p m. Contains-append_right ps qs p m) k.left (h.left ++ k.left) (λ x m. Contains-append_right h.left k.left x m) e g
-
-  -- ---- the turns of a loop
-
-  -- a refusal leaves the rest
-  rest_left : (s t : List Seen) (ps rest : List Probe) (e : FlowError) → AskedAll tells alone s t es ps (Err e) → AskedAll tells alone s t es (ps ++ rest) (Err e)
-  rest_left s t ps rest e h = record {
+  -- memory lacked for some of them, and the others weren't asked for
+  rest_left : (s t : List Seen) (ps rest : List Probe) → AskedAll tells alone s t es ps (Err flow.Memory) → AskedAll tells alone s t es (ps ++ rest) (Err flow.Memory)
+  rest_left s t ps rest h = record {
     exchanges = h.exchanges;
     gained = h.gained;
     after_all = h.after_all;
@@ -367,42 +234,28 @@ module _ (tells alone : Bool) (es : List EndpointParts) where
     faultless = tt;
     answered = tt;
     told = tt;
-    cause = cause_behind s s t (after_itself s) ps (ps ++ rest) (λ p m. Contains-append_left ps rest p m) h.exchanges h.exchanges (λ x m. m) e h.cause;
-    failed = failed_behind s s t (after_itself s) ps (ps ++ rest) (λ p m. Contains-append_left ps rest p m) h.left h.left (λ x m. m) e h.failed;
-  }
-
-  -- the truths are lost
-  truths_lost : (s t : List Seen) (ps : List Probe) (truths : List Bool) → AskedAll tells alone s t es ps (Ok truths) → AskedAll tells alone s t es ps (Err flow.Memory)
-  truths_lost s t ps truths h = record {
-    exchanges = h.exchanges;
-    gained = h.gained;
-    after_all = h.after_all;
-    quiet = λ is. tt;
-    asked = h.asked;
-    unasked = h.unasked;
-    split = h.split;
-    wanted = h.wanted;
-    left = h.left;
-    texts = h.texts;
-    sent = h.sent;
-    many = tt;
-    faultless = tt;
-    answered = tt;
-    told = tt;
     cause = tt;
     failed = tt;
   }
 
-  module _ (s t u : List Seen) (a : AllTell tells s) (b : AllTell tells t) (probes : List Probe) (k m : ℕ) (some : List Probe) (front : take m probes ≡ take k probes ++ some) (truths : List Bool) (h : AskedAll tells alone s t es (take k probes) (Ok truths)) where
-    pub some_more : (more : List Bool) → AskedAll tells alone t u es some (Ok more) → AskedAll tells alone s u es (take m probes) (Ok (truths ++ more))
-    some_more more d = subst (λ (v : List Probe). AskedAll tells alone s u es v (Ok (truths ++ more))) (sym front) (asked_behind s t u a b (take k probes) some truths h (Ok more) d)
+  -- the jobs of the first so many probes, of which the last are a piece
+  abbrev pub Begun : List Seen → List Seen → List Probe → ℕ → Option (List JobReply) → Type 0
+  Begun s t probes k replies = WiresDid tells alone s t es (map job_of (take k probes)) replies
 
-    -- the call ends at some that aren't answered
-    pub stopped : (e : FlowError) → AskedAll tells alone t u es some (Err e) → AskedAll tells alone s u es probes (Err e)
-    stopped e d =
-        subst (λ (v : List Probe). AskedAll tells alone s u es v (Err e)) (take-append-drop m probes)
-        (rest_left s u (take m probes) (drop m probes) e (subst (λ (v : List Probe). AskedAll tells alone s u es v (Err e)) (sym front) (asked_behind s t u a b (take k probes) some truths h (Err e) d)))
+  module _ (s t u : List Seen) (a : AllTell tells s) (b : AllTell tells t) (probes : List Probe) (k m : ℕ) (piece : List Probe) (front : take m probes ≡ take k probes ++ piece) (rs : List JobReply) (h : Begun s t probes k (Some rs)) where
+    in_turn : (o : Option (List JobReply)) → WiresDid tells alone t u es (map job_of piece) o → Begun s u probes m (behind rs o)
+    in_turn o d =
+        subst (λ (v : List Job). WiresDid tells alone s u es v (behind rs o)) (sym (map-append job_of (take k probes) piece) ∙ ap (map job_of) (sym front))
+        (did_in_turn tells alone es s t u a b (map job_of (take k probes)) (map job_of piece) rs h o d)
 
-    -- or behind some that are
-    pub lost : (more : List Bool) → AskedAll tells alone t u es some (Ok more) → AskedAll tells alone s u es probes (Err flow.Memory)
-    lost more d = stopped flow.Memory (truths_lost t u some more d)
+    pub some_more : (more : List JobReply) → WiresDid tells alone t u es (map job_of piece) (Some more) → Begun s u probes m (Some (rs ++ more))
+    some_more more d = in_turn (Some more) d
+
+    -- memory lacked for a piece, or behind it
+    pub lost_in : WiresDid tells alone t u es (map job_of piece) None → AskedAll tells alone s u es probes (Err flow.Memory)
+    lost_in d =
+        subst (λ (v : List Probe). AskedAll tells alone s u es v (Err flow.Memory)) (take-append-drop m probes)
+        (rest_left s u (take m probes) (drop m probes) (asked_in_vain s u (take m probes) (in_turn None d)))
+
+    pub lost_behind : (more : List JobReply) → WiresDid tells alone t u es (map job_of piece) (Some more) → AskedAll tells alone s u es probes (Err flow.Memory)
+    lost_behind more d = lost_in (did_in_vain tells alone es t u (map job_of piece) more d)

@@ -18,20 +18,21 @@ use Rattle.fx_steps.specs.Steps.{solutions_of}
 use Rattle.fx_steps.proofs.FewerLemmas.{fewer_laws}
 use Rattle.fx_traffic.specs.Sent.{Sent}
 use Rattle.fx_wire.specs.Exchanges.{Seen}
-use Rattle.fx_services.specs.Served.{Served, group_in}
+use Rattle.fx_walks.specs.Served.{Served, group_in}
 use Rattle.fx_engine.specs.Asked.{Asked}
-use Rattle.fx_engine.specs.GroupsAsked.{AlternativesDue, AlternativesGiven, ElementDue, ElementGiven, EndGiven, GroupDue, GroupGiven, IsNext, run_joined, seeds_in, solutions_in, stations_in}
-use Rattle.fx_engine.specs.RunsSent.{AreRunsSent}
-use Rattle.fx_engine.specs.SectionSteps.{part_of}
+use Rattle.fx_walks.specs.GroupsAsked.{AlternativesDue, AlternativesGiven, ElementDue, ElementGiven, EndGiven, GroupDue, GroupGiven, IsNext, run_joined, seeds_in, stations_in}
+use Rattle.fx_engine.specs.RowsAsked.{solutions_in}
+use Rattle.fx_walks.proofs.FrontLemmas.{behind_next}
+use Rattle.fx_walks.specs.RunsSent.{AreRunsSent}
+use Rattle.fx_walks.specs.SectionSteps.{part_of}
 use Rattle.fx_engine.specs.Together.{AreOneRuns, AreParted, BothDue, BothGiven, TasksDue, TasksGiven, both_in, rows_of_runs}
-use Rattle.fx_engine.specs.declared.tasks.RowsError.{RowsError}
-use Rattle.fx_engine.specs.declared.tasks.RowsError.TheVariants as rows_error
-use Rattle.fx_engine.specs.declared.tasks.Task.{Task}
+use Rattle.fx_engine.specs.declared.rows.RowsError.{RowsError}
+use Rattle.fx_engine.specs.declared.rows.RowsError.TheVariants as rows_error
+use Rattle.fx_walks.specs.declared.tasks.Task.{Task}
 use Rattle.fx_engine.proofs.AnsweredLemmas.{alone_served}
 use Rattle.fx_engine.proofs.AskedLemmas.{given_as, lost_behind, made_of, refused_as}
-use Rattle.fx_engine.proofs.ElementLemmas.{due_minus, due_union, of_minus, of_union, part_minus, part_union}
-use Rattle.fx_engine.proofs.PlaceLemmas.{due_of_both, of_operator}
-use Rattle.fx_engine.proofs.RunAskedLemmas.{behind_next}
+use Rattle.fx_walks.proofs.ElementLemmas.{due_minus, due_union, of_minus, of_union, part_minus, part_union}
+use Rattle.fx_walks.proofs.PlaceLemmas.{due_of_both, of_operator}
 use Rattle.fx_engine.proofs.TogetherLemmas.{alternatives_due, alternatives_given, due_of_given, first_due, first_given, ones_are}
 
 -- ---- rows in another order

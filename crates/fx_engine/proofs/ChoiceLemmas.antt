@@ -23,11 +23,11 @@ use Rattle.fx_pool.specs.declared.jobs.BadReply.{BadReply}
 use Rattle.fx_services.proofs.WentLemmas.{found_here}
 use Rattle.fx_engine.specs.Asks.{AskedAll, HasProbeCause, IsAnsweredBy, IsBadAsk, IsProbeCause}
 use Rattle.fx_engine.specs.Mediation.{HasKept, HasLearned, HasName, HasPlanCause, IsNamed, IsPlaced}
-use Rattle.fx_engine.specs.Sections.{parts_by, parts_with, sections}
+use Rattle.fx_walks.specs.Sections.{parts_by, parts_with, sections}
 use Rattle.fx_engine.specs.declared.mediator.FedError.{FedError}
 use Rattle.fx_engine.specs.declared.mediator.FedError.TheVariants as fed
-use Rattle.fx_engine.proofs.PartLemmas.{by_function}
-use Rattle.fx_engine.proofs.SectionLemmas.{runs_have}
+use Rattle.fx_walks.proofs.PartLemmas.{by_function}
+use Rattle.fx_walks.proofs.SectionLemmas.{runs_have}
 
 -- ---- the answers are lost
 

@@ -21,15 +21,16 @@ use Rattle.fx_steps.specs.Steps.{solutions_of}
 use Rattle.fx_traffic.specs.Sent.{Sent}
 use Rattle.fx_wire.specs.Exchanges.{Seen}
 use Rattle.fx_engine.specs.Asked.{Asked}
-use Rattle.fx_engine.specs.GroupsAsked.{AreAskedFor, EndDue, EndGiven, OperatorDue, OperatorGiven, RunDue, RunGiven, is_run, own_patterns, run_joined, run_seeds, run_stations, run_tasks, solutions_in}
-use Rattle.fx_engine.specs.RunsSent.{AreRunsSent}
-use Rattle.fx_engine.specs.SectionSteps.{group_of}
-use Rattle.fx_engine.specs.declared.tasks.RowsError.{RowsError}
-use Rattle.fx_engine.specs.declared.tasks.RowsError.TheVariants as rows_error
-use Rattle.fx_engine.specs.declared.tasks.Task.{Task}
+use Rattle.fx_walks.specs.GroupsAsked.{AreAskedFor, EndDue, EndGiven, OperatorDue, OperatorGiven, RunDue, RunGiven, is_run, own_patterns, run_joined, run_seeds, run_stations, run_tasks}
+use Rattle.fx_engine.specs.RowsAsked.{solutions_in}
+use Rattle.fx_walks.specs.RunsSent.{AreRunsSent}
+use Rattle.fx_walks.specs.SectionSteps.{group_of}
+use Rattle.fx_engine.specs.declared.rows.RowsError.{RowsError}
+use Rattle.fx_engine.specs.declared.rows.RowsError.TheVariants as rows_error
+use Rattle.fx_walks.specs.declared.tasks.Task.{Task}
 use Rattle.fx_engine.proofs.AskedLemmas.{given_unasked, made_of, made_unasked, refused_as}
-use Rattle.fx_engine.proofs.ElementLemmas.{due_run, of_run}
-use Rattle.fx_engine.proofs.RunRowsLemmas.{joined_so, optional_so, run_itself}
+use Rattle.fx_walks.proofs.ElementLemmas.{due_run, of_run}
+use Rattle.fx_walks.proofs.RunRowsLemmas.{joined_so, optional_so, run_itself}
 
 module _ (tells alone : Bool) (endpoints : List EndpointParts) (block : ℕ) (tasks : List Task) (next : ℕ) (before : List Bindings) where
   -- ---- the end of a run

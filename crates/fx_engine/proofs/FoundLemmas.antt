@@ -12,12 +12,12 @@ use Rattle.fx_flows.specs.declared.flows.FlowError.{FlowError}
 use Rattle.fx_flows.specs.declared.flows.FlowError.TheVariants as flow
 use Rattle.fx_steps.specs.Steps.{solutions_of}
 use Rattle.fx_steps.proofs.FewerLemmas.{fewer_laws}
-use Rattle.fx_engine.specs.SectionSteps.{group_of}
+use Rattle.fx_walks.specs.SectionSteps.{group_of}
 use Rattle.fx_engine.specs.Together.{AreFounds, IsFoundBy, founds_by, rows_of_one, rows_of_runs, with_first}
-use Rattle.fx_engine.specs.declared.tasks.RowsError.{RowsError}
-use Rattle.fx_engine.specs.declared.tasks.RowsError.TheVariants as rows_error
-use Rattle.fx_engine.specs.declared.tasks.Task.{Task}
-use Rattle.fx_engine.proofs.RunAskedLemmas.{next_task}
+use Rattle.fx_engine.specs.declared.rows.RowsError.{RowsError}
+use Rattle.fx_engine.specs.declared.rows.RowsError.TheVariants as rows_error
+use Rattle.fx_walks.specs.declared.tasks.Task.{Task}
+use Rattle.fx_walks.proofs.FrontLemmas.{next_task}
 
 -- rows for some tasks in front of those of the others, unless these were refused
 abbrev pub with_those : List (List Row) → Result (List (List Row)) FlowError → Result (List (List Row)) FlowError

@@ -15,8 +15,8 @@ use Rattle.fx_traffic.specs.Numbers.{numbered_from, service_in}
 use Rattle.fx_wire.specs.Exchanges.{Exchange, Seen}
 use Rattle.fx_engine.specs.Calls.{AreCalls, Call, Came, HasComeTo, IsPassed, Passes, came_rows, failed, lost, occurrence_in, rows_of, told}
 use Rattle.fx_services.specs.Beside.{Occurrence}
-use Rattle.fx_engine.specs.GroupsAsked.{HasRows}
-use Rattle.fx_services.specs.Served.{Served, group_in}
+use Rattle.fx_walks.specs.GroupsAsked.{HasRows}
+use Rattle.fx_walks.specs.Served.{Served, group_in}
 use Rattle.fx_engine.specs.Mediation.{Serve}
 use Rattle.fx_services.specs.ServicesAsked.{AreRowsOver}
 use Rattle.fx_engine.proofs.DownLemmas.{has_gone}

@@ -17,9 +17,9 @@ use Rattle.fx_depths.specs.Shallow.{IsShallow}
 use Rattle.fx_depths.proofs.ServiceDepths.{services_are_shallow}
 use Rattle.fx_services.specs.Beside.{AreServable, Occurrence}
 use Rattle.fx_services.specs.ServicesAsked.{IsServable}
-use Rattle.fx_engine.specs.Unknown.{first_unknown, is_registered, unknown_of}
+use Rattle.fx_walks.specs.Unknown.{first_unknown, is_registered, unknown_of}
 use Rattle.fx_engine.proofs.ServableLemmas.{HasServed, servable, services_of_the_grammar}
-use Rattle.fx_engine.proofs.RegisteredLemmas.{unregistered_by}
+use Rattle.fx_walks.proofs.RegisteredLemmas.{unregistered_by}
 
 abbrev pub named_of : Occurrence → Named
 named_of o = (o.iri, o.silent)

@@ -19,8 +19,8 @@ use Rattle.fx_flows.specs.declared.flows.FlowError.TheVariants as flow
 use Rattle.fx_pool.proofs.WireLemmas.{after_itself}
 use Rattle.fx_engine.specs.Asks.{AskedAll}
 use Rattle.fx_engine.specs.Mediation.{AreKnown, HasLearned, HasPlanCause, HoldsBehind, IsNamed, KnowsServices, Planned}
-use Rattle.fx_engine.specs.Sections.{parts_by, sections}
-use Rattle.fx_engine.specs.Unknown.{unknown_of}
+use Rattle.fx_walks.specs.Sections.{parts_by, sections}
+use Rattle.fx_walks.specs.Unknown.{unknown_of}
 use Rattle.fx_engine.specs.declared.mediator.FedError.{FedError}
 use Rattle.fx_engine.specs.declared.mediator.FedError.TheVariants as fed
 use Rattle.fx_engine.proofs.ChoiceLemmas.{all_kept, has_kept, parts_are_by_graphs, plan_cause}

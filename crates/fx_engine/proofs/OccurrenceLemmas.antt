@@ -16,8 +16,8 @@ use Rattle.fx_algebra.proofs.CutLemmas.{has_the_tree}
 use Rattle.fx_engine.specs.Calls.{occurrence_in}
 use Rattle.fx_services.specs.Beside.{Occurrence}
 use Rattle.fx_engine.specs.Invocations.{in_element, in_group, in_meaning, in_part, one_of}
-use Rattle.fx_engine.specs.SectionSteps.{group_of, part_of}
-use Rattle.fx_engine.proofs.SectionLemmas.{meaning_is}
+use Rattle.fx_walks.specs.SectionSteps.{group_of, part_of}
+use Rattle.fx_walks.proofs.SectionLemmas.{meaning_is}
 
 -- ---- names and numbers make no difference
 

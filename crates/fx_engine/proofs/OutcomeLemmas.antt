@@ -18,29 +18,29 @@ use Rattle.fx_algebra.specs.declared.queries.Query.{Query}
 use Rattle.fx_grammar.specs.Accepted.{Accepted}
 use Rattle.fx_plan.specs.declared.parts.Part.{Part}
 use Rattle.fx_flows.specs.Flows.{IsBatchRead}
-use Rattle.fx_traffic.specs.Gains.{TellAll, faults_at}
-use Rattle.fx_traffic.proofs.GainLemmas.{gain_laws}
+use Rattle.fx_traffic.specs.Gains.{IsMemberIn, TellAll, faults_at}
+use Rattle.fx_traffic.proofs.GainLemmas.{gain_laws, told_of}
 use Rattle.fx_traffic.proofs.NumberLemmas.{stations_have_the_numbers}
 use Rattle.fx_wire.specs.Exchanges.{Exchange, Seen}
-use Rattle.fx_engine.specs.AnswersAsked.{AnswerDue, AnswerGiven}
+use Rattle.fx_walks.specs.AnswersAsked.{AnswerDue, AnswerGiven}
 use Rattle.fx_engine.specs.Asked.{Asked, Knows}
 use Rattle.fx_engine.specs.Calls.{AgreesWith, AreAllOrNone, AreCalls, Call, Came, IsPassed, IsRefused, Passes, down_in, failed, failures_at, occurrences, rows_of}
 use Rattle.fx_services.specs.Beside.{Occurrence}
-use Rattle.fx_engine.specs.GroupsAsked.{HasRows, all_planned, units_in}
-use Rattle.fx_services.specs.Served.{Served}
+use Rattle.fx_walks.specs.GroupsAsked.{HasRows, all_planned, units_in}
+use Rattle.fx_walks.specs.Served.{Served}
 use Rattle.fx_engine.specs.Invocations.{Calling}
 use Rattle.fx_engine.specs.Mediation.{FailedBeside, Serve}
 use Rattle.fx_services.specs.Noted.{places}
 use Rattle.fx_engine.specs.Order.{AreGiven}
 use Rattle.fx_engine.specs.Outcomes.{HasBatchRefusal, HasOutcomeCause, Outcomed}
-use Rattle.fx_engine.specs.RunsSent.{AreRunsSent}
-use Rattle.fx_engine.specs.Sections.{part_with, parts_with, section_of}
-use Rattle.fx_engine.specs.Tasks.{tasks_with}
+use Rattle.fx_walks.specs.RunsSent.{AreRunsSent}
+use Rattle.fx_walks.specs.Sections.{part_with, parts_with, section_of}
+use Rattle.fx_walks.specs.Tasks.{tasks_with}
 use Rattle.fx_services.specs.declared.noted.DownCause.{DownCause}
 use Rattle.fx_engine.specs.declared.mediator.FedError.{FedError}
 use Rattle.fx_engine.specs.declared.mediator.Outcome.{Outcome}
-use Rattle.fx_engine.specs.declared.tasks.RowsError.{RowsError}
-use Rattle.fx_engine.specs.declared.tasks.Task.{Task}
+use Rattle.fx_engine.specs.declared.rows.RowsError.{RowsError}
+use Rattle.fx_walks.specs.declared.tasks.Task.{Task}
 use Rattle.fx_engine.proofs.CallLemmas.{AreFirst, first_of}
 use Rattle.fx_engine.proofs.DownLemmas.{down_at, has_gone}
 use Rattle.fx_engine.proofs.HandLemmas.{Fits, at_hand, calls_fit}
@@ -132,7 +132,7 @@ module _ (tells alone : Bool) (s t u : List Seen) (a : AllTell tells s) (b : All
 
   module _ (r : Result Answer RowsError) (k : Asked tells alone t u es tasks block (AnswerGiven es block tasks q) (AnswerDue es block tasks q) r) where
     behind_them : (graphs : List (List Triple)) → TellAll s es graphs → Knows (AnswerGiven es block tasks q) (AnswerDue es block tasks q) graphs k.wanted r
-    behind_them graphs tell = k.known graphs (still_tell_all s t c.after_all es graphs tell)
+    behind_them graphs tell = k.known graphs (told_of t es graphs (IsMemberIn (units_in tasks)) (still_tell_all s t c.after_all es graphs tell))
 
     runs_for : (o : Result Answer RowsError) (graphs : List (List Triple)) (tell : TellAll s es graphs) (is : plan ≡ parts_with (sources graphs) q) (its : List ℕ → List Triple) (serve : Serve its es graphs) (down : List ℕ) (agrees : AgreesWith down calls)
         → Knows (AnswerGiven es block tasks q) (AnswerDue es block tasks q) graphs k.wanted o → AreRunsSent es graphs block (stations q) (seeds q (union graphs) its down) k.wanted

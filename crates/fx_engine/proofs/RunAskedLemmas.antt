@@ -19,6 +19,7 @@ use Rattle.fx_plan.specs.Plans.{plan}
 use Rattle.fx_spelling.specs.Units.{IsFit}
 use Rattle.fx_steps.specs.Steps.{numbered}
 use Rattle.fx_traffic.specs.Batches.{IsRunSent}
+use Rattle.fx_traffic.specs.Gains.{IsMemberIn, TellOf}
 use Rattle.fx_traffic.specs.Sent.{Sent}
 use Rattle.fx_traffic.specs.Traffic.{SentUnless}
 use Rattle.fx_traffic.proofs.TextLemmas.{texts_of_more}
@@ -26,27 +27,15 @@ use Rattle.fx_wire.specs.Exchanges.{Exchange, Seen}
 use Rattle.fx_flows.specs.RunFlows.{HasFlowCause, RunFlowed}
 use Rattle.fx_flows.specs.declared.flows.FlowError.{FlowError}
 use Rattle.fx_engine.specs.Asked.{Asked}
-use Rattle.fx_engine.specs.GroupsAsked.{ComesOf, RunDue, RunGiven, run_task, task_units, units_in}
-use Rattle.fx_engine.specs.Tasks.{front_of}
-use Rattle.fx_engine.specs.declared.tasks.RowsError.TheVariants as rows_error
-use Rattle.fx_engine.specs.declared.tasks.Task.{Task}
-use Rattle.fx_engine.specs.declared.tasks.Task.TheVariants as task
+use Rattle.fx_walks.specs.GroupsAsked.{ComesOf, RunDue, RunGiven, run_task, task_units, units_in}
+use Rattle.fx_walks.specs.Tasks.{front_of}
+use Rattle.fx_engine.specs.declared.rows.RowsError.TheVariants as rows_error
+use Rattle.fx_walks.specs.declared.tasks.Task.{Task}
+use Rattle.fx_walks.specs.declared.tasks.Task.TheVariants as task
 use Rattle.fx_engine.proofs.AskedLemmas.{given_unasked, read_of_more, refused_unasked}
 use Rattle.fx_engine.proofs.RunTaskLemmas.{cause_of_more, found_so, lacks_one, no_service, none_refused, sent_so, sound}
-use Rattle.fx_engine.proofs.StationLemmas.{no_run_sent, sent_alone}
-
--- the next of tasks
-pub next_task : (tasks : List Task) (next : ℕ) (it : Task) → next < length tasks → it ≡ get_or tasks next it → drop next tasks ≡ it ∷ drop (next + 1) tasks
-next_task tasks next it below is =
-    let one : suc next ≡ next + 1 = omega arith in
-    drop-cons tasks next it below ∙ ap (λ (v : Task). v ∷ drop (suc next) tasks) (sym is) ∙ ap (λ (n : ℕ). it ∷ drop n tasks) one
-
--- behind the next of tasks
-pub behind_next : (tasks others : List Task) (next : ℕ) (t : Task) → drop next tasks ≡ t ∷ others → drop (next + 1) tasks ≡ others
-behind_next tasks others next t h = sym (drop-drop 1 next tasks) ∙ ap (drop 1) h
-
-pub first_is : {X : Type 0} (x y : X) (xs ys : List X) → x ∷ xs ≡ y ∷ ys → (x ≡ y) × (xs ≡ ys)
-first_is x y xs ys h = (cc, cc)
+use Rattle.fx_walks.proofs.FrontLemmas.{first_is}
+use Rattle.fx_walks.proofs.StationLemmas.{no_run_sent, sent_alone}
 
 -- ---- the run of a task
 
@@ -102,6 +91,9 @@ module _ (tells alone : Bool) (before after : List Seen) (endpoints : List Endpo
       of_plan : (u : unit.Unit) → Contains units u → Contains (units_in tasks) u
       of_plan u m = contains_from (units_in tasks) u (among_flat_map task_units it u (front_of tasks) (among_from (front_of tasks) it its) (among_from (task_units it) u (subst (λ (t : Task). Contains (task_units t) u) (sym is_run) m)))
 
+      its_told : (graphs : List (List Triple)) → TellOf before endpoints graphs (IsMemberIn (units_in tasks)) → TellOf before endpoints graphs (IsMemberIn units)
+      its_told graphs told = λ at e m found. told at e (m.0, of_plan m.0 m.1, m.2) found
+
       has_cause : (wanted : List Sent) (xs : List Exchange) (why : FlowError) → HasFlowCause before after endpoints units block wanted xs why → HasFlowCause before after endpoints (units_in tasks) block wanted xs why
       has_cause = cause_of_more before after endpoints units (units_in tasks) block of_plan
 
@@ -128,9 +120,9 @@ module _ (tells alone : Bool) (before after : List Seen) (endpoints : List Endpo
             let all_sound = sound endpoints block rows it units is_run fit graphs ps filters known here.0 in (
               record {
                 behind = sym here.1;
-                sent = sent_alone endpoints graphs block (station.run ps filters known) defined h.wanted (sent_so endpoints block rows it units is_run fit graphs ps filters known gone defined h.wanted moved here.0 (h.of_run graphs told all_sound));
+                sent = sent_alone endpoints graphs block (station.run ps filters known) defined h.wanted (sent_so endpoints block rows it units is_run fit graphs ps filters known gone defined h.wanted moved here.0 (h.of_run graphs (its_told graphs told) all_sound));
               },
-              found_so endpoints block rows it units is_run fit graphs ps filters known found here.0 (h.done graphs told all_sound),
+              found_so endpoints block rows it units is_run fit graphs ps filters known found here.0 (h.done graphs (its_told graphs told) all_sound),
             );
         cause = tt;
       }
@@ -149,6 +141,6 @@ module _ (tells alone : Bool) (before after : List Seen) (endpoints : List Endpo
         faultless = tt;
         known = λ graphs told ps filters known gone defined rest moved is.
             let here = first_is _ _ _ _ (sym is ∙ next_is) in
-            sent_alone endpoints graphs block (station.run ps filters known) defined h.wanted (sent_so endpoints block rows it units is_run fit graphs ps filters known gone defined h.wanted moved here.0 (h.of_run graphs told (sound endpoints block rows it units is_run fit graphs ps filters known here.0)));
+            sent_alone endpoints graphs block (station.run ps filters known) defined h.wanted (sent_so endpoints block rows it units is_run fit graphs ps filters known gone defined h.wanted moved here.0 (h.of_run graphs (its_told graphs told) (sound endpoints block rows it units is_run fit graphs ps filters known here.0)));
         cause = has_cause h.wanted h.exchanges why h.cause;
       }

@@ -24,15 +24,15 @@ use Rattle.fx_wire.specs.Exchanges.{Exchange, Seen}
 use Rattle.fx_flows.specs.RunFlows.{HasFlowCause, IsFlowCause}
 use Rattle.fx_flows.specs.declared.flows.FlowError.{FlowError}
 use Rattle.fx_flows.specs.declared.flows.FlowError.TheVariants as flow
-use Rattle.fx_engine.specs.GroupsAsked.{ComesOf, IsRunFound, run_task}
-use Rattle.fx_engine.specs.Laws.{HasFitUnits, HasSoundUnits}
-use Rattle.fx_engine.specs.RunsSent.{IsSentForRun}
-use Rattle.fx_engine.specs.Sections.{part_with}
-use Rattle.fx_engine.specs.declared.sections.Section.TheVariants.{Run}
-use Rattle.fx_engine.specs.declared.tasks.Task.{Task}
-use Rattle.fx_engine.specs.declared.tasks.Task.TheVariants as task
-use Rattle.fx_engine.proofs.StationLemmas.{nothing_of}
-use Rattle.fx_engine.proofs.UnitLemmas.{sound_part}
+use Rattle.fx_walks.specs.GroupsAsked.{ComesOf, IsRunFound, run_task}
+use Rattle.fx_walks.specs.Laws.{HasFitUnits, HasSoundUnits}
+use Rattle.fx_walks.specs.RunsSent.{IsSentForRun}
+use Rattle.fx_walks.specs.Sections.{part_with}
+use Rattle.fx_walks.specs.declared.sections.Section.TheVariants.{Run}
+use Rattle.fx_walks.specs.declared.tasks.Task.{Task}
+use Rattle.fx_walks.specs.declared.tasks.Task.TheVariants as task
+use Rattle.fx_walks.proofs.StationLemmas.{nothing_of}
+use Rattle.fx_walks.proofs.UnitLemmas.{sound_part}
 
 -- ---- what a run with a task is
 

@@ -12,7 +12,7 @@ use Rattle.fx_traffic.specs.Traffic.{AreStationsSent, IsServiceSent}
 use Rattle.fx_traffic.proofs.SentLemmas.{middle_changes}
 use Rattle.fx_engine.specs.Calls.{occurrence_in}
 use Rattle.fx_services.specs.Beside.{Occurrence}
-use Rattle.fx_engine.specs.RunsSent.{AreRunsSent}
+use Rattle.fx_walks.specs.RunsSent.{AreRunsSent}
 
 -- each occurrence has its one text, or nothing
 abbrev pub AreCalled : List EndpointParts → List Occurrence → List Sent → Type 0

@@ -22,16 +22,17 @@ use Rattle.fx_wire.specs.Exchanges.{Seen}
 use Rattle.fx_flows.specs.declared.flows.FlowError.{FlowError}
 use Rattle.fx_flows.specs.declared.flows.FlowError.TheVariants as flow
 use Rattle.fx_engine.specs.Asked.{Asked, HasRowsCause}
-use Rattle.fx_engine.specs.GroupsAsked.{AreAskedFor, HasRows, IsBehindService, IsJoined, IsNext, OperatorDue, OperatorGiven, service_task, solutions_in}
-use Rattle.fx_services.specs.Served.{Served, element_in, group_in}
+use Rattle.fx_walks.specs.GroupsAsked.{AreAskedFor, HasRows, IsNext, OperatorDue, OperatorGiven, service_task}
+use Rattle.fx_engine.specs.RowsAsked.{IsBehindService, IsJoined, solutions_in}
+use Rattle.fx_walks.proofs.FrontLemmas.{first_is}
+use Rattle.fx_walks.specs.Served.{Served, element_in, group_in}
 use Rattle.fx_services.specs.ServicesAsked.{AreRowsOver}
-use Rattle.fx_engine.specs.declared.tasks.RowsError.{RowsError}
-use Rattle.fx_engine.specs.declared.tasks.RowsError.TheVariants as rows_error
-use Rattle.fx_engine.specs.declared.tasks.Task.{Task}
-use Rattle.fx_engine.specs.declared.tasks.Task.TheVariants as task
+use Rattle.fx_engine.specs.declared.rows.RowsError.{RowsError}
+use Rattle.fx_engine.specs.declared.rows.RowsError.TheVariants as rows_error
+use Rattle.fx_walks.specs.declared.tasks.Task.{Task}
+use Rattle.fx_walks.specs.declared.tasks.Task.TheVariants as task
 use Rattle.fx_engine.proofs.AskedLemmas.{given_unasked, refused_unasked}
-use Rattle.fx_engine.proofs.ElementLemmas.{by_part, due_by, level, rolled}
-use Rattle.fx_engine.proofs.RunAskedLemmas.{first_is}
+use Rattle.fx_walks.proofs.ElementLemmas.{by_part, due_by, level, rolled}
 
 pub part_service : (served : Served) (silent : Bool) (iri : List ℕ) (g : Group) → element_in served (Service silent iri g) ≡ level served (Element-F.Service silent iri (group_in served g))
 part_service served silent iri g = ap (element_in served) (sym (rolls-Service silent iri g)) ∙ rolled served (Element-F.Service silent iri g)

@@ -14,7 +14,7 @@ use Rattle.fx_algebra.specs.declared.units.Unit as unit
 use Rattle.fx_spelling.specs.Units.{IsFit}
 use Rattle.fx_steps.specs.Steps.{numbered}
 use Rattle.fx_traffic.specs.Batches.{IsBatchText}
-use Rattle.fx_traffic.specs.Gains.{TellAll}
+use Rattle.fx_traffic.specs.Gains.{IsMemberIn, TellOf}
 use Rattle.fx_traffic.specs.Sent.{Sent, Sends}
 use Rattle.fx_traffic.proofs.SentLemmas.{sent_laws}
 use Rattle.fx_traffic.proofs.TextLemmas.{texts_of_more}
@@ -26,13 +26,14 @@ use Rattle.fx_flows.specs.declared.flows.FlowError.{FlowError}
 use Rattle.fx_flows.specs.declared.flows.FlowError.TheVariants as flow
 use Rattle.fx_side_by_side.specs.SideBySide.{AreShared, CanAsk, RunShared, RunsFlowed, Share}
 use Rattle.fx_engine.specs.Asked.{Asked}
-use Rattle.fx_engine.specs.GroupsAsked.{CanBeAsked, task_units, units_in}
-use Rattle.fx_engine.specs.Tasks.{front_of}
+use Rattle.fx_walks.specs.GroupsAsked.{task_units, units_in}
+use Rattle.fx_engine.specs.RowsAsked.{CanBeAsked}
+use Rattle.fx_walks.specs.Tasks.{front_of}
 use Rattle.fx_engine.specs.Together.{AreFounds, TaskDue, TaskGiven, TasksDue, TasksGiven, founds_by, runs_in, with_first}
-use Rattle.fx_engine.specs.declared.tasks.RowsError.{RowsError}
-use Rattle.fx_engine.specs.declared.tasks.RowsError.TheVariants as rows_error
-use Rattle.fx_engine.specs.declared.tasks.Task.{Task}
-use Rattle.fx_engine.specs.declared.tasks.Task.TheVariants as task
+use Rattle.fx_engine.specs.declared.rows.RowsError.{RowsError}
+use Rattle.fx_engine.specs.declared.rows.RowsError.TheVariants as rows_error
+use Rattle.fx_walks.specs.declared.tasks.Task.{Task}
+use Rattle.fx_walks.specs.declared.tasks.Task.TheVariants as task
 use Rattle.fx_engine.proofs.AskedLemmas.{read_of_more}
 use Rattle.fx_engine.proofs.RunTaskLemmas.{cause_of_more, found_so, nothing_found, nothing_sent, sent_so, sound}
 
@@ -92,35 +93,42 @@ module _ (before after : List Seen) (endpoints : List EndpointParts) (block : �
   of_tasks (task.Service rows ∷ its) h = of_tasks its h.1
   of_tasks (task.Refused ∷ its) h = of_tasks its h.1
 
+  -- the graphs of the members of all units in front are told
+  abbrev pub Told : List (List Triple) → Type 0
+  Told graphs = TellOf before endpoints graphs (IsMemberIn (units_in all))
+
+  its_told : (graphs : List (List Triple)) → Told graphs → (units : List unit.Unit) → Front (task.Run units) → TellOf before endpoints graphs (IsMemberIn units)
+  its_told graphs told units front = λ at e m found. told at e (m.0, of_task units front m.0 m.1, m.2) found
+
   -- ---- what is due
 
-  one_due : (graphs : List (List Triple)) → TellAll before endpoints graphs → (units : List unit.Unit) → All IsFit units → (s : Share) (r : Result (List Row) FlowError) → RunShared before after endpoints units block (numbered 0 one_empty) s r
+  one_due : (graphs : List (List Triple)) → Told graphs → (units : List unit.Unit) → All IsFit units → Front (task.Run units) → (s : Share) (r : Result (List Row) FlowError) → RunShared before after endpoints units block (numbered 0 one_empty) s r
       → TaskDue endpoints block (task.Run units) graphs s.wanted
-  one_due graphs told units fit s r h = λ ps filters known gone defined moved is.
-      sent_so endpoints block one_empty (task.Run units) units refl fit graphs ps filters known gone defined s.wanted moved is (h.of_run graphs told (sound endpoints block one_empty (task.Run units) units refl fit graphs ps filters known is))
+  one_due graphs told units fit front s r h = λ ps filters known gone defined moved is.
+      sent_so endpoints block one_empty (task.Run units) units refl fit graphs ps filters known gone defined s.wanted moved is (h.of_run graphs (its_told graphs told units front) (sound endpoints block one_empty (task.Run units) units refl fit graphs ps filters known is))
 
   none_due : (graphs : List (List Triple)) (t : Task) → TaskDue endpoints block t graphs []
   none_due graphs t = λ ps filters known gone defined moved is. nothing_sent endpoints graphs block ps filters known defined
 
-  due : (graphs : List (List Triple)) → TellAll before endpoints graphs → (its : List Task) → AllByRecursion (CanBeAsked (length endpoints)) its → (shares : List Share) (results : List (Result (List Row) FlowError)) → Its its shares results
+  due : (graphs : List (List Triple)) → Told graphs → (its : List Task) → AllByRecursion (CanBeAsked (length endpoints)) its → AllByRecursion Front its → (shares : List Share) (results : List (Result (List Row) FlowError)) → Its its shares results
       → TasksDue endpoints block its graphs (wanted_of shares)
-  due graphs told [] can [] [] h = refl
-  due graphs told [] can [] (r ∷ results) h = absurd h
-  due graphs told [] can (s ∷ shares) results h = absurd h
-  due graphs told (task.Run units ∷ its) can [] results h = absurd h
-  due graphs told (task.Run units ∷ its) can (s ∷ shares) [] h = absurd h
-  due graphs told (task.Run units ∷ its) can (s ∷ shares) (r ∷ results) h = (s.wanted, wanted_of shares, refl, one_due graphs told units can.0.fit s r h.0, due graphs told its can.1 shares results h.1)
-  due graphs told (task.EmptyRun ∷ its) can shares results h = ([], wanted_of shares, refl, none_due graphs task.EmptyRun, due graphs told its can.1 shares results h)
-  due graphs told (task.Service rows ∷ its) can shares results h = ([], wanted_of shares, refl, none_due graphs (task.Service rows), due graphs told its can.1 shares results h)
-  due graphs told (task.Refused ∷ its) can shares results h = ([], wanted_of shares, refl, none_due graphs task.Refused, due graphs told its can.1 shares results h)
+  due graphs told [] can front [] [] h = refl
+  due graphs told [] can front [] (r ∷ results) h = absurd h
+  due graphs told [] can front (s ∷ shares) results h = absurd h
+  due graphs told (task.Run units ∷ its) can front [] results h = absurd h
+  due graphs told (task.Run units ∷ its) can front (s ∷ shares) [] h = absurd h
+  due graphs told (task.Run units ∷ its) can front (s ∷ shares) (r ∷ results) h = (s.wanted, wanted_of shares, refl, one_due graphs told units can.0.fit front.0 s r h.0, due graphs told its can.1 front.1 shares results h.1)
+  due graphs told (task.EmptyRun ∷ its) can front shares results h = ([], wanted_of shares, refl, none_due graphs task.EmptyRun, due graphs told its can.1 front.1 shares results h)
+  due graphs told (task.Service rows ∷ its) can front shares results h = ([], wanted_of shares, refl, none_due graphs (task.Service rows), due graphs told its can.1 front.1 shares results h)
+  due graphs told (task.Refused ∷ its) can front shares results h = ([], wanted_of shares, refl, none_due graphs task.Refused, due graphs told its can.1 front.1 shares results h)
 
   -- ---- what is given
 
-  one_given : (graphs : List (List Triple)) → TellAll before endpoints graphs → (units : List unit.Unit) → All IsFit units → (s : Share) (found : List Row) → RunShared before after endpoints units block (numbered 0 one_empty) s (Ok found)
+  one_given : (graphs : List (List Triple)) → Told graphs → (units : List unit.Unit) → All IsFit units → Front (task.Run units) → (s : Share) (found : List Row) → RunShared before after endpoints units block (numbered 0 one_empty) s (Ok found)
       → TaskGiven endpoints block (task.Run units) graphs s.wanted found
-  one_given graphs told units fit s found h = λ ps filters known gone defined moved is. (
-    one_due graphs told units fit s (Ok found) h ps filters known gone defined moved is,
-    found_so endpoints block one_empty (task.Run units) units refl fit graphs ps filters known found is (h.done graphs told (sound endpoints block one_empty (task.Run units) units refl fit graphs ps filters known is)),
+  one_given graphs told units fit front s found h = λ ps filters known gone defined moved is. (
+    one_due graphs told units fit front s (Ok found) h ps filters known gone defined moved is,
+    found_so endpoints block one_empty (task.Run units) units refl fit graphs ps filters known found is (h.done graphs (its_told graphs told units front) (sound endpoints block one_empty (task.Run units) units refl fit graphs ps filters known is)),
   )
 
   -- a task that has no units has no rows
@@ -129,7 +137,7 @@ module _ (before after : List Seen) (endpoints : List EndpointParts) (block : �
 
   -- everything was given
   record Whole (its : List Task) (shares : List Share) (founds : List (List Row)) : Type 0 where
-    given : (graphs : List (List Triple)) → TellAll before endpoints graphs → TasksGiven endpoints block its graphs (wanted_of shares) founds
+    given : (graphs : List (List Triple)) → Told graphs → TasksGiven endpoints block its graphs (wanted_of shares) founds
     unfailed : failed_of shares ≡ 0
     read : All (IsBatchRead (Contains (units_in all))) (exchanges_of shares)
 
@@ -157,7 +165,7 @@ module _ (before after : List Seen) (endpoints : List EndpointParts) (block : �
   with_one : (units : List unit.Unit) → All IsFit units → Front (task.Run units) → (s : Share) (found : List Row) → RunShared before after endpoints units block (numbered 0 one_empty) s (Ok found)
       → (its : List Task) (shares : List Share) (r : Result (List (List Row)) FlowError) → Came its shares r → Came (task.Run units ∷ its) (s ∷ shares) (with_first found r)
   with_one units fit front s found k its shares (Ok founds) h = record {
-    given = λ graphs told. (s.wanted, wanted_of shares, refl, one_given graphs told units fit s found k, h.given graphs told);
+    given = λ graphs told. (s.wanted, wanted_of shares, refl, one_given graphs told units fit front s found k, h.given graphs told);
     unfailed =
         let mine : s.failed ≡ 0 = k.unfailed in
         let others : failed_of shares ≡ 0 = h.unfailed in
@@ -222,8 +230,8 @@ module _ (tells alone : Bool) (before after : List Seen) (endpoints : List Endpo
   what_came : Came before after endpoints block all its h.shares (founds_by its results)
   what_came = came before after endpoints block all its here there h.shares results h.each
 
-  what_is_due : (graphs : List (List Triple)) → TellAll before endpoints graphs → Due graphs (wanted_of h.shares)
-  what_is_due graphs told = due before after endpoints block all graphs told its here h.shares results h.each
+  what_is_due : (graphs : List (List Triple)) → Told before after endpoints block all graphs → Due graphs (wanted_of h.shares)
+  what_is_due graphs told = due before after endpoints block all graphs told its here there h.shares results h.each
 
   what_was_sent : Sends (wanted_of h.shares) (left_of h.shares) h.exchanges
   what_was_sent = sent_laws.any_order (wanted_of h.shares) (left_of h.shares) (exchanges_of h.shares) h.exchanges h.parted (all_sent before after endpoints block (runs_in its) h.shares results h.each)

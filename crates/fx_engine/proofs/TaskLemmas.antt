@@ -16,13 +16,13 @@ use Rattle.fx_plan.specs.Plans.{plan}
 use Rattle.fx_plan.specs.declared.parts.Part.{Part}
 use Rattle.fx_plan.specs.declared.parts.Part.TheVariants as part
 use Rattle.fx_engine.specs.Calls.{occurrence_in}
-use Rattle.fx_engine.specs.GroupsAsked.{all_planned, planned, service_task}
-use Rattle.fx_services.specs.Served.{Served}
-use Rattle.fx_engine.specs.Sections.{part_with, section_of}
+use Rattle.fx_walks.specs.GroupsAsked.{all_planned, planned, service_task}
+use Rattle.fx_walks.specs.Served.{Served}
+use Rattle.fx_walks.specs.Sections.{part_with, section_of}
 use Rattle.fx_engine.specs.Outcomes.{IsAllOf, IsPlanOf}
-use Rattle.fx_engine.specs.Tasks.{tasks_with}
-use Rattle.fx_engine.specs.declared.tasks.Task.{Task}
-use Rattle.fx_engine.specs.declared.tasks.Task.TheVariants as task
+use Rattle.fx_walks.specs.Tasks.{tasks_with}
+use Rattle.fx_walks.specs.declared.tasks.Task.{Task}
+use Rattle.fx_walks.specs.declared.tasks.Task.TheVariants as task
 
 -- the task of a run in front of others
 pub run_in_front : (lacks : Bool) (units : List unit.Unit) (bound : List (List ℕ)) (parts : List Part) (found : List (List Bindings))

@@ -20,18 +20,18 @@ use Rattle.fx_steps.specs.Fewer.{AreFewer}
 use Rattle.fx_steps.specs.Steps.{solutions_of}
 use Rattle.fx_steps.proofs.FewerLemmas.{fewer_laws}
 use Rattle.fx_traffic.specs.Sent.{Sent}
-use Rattle.fx_services.specs.Served.{Served, group_in}
-use Rattle.fx_engine.specs.GroupsAsked.{AlternativesDue, AlternativesGiven, AreAskedFor, EndDue, EndGiven, GroupDue, GroupGiven, IsNext, RunDue, RunGiven, all_planned, is_run, own_patterns, run_joined, run_seeds, run_stations, run_tasks, seeds_in, stations_in}
-use Rattle.fx_engine.specs.RunsSent.{AreRunsSent}
-use Rattle.fx_engine.specs.SectionSteps.{group_of}
+use Rattle.fx_walks.specs.Served.{Served, group_in}
+use Rattle.fx_walks.specs.GroupsAsked.{AlternativesDue, AlternativesGiven, AreAskedFor, EndDue, EndGiven, GroupDue, GroupGiven, IsNext, RunDue, RunGiven, all_planned, is_run, own_patterns, run_joined, run_seeds, run_stations, run_tasks, seeds_in, stations_in}
+use Rattle.fx_walks.specs.RunsSent.{AreRunsSent}
+use Rattle.fx_walks.specs.SectionSteps.{group_of}
 use Rattle.fx_engine.specs.Together.{TaskDue, TaskGiven, TasksDue, TasksGiven, is_one_run, rows_of_runs}
-use Rattle.fx_engine.specs.declared.tasks.Task.{Task}
+use Rattle.fx_walks.specs.declared.tasks.Task.{Task}
 use Rattle.fx_engine.proofs.EndLemmas.{ended_due, ended_run}
-use Rattle.fx_engine.proofs.ElementLemmas.{run_is, run_rows, run_seed, run_station}
-use Rattle.fx_engine.proofs.RunAskedLemmas.{behind_next, first_is}
-use Rattle.fx_engine.proofs.RunRowsLemmas.{joined_so}
-use Rattle.fx_engine.proofs.ServedLemmas.{same_filters}
-use Rattle.fx_engine.proofs.StationLemmas.{next_first, next_others, sent_alone, sent_behind}
+use Rattle.fx_walks.proofs.ElementLemmas.{run_is, run_rows, run_seed, run_station}
+use Rattle.fx_walks.proofs.FrontLemmas.{behind_next, first_is}
+use Rattle.fx_walks.proofs.RunRowsLemmas.{joined_so}
+use Rattle.fx_walks.proofs.ServedLemmas.{same_filters}
+use Rattle.fx_walks.proofs.StationLemmas.{next_first, next_others, sent_alone, sent_behind}
 
 -- ---- one task
 

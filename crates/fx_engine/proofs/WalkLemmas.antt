@@ -16,16 +16,16 @@ use Rattle.fx_steps.proofs.FewerLemmas.{fewer_laws}
 use Rattle.fx_traffic.specs.Sent.{Sent}
 use Rattle.fx_wire.specs.Exchanges.{Seen}
 use Rattle.fx_engine.specs.Asked.{Asked}
-use Rattle.fx_engine.specs.GroupsAsked.{AreSentFrom, ElementDue, ElementGiven, EndDue, EndGiven, GroupDue, IsNext, IsPlace, IsReached, UnfilteredGiven, all_planned, number_behind, run_joined, run_seeds, run_stations, run_tasks, seeds_in, stations_in, with_run}
-use Rattle.fx_services.specs.Served.{Served, element_in, group_in}
-use Rattle.fx_engine.specs.RunsSent.{AreRunsSent}
-use Rattle.fx_engine.specs.declared.tasks.RowsError.{RowsError}
-use Rattle.fx_engine.specs.declared.tasks.Task.{Task}
+use Rattle.fx_walks.specs.GroupsAsked.{AreSentFrom, ElementDue, ElementGiven, EndDue, EndGiven, GroupDue, IsNext, IsPlace, IsReached, UnfilteredGiven, all_planned, number_behind, run_joined, run_seeds, run_stations, run_tasks, seeds_in, stations_in, with_run}
+use Rattle.fx_walks.specs.Served.{Served, element_in, group_in}
+use Rattle.fx_walks.specs.RunsSent.{AreRunsSent}
+use Rattle.fx_engine.specs.declared.rows.RowsError.{RowsError}
+use Rattle.fx_walks.specs.declared.tasks.Task.{Task}
 use Rattle.fx_engine.proofs.AskedLemmas.{AllTell, asked_behind, given_unasked, refused_as}
-use Rattle.fx_engine.proofs.ElementLemmas.{group_is}
-use Rattle.fx_engine.proofs.EvenLemmas.{elements_are_even, group_is_even}
-use Rattle.fx_engine.proofs.RunLemmas.{after_alone, seeds_alone, stations_alone}
-use Rattle.fx_engine.proofs.StationLemmas.{no_run_sent, run_planned}
+use Rattle.fx_walks.proofs.ElementLemmas.{group_is}
+use Rattle.fx_walks.proofs.EvenLemmas.{elements_are_even, group_is_even}
+use Rattle.fx_walks.proofs.RunLemmas.{after_alone, seeds_alone, stations_alone}
+use Rattle.fx_walks.proofs.StationLemmas.{no_run_sent, run_planned}
 
 -- the elements from one on
 pub from_element : (all : List Element) (i : ℕ) (e : Element) → i < length all → e ≡ get_or all i e → drop i all ≡ e ∷ drop (i + 1) all

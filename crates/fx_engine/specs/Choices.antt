@@ -5,7 +5,7 @@ use Rattle.fx_algebra.specs.declared.queries.Query.{Query}
 use Rattle.fx_plan.specs.Explained.{HasMembers}
 use Rattle.fx_flows.specs.declared.flows.FlowError.{FlowError}
 use Rattle.fx_sources.specs.Probes.{Entry, chosen, is_held, missing, told}
-use Rattle.fx_engine.specs.Sections.{parts_by, sections}
+use Rattle.fx_walks.specs.Sections.{parts_by, sections}
 use Rattle.fx_engine.specs.declared.choices.Choice.{Choice}
 
 -- the probes are those that the entries lack, each once, and the parts are by their answers and the entries

@@ -16,7 +16,7 @@ use Rattle.fx_services.specs.declared.noted.Down.{Down}
 use Rattle.fx_services.specs.declared.services.ServiceError.{ServiceError}
 use Rattle.fx_services.specs.declared.services.ServiceError.TheVariants as error
 use Rattle.fx_engine.specs.Calls.{AreAllOrNone, AreCalls, Call, IsKnown, IsPassed, down_in, failed, failures_at, occurrence_in, rows_of}
-use Rattle.fx_engine.specs.SectionSteps.{group_of, part_of}
+use Rattle.fx_walks.specs.SectionSteps.{group_of, part_of}
 
 -- ---- the occurrences in a group
 

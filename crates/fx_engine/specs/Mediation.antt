@@ -32,9 +32,9 @@ use Rattle.fx_engine.specs.Asks.{HasAskLeft, IsAnsweredBy, IsAskRead, IsBadAsk, 
 use Rattle.fx_engine.specs.Calls.{AgreesWith, AreAllKnown, AreAllOrNone, AreCalls, Call, HasFirstRefused, IsPassed, IsRefused, down_in, failures_at, occurrences}
 use Rattle.fx_services.specs.Noted.{places}
 use Rattle.fx_engine.specs.Order.{AreGiven, AsksComeFirst, patterns_before}
-use Rattle.fx_engine.specs.RunsSent.{AreRunsSent}
-use Rattle.fx_engine.specs.Sections.{parts_by, parts_with, sections}
-use Rattle.fx_engine.specs.Unknown.{unknown_of}
+use Rattle.fx_walks.specs.RunsSent.{AreRunsSent}
+use Rattle.fx_walks.specs.Sections.{parts_by, parts_with, sections}
+use Rattle.fx_walks.specs.Unknown.{unknown_of}
 use Rattle.fx_services.specs.declared.noted.DownCause.TheVariants as cause
 use Rattle.fx_engine.specs.declared.mediator.FedError.{FedError}
 use Rattle.fx_engine.specs.declared.mediator.FedError.TheVariants as fed

@@ -19,13 +19,13 @@ use Rattle.fx_traffic.specs.Gains.{AreAfter, HaveGained, TellAll, faults_at}
 use Rattle.fx_traffic.specs.Sent.{Sent, Sends}
 use Rattle.fx_wire.specs.Exchanges.{Exchange, Seen}
 use Rattle.fx_engine.specs.Calls.{AgreesWith, AreAllOrNone, AreCalls, Call, HasFirstRefused, IsPassed, IsRefused, down_in, failures_at, occurrences}
-use Rattle.fx_engine.specs.GroupsAsked.{units_in}
+use Rattle.fx_walks.specs.GroupsAsked.{units_in}
 use Rattle.fx_engine.specs.Mediation.{AtNamed, FailedBeside, HasName, IsNamed, Serve}
 use Rattle.fx_services.specs.Noted.{places}
 use Rattle.fx_engine.specs.Order.{AreGiven}
-use Rattle.fx_engine.specs.RunsSent.{AreRunsSent}
-use Rattle.fx_engine.specs.Sections.{part_with, parts_with, sections}
-use Rattle.fx_engine.specs.Tasks.{tasks_with}
+use Rattle.fx_walks.specs.RunsSent.{AreRunsSent}
+use Rattle.fx_walks.specs.Sections.{part_with, parts_with, sections}
+use Rattle.fx_walks.specs.Tasks.{tasks_with}
 use Rattle.fx_services.specs.declared.noted.DownCause.TheVariants as cause
 use Rattle.fx_engine.specs.declared.mediator.FedError.{FedError}
 use Rattle.fx_engine.specs.declared.mediator.FedError.TheVariants as fed

@@ -22,14 +22,14 @@ use Rattle.fx_steps.specs.Steps.{solutions_of}
 use Rattle.fx_traffic.specs.Sent.{Sent}
 use Rattle.fx_wire.specs.Exchanges.{Seen}
 use Rattle.fx_engine.specs.Asked.{Asked}
-use Rattle.fx_engine.specs.GroupsAsked.{AlternativesDue, AlternativesGiven, ElementDue, ElementGiven, EndDue, EndGiven, IsRunFound, is_run, own_patterns, run_task}
-use Rattle.fx_engine.specs.RunsSent.{IsSentForRun}
-use Rattle.fx_engine.specs.SectionSteps.{group_of}
-use Rattle.fx_engine.specs.Tasks.{front_of}
-use Rattle.fx_engine.specs.declared.tasks.RowsError.{RowsError}
-use Rattle.fx_engine.specs.declared.tasks.RowsError.TheVariants as rows_error
-use Rattle.fx_engine.specs.declared.tasks.Task.{Task}
-use Rattle.fx_engine.specs.declared.tasks.Task.TheVariants as task
+use Rattle.fx_walks.specs.GroupsAsked.{AlternativesDue, AlternativesGiven, ElementDue, ElementGiven, EndDue, EndGiven, IsRunFound, is_run, own_patterns, run_task}
+use Rattle.fx_walks.specs.RunsSent.{IsSentForRun}
+use Rattle.fx_walks.specs.SectionSteps.{group_of}
+use Rattle.fx_walks.specs.Tasks.{AreNext, front_of}
+use Rattle.fx_engine.specs.declared.rows.RowsError.{RowsError}
+use Rattle.fx_engine.specs.declared.rows.RowsError.TheVariants as rows_error
+use Rattle.fx_walks.specs.declared.tasks.Task.{Task}
+use Rattle.fx_walks.specs.declared.tasks.Task.TheVariants as task
 use Rattle.fx_engine.specs.declared.together.BehindRun.{BehindRun}
 use Rattle.fx_engine.specs.declared.together.BehindRun.TheVariants as behind
 
@@ -63,14 +63,6 @@ TasksDue endpoints block (t ∷ its) graphs wanted =
     (own : List Sent) × (rest : List Sent) × (wanted ≡ own ++ rest) × TaskDue endpoints block t graphs own × TasksDue endpoints block its graphs rest
 
 -- ---- the tasks that are next
-
--- These are so many tasks, the next of all, before the first occurrence of SERVICE that was refused, and this is the place behind them.
-pub record AreNext (tasks : List Task) (next count : ℕ) (its : List Task) (end : ℕ) : Type 0 where
-  pub others : List Task
-  pub next_are : drop next tasks ≡ its ++ others
-  pub many : length its ≡ count
-  pub in_front : All (Contains (front_of tasks)) its
-  pub end_is : end ≡ next + count
 
 -- the units of those that are runs
 abbrev pub units_of_run : Task → List (List unit.Unit)

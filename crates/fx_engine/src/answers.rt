@@ -1,83 +1,73 @@
 //! The answer of a query by its plan.
-ghost use Rattle.std.specs.Prelude.{◌≡◌, ◌<◌, ◌≤◌, All, IfErr, IfOk, IsPermutation, length, map, true};
+ghost use Rattle.std.specs.Prelude.{◌≡◌, ◌<◌, ◌≤◌, IfErr, IfOk, IsPermutation, length};
 ghost use Rattle.fx_algebra.specs.Answers.{with_inline as with_inline_of};
-ghost use Rattle.fx_outside.specs.Endpoints.{is_sendable};
-ghost use Rattle.fx_engine.specs.AnswersAsked as spec;
-ghost use Rattle.fx_engine.specs.Asked.{Asked};
-ghost use Rattle.fx_engine.specs.GroupsAsked.{CanBeAsked};
-ghost use Rattle.fx_engine.specs.Tasks.{tasks_with};
+ghost use Rattle.fx_walks.specs.AnswersAsked as spec;
+ghost use Rattle.fx_engine.specs.Questions.{AnsweredBy, CanBePut};
+ghost use Rattle.fx_engine.specs.Walks.{AnswerAsked, CanBeWalked};
+ghost use Rattle.fx_traffic.specs.Gains.{seen};
 
 use crate::groups::group_rows;
-use crate::tasks::{RowsError, Tasks, tasks_of};
+use crate::questions::Question;
+use crate::rows::RowsError;
+use crate::walks::Walk;
 use fx_algebra::{Answer, Inline, Query, Solution};
 use fx_flows::FlowError;
-use fx_outside::Endpoint;
 use fx_plan::Part;
+use fx_side_by_side::DoesFlows;
 use fx_solutions::known_rows::known_to_rise;
 use fx_solutions::{answer_of_rows, inline_rows, join_with};
 use fx_terms::{Items, Memory};
+use fx_walks::tasks::{Tasks, tasks_of};
 use fx_wire::Wire;
 use std::alloc::Global;
-use std::sync::Wait;
-use std::thread::Threads;
 
 /// The answer of a query over the union of the endpoints' graphs, by the parts of its plan and the rows of its occurrences of SERVICE, both in text
 /// order. Where there are fewer of these, the others were refused. The cause of a refusal is that of `answer_by_plan`.
-pub(crate) fn answer_with<R: Threads + Wait + Sync, W: Wire + Send>(
-    rt: &R,
+pub(crate) fn answer_with<H: DoesFlows<W>, W: Wire>(
+    hands: &H,
     alloc: Global,
-    query: &Query,
+    question: &Question<'_>,
     plan: Vec<Part>,
     found: Vec<Items<Solution>>,
-    endpoints: &[Endpoint],
-    block: u32,
     wires: &mut [W],
 ) -> Result<Answer, RowsError>
+    requires hands { H.flows hands.now }
     requires wired { (0 < length wires.old) × (length wires.old ≤ 16) }
-    requires sendable { All (λ e. is_sendable e ≡ true) endpoints.now }
-    requires block { (0 < block) × (block ≤ 64) }
-    requires asked { All (CanBeAsked (length endpoints.now)) (tasks_with plan.items found.items) }
-    ensures { Asked W.tells_log W.counts_alone (map W.seen wires.old) (map W.seen wires.new) endpoints.now (tasks_with plan.items found.items) block (spec.AnswerGiven endpoints.now block (tasks_with plan.items found.items) query.now) (spec.AnswerDue endpoints.now block (tasks_with plan.items found.items) query.now) result }
+    requires asked { CanBePut question.now plan.items }
+    ensures { AnsweredBy (seen W.Wire wires.old wires.new) question.now plan.items found.items result }
 {
     match tasks_of(alloc, plan, found) {
         Err(Memory) => Err(RowsError::Flow(FlowError::Memory)),
         Ok(tasks) => {
             let tasks = Tasks::of(tasks);
-            answer_by_plan(rt, alloc, query, &tasks, endpoints, block, wires)
+            let walk = Walk {
+                alloc,
+                endpoints: question.registry.endpoints(),
+                tasks: &tasks,
+                block: question.block,
+            };
+            answer_by_plan(hands, &walk, question.query, wires)
         }
     }
 }
 
 /// The answer of a query over the union of the endpoints' graphs, by its tasks, in text order. The cause of a refusal is that of a batch of one of the
 /// tasks' units, or an occurrence of SERVICE was refused.
-pub(crate) fn answer_by_plan<R: Threads + Wait + Sync, W: Wire + Send>(
-    rt: &R,
-    alloc: Global,
+pub(crate) fn answer_by_plan<H: DoesFlows<W>, W: Wire>(
+    hands: &H,
+    walk: &Walk<'_>,
     query: &Query,
-    tasks: &Tasks,
-    endpoints: &[Endpoint],
-    block: u32,
     wires: &mut [W],
 ) -> Result<Answer, RowsError>
+    requires hands { H.flows hands.now }
     requires wired { (0 < length wires.old) × (length wires.old ≤ 16) }
-    requires sendable { All (λ e. is_sendable e ≡ true) endpoints.now }
-    requires block { (0 < block) × (block ≤ 64) }
-    requires asked { All (CanBeAsked (length endpoints.now)) tasks.now }
-    ensures { Asked W.tells_log W.counts_alone (map W.seen wires.old) (map W.seen wires.new) endpoints.now tasks.now block (spec.AnswerGiven endpoints.now block tasks.now query.now) (spec.AnswerDue endpoints.now block tasks.now query.now) result }
+    requires asked { CanBeWalked walk.now }
+    ensures { AnswerAsked (seen W.Wire wires.old wires.new) walk.now.endpoints.now walk.now.block walk.now.tasks.now query.now result }
 {
     let mut next = 0;
-    match group_rows(
-        rt,
-        alloc,
-        &query.group,
-        tasks,
-        &mut next,
-        endpoints,
-        block,
-        wires,
-    ) {
+    match group_rows(hands, walk, &query.group, &mut next, wires) {
         Err(error) => Err(error),
-        Ok(rows) => answer_from(alloc, query, rows),
+        Ok(rows) => answer_from(walk.alloc, query, rows),
     }
 }
 

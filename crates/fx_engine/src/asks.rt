@@ -4,78 +4,76 @@ ghost use Rattle.fx_outside.specs.Endpoints.{is_sendable};
 ghost use Rattle.fx_spelling.specs.Printable.{IsTriple};
 ghost use Rattle.fx_engine.specs.AskSteps as spec;
 ghost use Rattle.fx_engine.specs.AskSteps.{AreTruthsOf, IsForAsk, IsTruthOf, truths_in};
-ghost use Rattle.fx_engine.specs.Asks.{AskedAll};
+ghost use Rattle.fx_engine.specs.Walks.{JobsDone, ProbesAsked};
+ghost use Rattle.fx_traffic.specs.Gains.{seen};
+ghost use Rattle.fx_pool.specs.Runs.{all_replies};
 
 use fx_flows::FlowError;
 use fx_outside::Endpoint;
-use fx_pool::{Job, JobReply, RequestText, Work, run_jobs};
+use fx_pool::{Job, JobReply, RequestText, Work};
+use fx_services::DoesJobs;
 use fx_sources::{Probe, ask_text};
 use fx_terms::Memory;
 use fx_wire::Wire;
 use std::alloc::Global;
-use std::sync::Wait;
-use std::thread::Threads;
 
 /// The most probes that are asked for at once.
 const MOST: usize = 65_536;
 
 /// What the endpoints answer to probes, in their order.
 ///
-/// The ASK of each probe's key goes to the probe's endpoint, once. A refusal is that of one of the probes: `Member`, the exchange with the endpoint
-/// failed, and was counted as a fault at its address; `BadReply`, with the first fault of what was replied; `RequestTooLong`, the text has more
-/// than 67,108,864 bytes, and wasn't sent; or it is `Memory`. The probes are asked for in pieces of 65,536. Other probes of the piece in which one has no
-/// answer may be asked for as well, and of a later piece none is.
-pub(crate) fn ask_all<R: Threads + Wait + Sync, W: Wire + Send>(
-    rt: &R,
+/// The ASK of each probe's key goes to the probe's endpoint, once, whatever becomes of the others. Where some have no answer the refusal is that of the first of them: `Member`, the exchange
+/// with the endpoint failed, and was counted as a fault at its address; `BadReply`, with the first fault of what was replied; `RequestTooLong`, the text has more than 67,108,864
+/// bytes, and wasn't sent. `Memory` comes where memory runs out. The probes are asked for in pieces of 65,536.
+pub(crate) fn ask_all<H: DoesJobs<W>, W: Wire>(
+    hands: &H,
     alloc: Global,
     probes: &[Probe],
     endpoints: &[Endpoint],
     wires: &mut [W],
 ) -> Result<Vec<bool>, FlowError>
+    requires hands { H.does hands.now }
     requires wired { (0 < length wires.old) × (length wires.old ≤ 16) }
     requires sendable { All (λ e. is_sendable e ≡ true) endpoints.now }
     requires within { All (λ p. p.at < length endpoints.now) probes.now }
     requires triples { All (λ p. IsTriple p.key.pattern) probes.now }
-    ensures { AskedAll W.tells_log W.counts_alone (map W.seen wires.old) (map W.seen wires.new) endpoints.now probes.now (truths_in result) }
+    ensures { ProbesAsked (seen W.Wire wires.old wires.new) endpoints.now probes.now (truths_in result) }
 {
-    let mut truths = Vec::new(alloc);
+    let mut replies = Vec::new(alloc);
     let mut start = 0;
     while start < probes.len() {
         let end = start + (probes.len() - start).min(MOST);
-        match ask_some(rt, alloc, &probes[start..end], endpoints, wires) {
-            Err(error) => return Err(error),
+        match ask_some(hands, alloc, &probes[start..end], endpoints, wires) {
+            Err(Memory) => return Err(FlowError::Memory),
             Ok(mut more) => {
-                if truths.append(&mut more).is_err() {
+                if replies.append(&mut more).is_err() {
                     return Err(FlowError::Memory);
                 }
             }
         }
         start = end;
     }
-    Ok(truths)
+    truths_of(alloc, probes, replies)
 }
 
-// What the endpoints answer to probes that are asked for at once.
-fn ask_some<R: Threads + Wait + Sync, W: Wire + Send>(
-    rt: &R,
+// The replies to probes that are asked for at once.
+fn ask_some<H: DoesJobs<W>, W: Wire>(
+    hands: &H,
     alloc: Global,
     probes: &[Probe],
     endpoints: &[Endpoint],
     wires: &mut [W],
-) -> Result<Vec<bool>, FlowError>
+) -> Result<Vec<JobReply>, Memory>
+    requires hands { H.does hands.now }
     requires wired { (0 < length wires.old) × (length wires.old ≤ 16) }
     requires sendable { All (λ e. is_sendable e ≡ true) endpoints.now }
     requires few { length probes.now ≤ 65536 }
     requires within { All (λ p. p.at < length endpoints.now) probes.now }
-    requires triples { All (λ p. IsTriple p.key.pattern) probes.now }
-    ensures { AskedAll W.tells_log W.counts_alone (map W.seen wires.old) (map W.seen wires.new) endpoints.now probes.now (truths_in result) }
+    ensures { JobsDone (seen W.Wire wires.old wires.new) endpoints.now (map spec.job_of probes.now) (all_replies result) }
 {
     match jobs_of(alloc, probes) {
-        Err(Memory) => Err(FlowError::Memory),
-        Ok(jobs) => match run_jobs(rt, alloc, endpoints, jobs.as_slice(), wires) {
-            Err(Memory) => Err(FlowError::Memory),
-            Ok(replies) => truths_of(alloc, probes, replies),
-        },
+        Err(Memory) => Err(Memory),
+        Ok(jobs) => hands.run_jobs(alloc, endpoints, jobs.as_slice(), wires),
     }
 }
 

@@ -1,31 +1,31 @@
 //! The rows of groups over the union of the graphs of endpoints (SPARQL 1.1 sections 18.2.2 and 18.6).
-ghost use Rattle.std.specs.Prelude.{◌≡◌, ◌<◌, ◌≤◌, All, IfErr, IfOk, IsPermutation, [], ◌∷◌, length, map, true};
+ghost use Rattle.std.specs.Prelude.{◌≡◌, ◌<◌, ◌≤◌, IfErr, IfOk, IsPermutation, [], ◌∷◌, length, true};
 ghost use Rattle.fx_algebra.specs.Operators.{extend as extend_of, filtered as filtered_of, inline_rows as inline_rows_of, join as join_of, left_join as left_join_of, minus as minus_of};
-ghost use Rattle.fx_outside.specs.Endpoints.{is_sendable};
 ghost use Rattle.fx_steps.specs.Optionals.{optional_rows};
 ghost use Rattle.fx_steps.specs.Steps.{solutions_of};
-ghost use Rattle.fx_engine.specs.Asked.{Asked};
-ghost use Rattle.fx_engine.specs.GroupsAsked as spec;
-ghost use Rattle.fx_engine.specs.GroupsAsked.{CanBeAsked, found_in, solutions_in};
-ghost use Rattle.fx_engine.specs.SectionSteps.{group_of, part_of, part_patterns};
+ghost use Rattle.fx_walks.specs.GroupsAsked as spec;
+ghost use Rattle.fx_engine.specs.RowsAsked.{IsBehindService, found_in, solutions_in};
+ghost use Rattle.fx_walks.specs.SectionSteps.{group_of, part_of, part_patterns};
+ghost use Rattle.fx_engine.specs.Walks.{AlternativesAsked, CanBeWalked, ElementAsked, EndAsked, GroupAsked, OperatorAsked, RunAsked, UnfilteredAsked};
+ghost use Rattle.fx_traffic.specs.Gains.{seen};
 
-use crate::optionals::or_themselves;
-use crate::sections::{filters_of, is_simple, keeps_run};
-use crate::tasks::{RowsError, Task, Tasks};
+use crate::rows::RowsError;
 use crate::together::{
     BehindRun, behind_run, is_one_empty, next_runs, run_and_minus, run_and_union, union_rows,
 };
+use crate::walks::Walk;
 use fx_algebra::{Element, Expr, Group, Inline, Row, Solution};
-use fx_flows::{FlowError, run_flow};
-use fx_outside::Endpoint;
+use fx_flows::FlowError;
 use fx_services::noted::one_row;
+use fx_side_by_side::DoesFlows;
 use fx_solutions::known_rows::known_to_rise;
 use fx_solutions::{extend, filter, inline_rows, join, join_with, left_join_with, minus_with};
 use fx_terms::{Memory, Name};
+use fx_walks::optionals::or_themselves;
+use fx_walks::sections::{filters_of, is_simple, keeps_run};
+use fx_walks::tasks::{Task, Tasks};
 use fx_wire::Wire;
 use std::alloc::Global;
-use std::sync::Wait;
-use std::thread::Threads;
 
 /// The rows of a group over the union of the endpoints' graphs, in some order.
 ///
@@ -37,91 +37,67 @@ use std::thread::Threads;
 ///
 /// The cause of a refusal is that of a batch of one of the tasks' units, or an occurrence of SERVICE was refused. No later run is asked for then.
 #[cycle(rows)]
-pub(crate) fn group_rows<R: Threads + Wait + Sync, W: Wire + Send>(
-    rt: &R,
-    alloc: Global,
+pub(crate) fn group_rows<H: DoesFlows<W>, W: Wire>(
+    hands: &H,
+    walk: &Walk<'_>,
     group: &Group,
-    tasks: &Tasks,
     next: &mut usize,
-    endpoints: &[Endpoint],
-    block: u32,
     wires: &mut [W],
 ) -> Result<Vec<Solution>, RowsError>
+    requires hands { H.flows hands.now }
     requires wired { (0 < length wires.old) × (length wires.old ≤ 16) }
-    requires sendable { All (λ e. is_sendable e ≡ true) endpoints.now }
-    requires block { (0 < block) × (block ≤ 64) }
-    requires asked { All (CanBeAsked (length endpoints.now)) tasks.now }
-    ensures { Asked W.tells_log W.counts_alone (map W.seen wires.old) (map W.seen wires.new) endpoints.now tasks.now block (spec.GroupGiven endpoints.now block tasks.now next.old next.new group.now) (spec.GroupDue endpoints.now block tasks.now next.old group.now) (solutions_in result) }
+    requires asked { CanBeWalked walk.now }
+    ensures { GroupAsked (seen W.Wire wires.old wires.new) walk.now next.old next.new group.now (solutions_in result) }
 {
-    match unfiltered(rt, alloc, group, tasks, next, endpoints, block, wires) {
+    match unfiltered(hands, walk, group, next, wires) {
         Err(error) => Err(error),
-        Ok(rows) => filtered(alloc, group, rows),
+        Ok(rows) => filtered(walk.alloc, group, rows),
     }
 }
 
 // The rows of a group before its filters, less some that these refuse.
 #[cycle(rows)]
-fn unfiltered<R: Threads + Wait + Sync, W: Wire + Send>(
-    rt: &R,
-    alloc: Global,
+fn unfiltered<H: DoesFlows<W>, W: Wire>(
+    hands: &H,
+    walk: &Walk<'_>,
     group: &Group,
-    tasks: &Tasks,
     next: &mut usize,
-    endpoints: &[Endpoint],
-    block: u32,
     wires: &mut [W],
 ) -> Result<Vec<Solution>, RowsError>
+    requires hands { H.flows hands.now }
     requires wired { (0 < length wires.old) × (length wires.old ≤ 16) }
-    requires sendable { All (λ e. is_sendable e ≡ true) endpoints.now }
-    requires block { (0 < block) × (block ≤ 64) }
-    requires asked { All (CanBeAsked (length endpoints.now)) tasks.now }
-    ensures { Asked W.tells_log W.counts_alone (map W.seen wires.old) (map W.seen wires.new) endpoints.now tasks.now block (spec.UnfilteredGiven endpoints.now block tasks.now next.old next.new group.now) (spec.GroupDue endpoints.now block tasks.now next.old group.now) (solutions_in result) }
+    requires asked { CanBeWalked walk.now }
+    ensures { UnfilteredAsked (seen W.Wire wires.old wires.new) walk.now next.old next.new group.now (solutions_in result) }
 {
-    let Ok(mut rows) = one_row(alloc) else {
+    let Ok(mut rows) = one_row(walk.alloc) else {
         return Err(RowsError::Flow(FlowError::Memory));
     };
     let mut in_run = false;
     for element in group.elements.as_slice() {
-        match after_element(
-            rt,
-            alloc,
-            element,
-            rows,
-            &mut in_run,
-            tasks,
-            next,
-            endpoints,
-            block,
-            wires,
-        ) {
+        match after_element(hands, walk, element, rows, &mut in_run, next, wires) {
             Err(error) => return Err(error),
             Ok(found) => rows = found,
         }
     }
-    end_run(
-        rt, alloc, rows, in_run, tasks, next, endpoints, block, wires,
-    )
+    end_run(hands, walk, rows, in_run, next, wires)
 }
 
 // The rows behind an element, from those before it. A run that a triple pattern is in goes on until an operator comes, or the group ends.
 #[cycle(rows)]
-fn after_element<R: Threads + Wait + Sync, W: Wire + Send>(
-    rt: &R,
-    alloc: Global,
+fn after_element<H: DoesFlows<W>, W: Wire>(
+    hands: &H,
+    walk: &Walk<'_>,
     element: &Element,
     before: Vec<Solution>,
     in_run: &mut bool,
-    tasks: &Tasks,
     next: &mut usize,
-    endpoints: &[Endpoint],
-    block: u32,
     wires: &mut [W],
 ) -> Result<Vec<Solution>, RowsError>
+    requires hands { H.flows hands.now }
     requires wired { (0 < length wires.old) × (length wires.old ≤ 16) }
-    requires sendable { All (λ e. is_sendable e ≡ true) endpoints.now }
-    requires block { (0 < block) × (block ≤ 64) }
-    requires asked { All (CanBeAsked (length endpoints.now)) tasks.now }
-    ensures { Asked W.tells_log W.counts_alone (map W.seen wires.old) (map W.seen wires.new) endpoints.now tasks.now block (spec.ElementGiven endpoints.now block tasks.now next.old next.new in_run.old in_run.new element.now before.items) (spec.ElementDue endpoints.now block tasks.now next.old in_run.old element.now before.items) (solutions_in result) }
+    requires asked { CanBeWalked walk.now }
+    ensures { ElementAsked (seen W.Wire wires.old wires.new) walk.now next.old next.new in_run.old in_run.new element.now before.items
+        (solutions_in result) }
 {
     if is_pattern(element) {
         *in_run = true;
@@ -131,148 +107,117 @@ fn after_element<R: Threads + Wait + Sync, W: Wire + Send>(
         return Ok(before);
     }
     if *in_run && is_one_empty(before.as_slice()) {
-        match behind_run(element, tasks, *next) {
+        match behind_run(element, walk.tasks, *next) {
             BehindRun::Union { groups, next: them } => {
                 *in_run = false;
                 *next = them.end;
-                return run_and_union(rt, alloc, groups, them.its, endpoints, block, wires);
+                return run_and_union(hands, walk, groups, them.its, wires);
             }
             BehindRun::Minus { group, next: them } => {
                 *in_run = false;
                 *next = them.end;
-                return run_and_minus(rt, alloc, group, them.its, endpoints, block, wires);
+                return run_and_minus(hands, walk, group, them.its, wires);
             }
             BehindRun::Apart => {}
         }
     }
-    match end_run(
-        rt, alloc, before, *in_run, tasks, next, endpoints, block, wires,
-    ) {
+    match end_run(hands, walk, before, *in_run, next, wires) {
         Err(error) => Err(error),
         Ok(rows) => {
             *in_run = false;
-            after_operator(
-                rt, alloc, element, rows, tasks, next, endpoints, block, wires,
-            )
+            after_operator(hands, walk, element, rows, next, wires)
         }
     }
 }
 
 // The rows behind an operator, from those before it.
 #[cycle(rows)]
-fn after_operator<R: Threads + Wait + Sync, W: Wire + Send>(
-    rt: &R,
-    alloc: Global,
+fn after_operator<H: DoesFlows<W>, W: Wire>(
+    hands: &H,
+    walk: &Walk<'_>,
     element: &Element,
     before: Vec<Solution>,
-    tasks: &Tasks,
     next: &mut usize,
-    endpoints: &[Endpoint],
-    block: u32,
     wires: &mut [W],
 ) -> Result<Vec<Solution>, RowsError>
+    requires hands { H.flows hands.now }
     requires wired { (0 < length wires.old) × (length wires.old ≤ 16) }
-    requires sendable { All (λ e. is_sendable e ≡ true) endpoints.now }
-    requires block { (0 < block) × (block ≤ 64) }
-    requires asked { All (CanBeAsked (length endpoints.now)) tasks.now }
-    ensures { Asked W.tells_log W.counts_alone (map W.seen wires.old) (map W.seen wires.new) endpoints.now tasks.now block (spec.OperatorGiven endpoints.now block tasks.now next.old next.new element.now before.items) (spec.OperatorDue endpoints.now block tasks.now next.old element.now before.items) (solutions_in result) }
+    requires asked { CanBeWalked walk.now }
+    ensures { OperatorAsked (seen W.Wire wires.old wires.new) walk.now next.old next.new element.now before.items (solutions_in result) }
 {
     match element {
         Element::Triple(_) => Ok(before),
         Element::Filter(_) => Ok(before),
-        Element::Optional(group) => {
-            optional(
-                rt, alloc, group, before, tasks, next, endpoints, block, wires,
-            )
-        }
+        Element::Optional(group) => { optional(hands, walk, group, before, next, wires) }
         Element::Union(groups) => {
-            match alternatives(
-                rt,
-                alloc,
-                groups.as_slice(),
-                tasks,
-                next,
-                endpoints,
-                block,
-                wires,
-            ) {
+            match alternatives(hands, walk, groups.as_slice(), next, wires) {
                 Err(error) => Err(error),
-                Ok(found) => joined(alloc, before.as_slice(), found),
+                Ok(found) => joined(walk.alloc, before.as_slice(), found),
             }
         }
         Element::Minus(group) => {
-            match group_rows(rt, alloc, group, tasks, next, endpoints, block, wires) {
+            match group_rows(hands, walk, group, next, wires) {
                 Err(error) => Err(error),
-                Ok(found) => lessened(alloc, before, found),
+                Ok(found) => lessened(walk.alloc, before, found),
             }
         }
-        Element::Bind { expr, name } => extended(alloc, before.as_slice(), name, expr),
-        Element::Values(inline) => with_inline(alloc, before.as_slice(), inline),
+        Element::Bind { expr, name } => extended(walk.alloc, before.as_slice(), name, expr),
+        Element::Values(inline) => with_inline(walk.alloc, before.as_slice(), inline),
         Element::Service {
             silent: _,
             iri: _,
             group: _,
-        } => after_service(alloc, before.as_slice(), tasks, next),
+        } => after_service(walk.alloc, before.as_slice(), walk.tasks, next),
     }
 }
 
 // The rows behind an OPTIONAL, from those before it.
 #[cycle(rows)]
-fn optional<R: Threads + Wait + Sync, W: Wire + Send>(
-    rt: &R,
-    alloc: Global,
+fn optional<H: DoesFlows<W>, W: Wire>(
+    hands: &H,
+    walk: &Walk<'_>,
     group: &Group,
     before: Vec<Solution>,
-    tasks: &Tasks,
     next: &mut usize,
-    endpoints: &[Endpoint],
-    block: u32,
     wires: &mut [W],
 ) -> Result<Vec<Solution>, RowsError>
+    requires hands { H.flows hands.now }
     requires wired { (0 < length wires.old) × (length wires.old ≤ 16) }
-    requires sendable { All (λ e. is_sendable e ≡ true) endpoints.now }
-    requires block { (0 < block) × (block ≤ 64) }
-    requires asked { All (CanBeAsked (length endpoints.now)) tasks.now }
-    ensures { Asked W.tells_log W.counts_alone (map W.seen wires.old) (map W.seen wires.new) endpoints.now tasks.now block (spec.OperatorGiven endpoints.now block tasks.now next.old next.new (Element.Optional group.now) before.items) (spec.OperatorDue endpoints.now block tasks.now next.old (Element.Optional group.now) before.items) (solutions_in result) }
+    requires asked { CanBeWalked walk.now }
+    ensures { OperatorAsked (seen W.Wire wires.old wires.new) walk.now next.old next.new (Element.Optional group.now) before.items (solutions_in result) }
 {
     if is_simple(group) {
-        return optional_run(
-            rt, alloc, group, before, tasks, next, endpoints, block, wires,
-        );
+        return optional_run(hands, walk, group, before, next, wires);
     }
-    match unfiltered(rt, alloc, group, tasks, next, endpoints, block, wires) {
+    match unfiltered(hands, walk, group, next, wires) {
         Err(error) => Err(error),
-        Ok(found) => left_joined(alloc, before, found, group),
+        Ok(found) => left_joined(walk.alloc, before, found, group),
     }
 }
 
 // The rows of groups, one after the other.
 #[cycle(rows)]
-fn alternatives<R: Threads + Wait + Sync, W: Wire + Send>(
-    rt: &R,
-    alloc: Global,
+fn alternatives<H: DoesFlows<W>, W: Wire>(
+    hands: &H,
+    walk: &Walk<'_>,
     groups: &[Group],
-    tasks: &Tasks,
     next: &mut usize,
-    endpoints: &[Endpoint],
-    block: u32,
     wires: &mut [W],
 ) -> Result<Vec<Solution>, RowsError>
+    requires hands { H.flows hands.now }
     requires wired { (0 < length wires.old) × (length wires.old ≤ 16) }
-    requires sendable { All (λ e. is_sendable e ≡ true) endpoints.now }
-    requires block { (0 < block) × (block ≤ 64) }
-    requires asked { All (CanBeAsked (length endpoints.now)) tasks.now }
-    ensures { Asked W.tells_log W.counts_alone (map W.seen wires.old) (map W.seen wires.new) endpoints.now tasks.now block (spec.AlternativesGiven endpoints.now block tasks.now next.old next.new groups.now) (spec.AlternativesDue endpoints.now block tasks.now next.old groups.now) (solutions_in result) }
+    requires asked { CanBeWalked walk.now }
+    ensures { AlternativesAsked (seen W.Wire wires.old wires.new) walk.now next.old next.new groups.now (solutions_in result) }
 {
     if groups.len() > 1 {
-        if let Some(them) = next_runs(groups, 0, tasks, *next) {
+        if let Some(them) = next_runs(groups, 0, walk.tasks, *next) {
             *next = them.end;
-            return union_rows(rt, alloc, groups, them.its, endpoints, block, wires);
+            return union_rows(hands, walk, groups, them.its, wires);
         }
     }
-    let mut rows = Vec::new(alloc);
+    let mut rows = Vec::new(walk.alloc);
     for group in groups {
-        match group_rows(rt, alloc, group, tasks, next, endpoints, block, wires) {
+        match group_rows(hands, walk, group, next, wires) {
             Err(error) => return Err(error),
             Ok(mut found) => {
                 if rows.append(&mut found).is_err() {
@@ -285,65 +230,48 @@ fn alternatives<R: Threads + Wait + Sync, W: Wire + Send>(
 }
 
 // The rows behind an OPTIONAL whose group is one run, which begins with the rows before it.
-fn optional_run<R: Threads + Wait + Sync, W: Wire + Send>(
-    rt: &R,
-    alloc: Global,
+fn optional_run<H: DoesFlows<W>, W: Wire>(
+    hands: &H,
+    walk: &Walk<'_>,
     group: &Group,
     before: Vec<Solution>,
-    tasks: &Tasks,
     next: &mut usize,
-    endpoints: &[Endpoint],
-    block: u32,
     wires: &mut [W],
 ) -> Result<Vec<Solution>, RowsError>
+    requires hands { H.flows hands.now }
     requires wired { (0 < length wires.old) × (length wires.old ≤ 16) }
-    requires sendable { All (λ e. is_sendable e ≡ true) endpoints.now }
-    requires block { (0 < block) × (block ≤ 64) }
-    requires asked { All (CanBeAsked (length endpoints.now)) tasks.now }
+    requires asked { CanBeWalked walk.now }
     requires simple { (group_of group.now).is_simple ≡ true }
-    ensures { Asked W.tells_log W.counts_alone (map W.seen wires.old) (map W.seen wires.new) endpoints.now tasks.now block (spec.OperatorGiven endpoints.now block tasks.now next.old next.new (Element.Optional group.now) before.items) (spec.OperatorDue endpoints.now block tasks.now next.old (Element.Optional group.now) before.items) (solutions_in result) }
+    ensures { OperatorAsked (seen W.Wire wires.old wires.new) walk.now next.old next.new (Element.Optional group.now) before.items (solutions_in result) }
 {
     known_to_rise(before.as_slice());
     if !has_pattern(group) {
-        return filters_alone(alloc, before, group);
+        return filters_alone(walk.alloc, before, group);
     }
-    match after_run(
-        rt,
-        alloc,
-        before.as_slice(),
-        tasks,
-        next,
-        endpoints,
-        block,
-        wires,
-    ) {
+    match after_run(hands, walk, before.as_slice(), next, wires) {
         Err(error) => Err(error),
-        Ok(found) => with_optional(alloc, group, before, found),
+        Ok(found) => with_optional(walk.alloc, group, before, found),
     }
 }
 
 // What comes of the run whose task is next, from these rows on: they are numbered from 0. Where one of its patterns has no source,
 // nothing does, and nothing is asked for; nor is it behind an occurrence of SERVICE that was refused.
-fn after_run<R: Threads + Wait + Sync, W: Wire + Send>(
-    rt: &R,
-    alloc: Global,
+fn after_run<H: DoesFlows<W>, W: Wire>(
+    hands: &H,
+    walk: &Walk<'_>,
     rows: &[Solution],
-    tasks: &Tasks,
     next: &mut usize,
-    endpoints: &[Endpoint],
-    block: u32,
     wires: &mut [W],
 ) -> Result<Vec<Row>, RowsError>
+    requires hands { H.flows hands.now }
     requires wired { (0 < length wires.old) × (length wires.old ≤ 16) }
-    requires sendable { All (λ e. is_sendable e ≡ true) endpoints.now }
-    requires block { (0 < block) × (block ≤ 64) }
-    requires asked { All (CanBeAsked (length endpoints.now)) tasks.now }
-    ensures { Asked W.tells_log W.counts_alone (map W.seen wires.old) (map W.seen wires.new) endpoints.now tasks.now block (spec.RunGiven endpoints.now block tasks.now next.old next.new rows.now) (spec.RunDue endpoints.now block tasks.now next.old rows.now) (found_in result) }
+    requires asked { CanBeWalked walk.now }
+    ensures { RunAsked (seen W.Wire wires.old wires.new) walk.now next.old next.new rows.now (found_in result) }
 {
-    if *next >= tasks.len() {
-        return Ok(Vec::new(alloc));
+    if *next >= walk.tasks.len() {
+        return Ok(Vec::new(walk.alloc));
     }
-    let front = tasks.front();
+    let front = walk.tasks.front();
     if *next >= front.len() {
         return Err(RowsError::Refused);
     }
@@ -351,51 +279,45 @@ fn after_run<R: Threads + Wait + Sync, W: Wire + Send>(
     *next += 1;
     match task {
         Task::Run { units } => {
-            match run_flow(rt, alloc, endpoints, units.as_slice(), rows, block, wires) {
+            match hands.run_flow(
+                walk.alloc,
+                walk.endpoints,
+                units.as_slice(),
+                rows,
+                walk.block,
+                wires,
+            ) {
                 Err(error) => Err(RowsError::Flow(error)),
                 Ok(found) => Ok(found),
             }
         }
-        Task::EmptyRun => Ok(Vec::new(alloc)),
-        Task::Service { rows: _ } => Ok(Vec::new(alloc)),
-        Task::Refused => Ok(Vec::new(alloc)),
+        Task::EmptyRun => Ok(Vec::new(walk.alloc)),
+        Task::Service { rows: _ } => Ok(Vec::new(walk.alloc)),
+        Task::Refused => Ok(Vec::new(walk.alloc)),
     }
 }
 
 // The rows behind the run that ends here, if there is one.
-fn end_run<R: Threads + Wait + Sync, W: Wire + Send>(
-    rt: &R,
-    alloc: Global,
+fn end_run<H: DoesFlows<W>, W: Wire>(
+    hands: &H,
+    walk: &Walk<'_>,
     before: Vec<Solution>,
     in_run: bool,
-    tasks: &Tasks,
     next: &mut usize,
-    endpoints: &[Endpoint],
-    block: u32,
     wires: &mut [W],
 ) -> Result<Vec<Solution>, RowsError>
+    requires hands { H.flows hands.now }
     requires wired { (0 < length wires.old) × (length wires.old ≤ 16) }
-    requires sendable { All (λ e. is_sendable e ≡ true) endpoints.now }
-    requires block { (0 < block) × (block ≤ 64) }
-    requires asked { All (CanBeAsked (length endpoints.now)) tasks.now }
-    ensures { Asked W.tells_log W.counts_alone (map W.seen wires.old) (map W.seen wires.new) endpoints.now tasks.now block (spec.EndGiven endpoints.now block tasks.now next.old next.new in_run before.items) (spec.EndDue endpoints.now block tasks.now next.old in_run before.items) (solutions_in result) }
+    requires asked { CanBeWalked walk.now }
+    ensures { EndAsked (seen W.Wire wires.old wires.new) walk.now next.old next.new in_run before.items (solutions_in result) }
 {
     if !in_run {
         return Ok(before);
     }
     known_to_rise(before.as_slice());
-    match after_run(
-        rt,
-        alloc,
-        before.as_slice(),
-        tasks,
-        next,
-        endpoints,
-        block,
-        wires,
-    ) {
+    match after_run(hands, walk, before.as_slice(), next, wires) {
         Err(error) => Err(error),
-        Ok(found) => solutions(alloc, found),
+        Ok(found) => solutions(walk.alloc, found),
     }
 }
 
@@ -408,7 +330,7 @@ fn after_service(
     tasks: &Tasks,
     next: &mut usize,
 ) -> Result<Vec<Solution>, RowsError>
-    ensures { spec.IsBehindService tasks.now next.old next.new before.now (solutions_in result) }
+    ensures { IsBehindService tasks.now next.old next.new before.now (solutions_in result) }
 {
     let tasks = tasks.all();
     if *next >= tasks.len() {

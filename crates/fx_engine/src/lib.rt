@@ -7,23 +7,22 @@ mod choices;
 mod fault_texts;
 mod gathering;
 mod groups;
+mod hands;
 mod invocations;
-pub mod laws;
 pub mod mediator;
-mod optionals;
 mod outcomes;
-mod parts;
-mod planning;
-mod sections;
-mod tasks;
+mod questions;
+mod rows;
 mod together;
-mod unknown;
+mod walks;
 
 pub use fault_texts::{fault_code, fault_words};
 pub use fx_pool::{BadReply, ReplyFault};
 pub use fx_services::{Down, DownCause};
 use fx_terms::shareable;
-pub use mediator::{FedError, MemberName, Options, Outcome, federate, plan_parts};
+pub use mediator::{
+    FedError, MemberName, Options, Outcome, federate, federate_by, plan_parts, plan_parts_by,
+};
 
 /// Every type that the calls of this crate take or give may be shared between threads and sent to them.
 pub fn all_shareable() {

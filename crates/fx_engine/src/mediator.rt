@@ -1,20 +1,28 @@
 //! The mediator over several wires: the answer of a query over the union of the graphs of a registry's endpoints, and its plan.
-ghost use Rattle.std.specs.Prelude.{◌≡◌, ◌<◌, ◌≤◌, None, length, map, string_bytes, IfOk};
-ghost use Rattle.fx_engine.specs.Unknown.{unknown_of};
+ghost use Rattle.std.specs.Prelude.{◌≡◌, ◌<◌, ◌≤◌, All, IfOk, None, length, string_bytes, true};
+ghost use Rattle.fx_outside.specs.Endpoints.{is_sendable};
+ghost use Rattle.fx_spelling.specs.Units.{IsFit};
+ghost use Rattle.fx_side_by_side.specs.SideBySide.{CanAsk};
+ghost use Rattle.fx_walks.specs.Unknown.{unknown_of};
 ghost use Rattle.fx_grammar.specs.Accepted.{IsSpellable};
-ghost use Rattle.fx_engine.specs.Mediation.{Federated, HasName, IsNamed, IsPlaced, Planned, parts_in};
+ghost use Rattle.fx_engine.specs.Mediation.{HasName, IsNamed, IsPlaced, parts_in};
+ghost use Rattle.fx_engine.specs.Questions.{FederatedBy, PlannedBy};
+ghost use Rattle.fx_traffic.specs.Gains.{seen};
 
 use crate::choices::{Choice, choose_parts};
+use crate::hands::ByCalls;
 use crate::outcomes::outcome_by_plan;
-use crate::unknown::unknown_service;
-use fx_algebra::{Answer, Query};
-use fx_flows::FlowError;
+use crate::questions::Question;
+use fx_algebra::{Answer, Query, Row, Solution, Unit};
+use fx_flows::{FlowError, run_flow};
 use fx_outside::Endpoint;
 use fx_plan::Part;
-use fx_pool::BadReply;
-use fx_services::Down;
+use fx_pool::{BadReply, Job, JobReply, run_jobs};
+use fx_services::{DoesJobs, Down};
+use fx_side_by_side::{DoesFlows, run_side_by_side};
 use fx_sources::{AskCache, Registry};
 use fx_terms::{Iri, Items, Memory};
+use fx_walks::unknown::unknown_service;
 use fx_wire::Wire;
 use std::alloc::Global;
 use std::marker::Model;
@@ -110,18 +118,44 @@ pub fn federate<R: Threads + Wait + Sync, W: Wire + Send>(
     requires wired { (0 < length wires.old) × (length wires.old ≤ 16) }
     requires block { (0 < options.block) × (options.block ≤ 64) }
     requires spellable { IsSpellable query.now }
-    ensures { Federated W.tells_log W.counts_alone (map W.seen wires.old) (map W.seen wires.new) registry.now query.now cache.old cache.new options.block result }
+    ensures { FederatedBy (seen W.Wire wires.old wires.new) registry.now query.now cache.old cache.new options.block result }
 {
-    match unknown_service(alloc, query, registry) {
-        Err(Memory) => Err(FedError::Memory),
-        Ok(Some(iri)) => Err(FedError::UnknownService { iri }),
-        Ok(None) => federate_known(rt, alloc, query, registry, cache, options, wires),
-    }
+    let hands = ByCalls {
+        jobs: |alloc: Global, endpoints: &[Endpoint], jobs: &[Job], wires: &mut [W]| -> Result<
+            Vec<JobReply>,
+            Memory,
+        >
+            requires wired { (0 < length wires.now) × (length wires.now ≤ 16) }
+            requires sendable { All (λ e. is_sendable e ≡ true) endpoints.now }
+            requires within { All (λ j. j.at < length endpoints.now) jobs.now }
+            requires few { length jobs.now < 4294967296 }
+        { run_jobs(rt, alloc, endpoints, jobs, wires) },
+        flow: |alloc: Global, endpoints: &[Endpoint], units: &[Unit], rows: &[Solution], block: u32, wires: &mut [W]| -> Result<
+            Vec<Row>,
+            FlowError,
+        >
+            requires wired { (0 < length wires.now) × (length wires.now ≤ 16) }
+            requires sendable { All (λ e. is_sendable e ≡ true) endpoints.now }
+            requires some { 0 < length units.now }
+            requires fit { All IsFit units.now }
+            requires block { (0 < block) × (block ≤ 64) }
+            requires within { All (λ u. All (λ at. at < length endpoints.now) u.members) units.now }
+        { run_flow(rt, alloc, endpoints, units, rows, block, wires) },
+        side_by_side: |alloc: Global, endpoints: &[Endpoint], runs: &[Items<
+            Unit,
+        >], block: u32, wires: &mut [W]| -> Result<Vec<Result<Items<Row>, FlowError>>, Memory>
+            requires wired { (0 < length wires.now) × (length wires.now ≤ 16) }
+            requires sendable { All (λ e. is_sendable e ≡ true) endpoints.now }
+            requires block { (0 < block) × (block ≤ 64) }
+            requires runs { All (CanAsk (length endpoints.now)) runs.now }
+        { run_side_by_side(rt, alloc, endpoints, runs, block, wires) },
+    };
+    federate_by(&hands, alloc, query, registry, cache, options, wires)
 }
 
-// The same, where each SERVICE without SILENT names an endpoint.
-fn federate_known<R: Threads + Wait + Sync, W: Wire + Send>(
-    rt: &R,
+/// The same, with the requests made as these hands make them.
+pub fn federate_by<H: DoesJobs<W> + DoesFlows<W>, W: Wire>(
+    hands: &H,
     alloc: Global,
     query: &Query,
     registry: &Registry,
@@ -129,13 +163,37 @@ fn federate_known<R: Threads + Wait + Sync, W: Wire + Send>(
     options: Options,
     wires: &mut [W],
 ) -> Result<Outcome, FedError>
+    requires hands { H.does hands.now × H.flows hands.now }
+    requires wired { (0 < length wires.old) × (length wires.old ≤ 16) }
+    requires block { (0 < options.block) × (options.block ≤ 64) }
+    requires spellable { IsSpellable query.now }
+    ensures { FederatedBy (seen W.Wire wires.old wires.new) registry.now query.now cache.old cache.new options.block result }
+{
+    match unknown_service(alloc, query, registry) {
+        Err(Memory) => Err(FedError::Memory),
+        Ok(Some(iri)) => Err(FedError::UnknownService { iri }),
+        Ok(None) => federate_known(hands, alloc, query, registry, cache, options, wires),
+    }
+}
+
+// The same, where each SERVICE without SILENT names an endpoint.
+fn federate_known<H: DoesJobs<W> + DoesFlows<W>, W: Wire>(
+    hands: &H,
+    alloc: Global,
+    query: &Query,
+    registry: &Registry,
+    cache: &mut AskCache,
+    options: Options,
+    wires: &mut [W],
+) -> Result<Outcome, FedError>
+    requires hands { H.does hands.now × H.flows hands.now }
     requires wired { (0 < length wires.old) × (length wires.old ≤ 16) }
     requires block { (0 < options.block) × (options.block ≤ 64) }
     requires spellable { IsSpellable query.now }
     requires known { unknown_of registry.now query.now ≡ None }
-    ensures { Federated W.tells_log W.counts_alone (map W.seen wires.old) (map W.seen wires.new) registry.now query.now cache.old cache.new options.block result }
+    ensures { FederatedBy (seen W.Wire wires.old wires.new) registry.now query.now cache.old cache.new options.block result }
 {
-    match choose_parts(rt, alloc, query, registry, cache, wires) {
+    match choose_parts(hands, alloc, query, registry, cache, wires) {
         Err(error) => Err(named(alloc, registry.endpoints(), error)),
         Ok(
             Choice {
@@ -143,13 +201,20 @@ fn federate_known<R: Threads + Wait + Sync, W: Wire + Send>(
                 truths,
                 parts,
             },
-        ) => match outcome_by_plan(rt, alloc, query, parts, registry, options.block, wires) {
-            Err(error) => Err(error),
-            Ok(outcome) => match cache.learn(probes, truths.as_slice()) {
-                Err(Memory) => Err(FedError::Memory),
-                Ok(()) => Ok(outcome),
-            },
-        },
+        ) => {
+            let question = Question {
+                query,
+                registry,
+                block: options.block,
+            };
+            match outcome_by_plan(hands, alloc, &question, parts, wires) {
+                Err(error) => Err(error),
+                Ok(outcome) => match cache.learn(probes, truths.as_slice()) {
+                    Err(Memory) => Err(FedError::Memory),
+                    Ok(()) => Ok(outcome),
+                },
+            }
+        }
     }
 }
 
@@ -169,30 +234,61 @@ pub fn plan_parts<R: Threads + Wait + Sync, W: Wire + Send>(
 ) -> Result<Vec<Part>, FedError>
     requires wired { (0 < length wires.old) × (length wires.old ≤ 16) }
     requires spellable { IsSpellable query.now }
-    ensures { Planned W.tells_log W.counts_alone (map W.seen wires.old) (map W.seen wires.new) registry.now query.now cache.old cache.new (parts_in result) }
+    ensures { PlannedBy (seen W.Wire wires.old wires.new) registry.now query.now cache.old cache.new (parts_in result) }
 {
-    match unknown_service(alloc, query, registry) {
-        Err(Memory) => Err(FedError::Memory),
-        Ok(Some(iri)) => Err(FedError::UnknownService { iri }),
-        Ok(None) => plan_known(rt, alloc, query, registry, cache, wires),
-    }
+    let hands = ByCalls {
+        jobs: |alloc: Global, endpoints: &[Endpoint], jobs: &[Job], wires: &mut [W]| -> Result<
+            Vec<JobReply>,
+            Memory,
+        >
+            requires wired { (0 < length wires.now) × (length wires.now ≤ 16) }
+            requires sendable { All (λ e. is_sendable e ≡ true) endpoints.now }
+            requires within { All (λ j. j.at < length endpoints.now) jobs.now }
+            requires few { length jobs.now < 4294967296 }
+        { run_jobs(rt, alloc, endpoints, jobs, wires) },
+        flow: (),
+        side_by_side: (),
+    };
+    plan_parts_by(&hands, alloc, query, registry, cache, wires)
 }
 
-// The same, where each SERVICE without SILENT names an endpoint.
-fn plan_known<R: Threads + Wait + Sync, W: Wire + Send>(
-    rt: &R,
+/// The same, with the requests made as these hands make them.
+pub fn plan_parts_by<H: DoesJobs<W>, W: Wire>(
+    hands: &H,
     alloc: Global,
     query: &Query,
     registry: &Registry,
     cache: &mut AskCache,
     wires: &mut [W],
 ) -> Result<Vec<Part>, FedError>
+    requires hands { H.does hands.now }
+    requires wired { (0 < length wires.old) × (length wires.old ≤ 16) }
+    requires spellable { IsSpellable query.now }
+    ensures { PlannedBy (seen W.Wire wires.old wires.new) registry.now query.now cache.old cache.new (parts_in result) }
+{
+    match unknown_service(alloc, query, registry) {
+        Err(Memory) => Err(FedError::Memory),
+        Ok(Some(iri)) => Err(FedError::UnknownService { iri }),
+        Ok(None) => plan_known(hands, alloc, query, registry, cache, wires),
+    }
+}
+
+// The same, where each SERVICE without SILENT names an endpoint.
+fn plan_known<H: DoesJobs<W>, W: Wire>(
+    hands: &H,
+    alloc: Global,
+    query: &Query,
+    registry: &Registry,
+    cache: &mut AskCache,
+    wires: &mut [W],
+) -> Result<Vec<Part>, FedError>
+    requires hands { H.does hands.now }
     requires wired { (0 < length wires.old) × (length wires.old ≤ 16) }
     requires spellable { IsSpellable query.now }
     requires known { unknown_of registry.now query.now ≡ None }
-    ensures { Planned W.tells_log W.counts_alone (map W.seen wires.old) (map W.seen wires.new) registry.now query.now cache.old cache.new (parts_in result) }
+    ensures { PlannedBy (seen W.Wire wires.old wires.new) registry.now query.now cache.old cache.new (parts_in result) }
 {
-    match choose_parts(rt, alloc, query, registry, cache, wires) {
+    match choose_parts(hands, alloc, query, registry, cache, wires) {
         Err(error) => Err(named(alloc, registry.endpoints(), error)),
         Ok(
             Choice {

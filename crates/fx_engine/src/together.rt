@@ -3,27 +3,25 @@ ghost use Rattle.std.specs.Prelude.{◌≡◌, ◌∷◌, ◌+◌, ◌<◌, ◌�
 ghost use Rattle.std.specs.List.{list_all};
 ghost use Rattle.std.specs.Vec.Iter.{into_iter_items};
 ghost use Rattle.fx_algebra.specs.Groups.{one_empty};
-ghost use Rattle.fx_outside.specs.Endpoints.{is_sendable};
 ghost use Rattle.fx_steps.specs.Steps.{solutions_of};
-ghost use Rattle.fx_engine.specs.Asked.{Asked};
-ghost use Rattle.fx_engine.specs.GroupsAsked.{AlternativesDue, AlternativesGiven, CanBeAsked, ElementDue, ElementGiven, solutions_in};
-ghost use Rattle.fx_engine.specs.Tasks.{front_of};
+ghost use Rattle.fx_engine.specs.RowsAsked.{CanBeAsked, solutions_in};
 ghost use Rattle.fx_engine.specs.Together as spec;
-ghost use Rattle.fx_engine.specs.declared.tasks.Task.{Task as TaskParts};
+ghost use Rattle.fx_walks.specs.Tasks.{AreNext};
+ghost use Rattle.fx_engine.specs.Walks.{BehindAsked, BothAsked, OneRunsAsked, TasksAsked};
+ghost use Rattle.fx_traffic.specs.Gains.{seen};
 
 use crate::groups::{filtered, has_pattern, joined, lessened};
-use crate::sections::is_simple;
-use crate::tasks::{RowsError, Task, Tasks};
+use crate::rows::RowsError;
+use crate::walks::Walk;
 use fx_algebra::{Element, Group, Row, Solution, Unit};
 use fx_flows::FlowError;
-use fx_outside::Endpoint;
-use fx_side_by_side::run_side_by_side;
+use fx_side_by_side::DoesFlows;
 use fx_terms::{Items, Memory};
+use fx_walks::sections::is_simple;
+use fx_walks::tasks::{Task, Tasks};
 use fx_wire::Wire;
 use std::alloc::Global;
 use std::slice::from_ref;
-use std::sync::Wait;
-use std::thread::Threads;
 use std::vec::IntoIter;
 
 // ---- which runs go together
@@ -97,7 +95,7 @@ pub(crate) fn next_runs<'a>(
 
 // So many tasks that are next.
 fn next_tasks(tasks: &Tasks, next: usize, count: usize) -> Option<NextTasks<'_>>
-    ensures { IfSome result (λ it. spec.AreNext tasks.now next count it.its.now it.end) }
+    ensures { IfSome result (λ it. AreNext tasks.now next count it.its.now it.end) }
 {
     let front = tasks.front();
     if next > front.len() || count > front.len() - next {
@@ -143,90 +141,78 @@ pub(crate) fn is_one_empty(rows: &[Solution]) -> bool
 // ---- their rows
 
 /// The rows of groups of which each is one run, one after the other.
-pub(crate) fn union_rows<R: Threads + Wait + Sync, W: Wire + Send>(
-    rt: &R,
-    alloc: Global,
+pub(crate) fn union_rows<H: DoesFlows<W>, W: Wire>(
+    hands: &H,
+    walk: &Walk<'_>,
     groups: &[Group],
     its: &[Task],
-    endpoints: &[Endpoint],
-    block: u32,
     wires: &mut [W],
 ) -> Result<Vec<Solution>, RowsError>
+    requires hands { H.flows hands.now }
     requires wired { (0 < length wires.old) × (length wires.old ≤ 16) }
-    requires sendable { All (λ e. is_sendable e ≡ true) endpoints.now }
-    requires block { (0 < block) × (block ≤ 64) }
-    requires asked { All (CanBeAsked (length endpoints.now)) its.now }
-    ensures { (tasks : List TaskParts) (next end : ℕ) → spec.AreOneRuns tasks next (length groups.now) groups.now its.now end → Asked W.tells_log W.counts_alone (map W.seen wires.old) (map W.seen wires.new) endpoints.now tasks block (AlternativesGiven endpoints.now block tasks next end groups.now) (AlternativesDue endpoints.now block tasks next groups.now) (solutions_in result) }
+    requires asked { All (CanBeAsked (length walk.now.endpoints.now)) its.now }
+    ensures { OneRunsAsked (seen W.Wire wires.old wires.new) walk.now groups.now its.now (solutions_in result) }
 {
-    match rows_together(rt, alloc, its, endpoints, block, wires) {
+    match rows_together(hands, walk, its, wires) {
         Err(error) => Err(error),
-        Ok(founds) => rows_of_runs(alloc, groups, founds),
+        Ok(founds) => rows_of_runs(walk.alloc, groups, founds),
     }
 }
 
 /// The rows of a run that begins with the one empty solution, joined with those of a UNION behind it.
-pub(crate) fn run_and_union<R: Threads + Wait + Sync, W: Wire + Send>(
-    rt: &R,
-    alloc: Global,
+pub(crate) fn run_and_union<H: DoesFlows<W>, W: Wire>(
+    hands: &H,
+    walk: &Walk<'_>,
     groups: &[Group],
     its: &[Task],
-    endpoints: &[Endpoint],
-    block: u32,
     wires: &mut [W],
 ) -> Result<Vec<Solution>, RowsError>
+    requires hands { H.flows hands.now }
     requires wired { (0 < length wires.old) × (length wires.old ≤ 16) }
-    requires sendable { All (λ e. is_sendable e ≡ true) endpoints.now }
-    requires block { (0 < block) × (block ≤ 64) }
-    requires asked { All (CanBeAsked (length endpoints.now)) its.now }
-    ensures { spec.GoesBehind W.tells_log W.counts_alone (map W.seen wires.old) (map W.seen wires.new) endpoints.now block (Element.Union groups.now) groups.now its.now (solutions_in result) }
+    requires asked { All (CanBeAsked (length walk.now.endpoints.now)) its.now }
+    ensures { BehindAsked (seen W.Wire wires.old wires.new) walk.now (Element.Union groups.now) groups.now its.now (solutions_in result) }
 {
-    match run_and_groups(rt, alloc, groups, its, endpoints, block, wires) {
+    match run_and_groups(hands, walk, groups, its, wires) {
         Err(error) => Err(error),
-        Ok((rows, found)) => joined(alloc, rows.as_slice(), found),
+        Ok((rows, found)) => joined(walk.alloc, rows.as_slice(), found),
     }
 }
 
 /// The rows of a run that begins with the one empty solution, without those that a MINUS behind it removes.
-pub(crate) fn run_and_minus<R: Threads + Wait + Sync, W: Wire + Send>(
-    rt: &R,
-    alloc: Global,
+pub(crate) fn run_and_minus<H: DoesFlows<W>, W: Wire>(
+    hands: &H,
+    walk: &Walk<'_>,
     group: &Group,
     its: &[Task],
-    endpoints: &[Endpoint],
-    block: u32,
     wires: &mut [W],
 ) -> Result<Vec<Solution>, RowsError>
+    requires hands { H.flows hands.now }
     requires wired { (0 < length wires.old) × (length wires.old ≤ 16) }
-    requires sendable { All (λ e. is_sendable e ≡ true) endpoints.now }
-    requires block { (0 < block) × (block ≤ 64) }
-    requires asked { All (CanBeAsked (length endpoints.now)) its.now }
-    ensures { spec.GoesBehind W.tells_log W.counts_alone (map W.seen wires.old) (map W.seen wires.new) endpoints.now block (Element.Minus group.now) (group.now ∷ []) its.now (solutions_in result) }
+    requires asked { All (CanBeAsked (length walk.now.endpoints.now)) its.now }
+    ensures { BehindAsked (seen W.Wire wires.old wires.new) walk.now (Element.Minus group.now) (group.now ∷ []) its.now (solutions_in result) }
 {
-    match run_and_groups(rt, alloc, from_ref(group), its, endpoints, block, wires) {
+    match run_and_groups(hands, walk, from_ref(group), its, wires) {
         Err(error) => Err(error),
-        Ok((rows, found)) => lessened(alloc, rows, found),
+        Ok((rows, found)) => lessened(walk.alloc, rows, found),
     }
 }
 
 // The rows of a run that begins with the one empty solution, and those of groups behind it of which each is one run.
-fn run_and_groups<R: Threads + Wait + Sync, W: Wire + Send>(
-    rt: &R,
-    alloc: Global,
+fn run_and_groups<H: DoesFlows<W>, W: Wire>(
+    hands: &H,
+    walk: &Walk<'_>,
     groups: &[Group],
     its: &[Task],
-    endpoints: &[Endpoint],
-    block: u32,
     wires: &mut [W],
 ) -> Result<(Vec<Solution>, Vec<Solution>), RowsError>
+    requires hands { H.flows hands.now }
     requires wired { (0 < length wires.old) × (length wires.old ≤ 16) }
-    requires sendable { All (λ e. is_sendable e ≡ true) endpoints.now }
-    requires block { (0 < block) × (block ≤ 64) }
-    requires asked { All (CanBeAsked (length endpoints.now)) its.now }
-    ensures { spec.RunAndGroups W.tells_log W.counts_alone (map W.seen wires.old) (map W.seen wires.new) endpoints.now block groups.now its.now (spec.both_in result) }
+    requires asked { All (CanBeAsked (length walk.now.endpoints.now)) its.now }
+    ensures { BothAsked (seen W.Wire wires.old wires.new) walk.now groups.now its.now (spec.both_in result) }
 {
-    match rows_together(rt, alloc, its, endpoints, block, wires) {
+    match rows_together(hands, walk, its, wires) {
         Err(error) => Err(error),
-        Ok(founds) => parted(alloc, groups, founds),
+        Ok(founds) => parted(walk.alloc, groups, founds),
     }
 }
 
@@ -302,26 +288,29 @@ fn solutions_back(alloc: Global, found: Items<Row>) -> Result<Vec<Solution>, Row
 // ---- what is found for them
 
 // What is found for each of these tasks, from the one empty solution on, or the first refusal in their order. Nothing is found for a task that is no run.
-fn rows_together<R: Threads + Wait + Sync, W: Wire + Send>(
-    rt: &R,
-    alloc: Global,
+fn rows_together<H: DoesFlows<W>, W: Wire>(
+    hands: &H,
+    walk: &Walk<'_>,
     its: &[Task],
-    endpoints: &[Endpoint],
-    block: u32,
     wires: &mut [W],
 ) -> Result<Vec<Items<Row>>, RowsError>
+    requires hands { H.flows hands.now }
     requires wired { (0 < length wires.old) × (length wires.old ≤ 16) }
-    requires sendable { All (λ e. is_sendable e ≡ true) endpoints.now }
-    requires block { (0 < block) × (block ≤ 64) }
-    requires asked { All (CanBeAsked (length endpoints.now)) its.now }
-    ensures { (tasks : List TaskParts) → All (Contains (front_of tasks)) its.now → Asked W.tells_log W.counts_alone (map W.seen wires.old) (map W.seen wires.new) endpoints.now tasks block (spec.TasksGiven endpoints.now block its.now) (spec.TasksDue endpoints.now block its.now) (spec.founds_in result) }
+    requires asked { All (CanBeAsked (length walk.now.endpoints.now)) its.now }
+    ensures { TasksAsked (seen W.Wire wires.old wires.new) walk.now its.now (spec.founds_in result) }
 {
-    match runs_of(alloc, its) {
+    match runs_of(walk.alloc, its) {
         Err(Memory) => Err(RowsError::Flow(FlowError::Memory)),
         Ok(runs) => {
-            match run_side_by_side(rt, alloc, endpoints, runs.as_slice(), block, wires) {
+            match hands.run_side_by_side(
+                walk.alloc,
+                walk.endpoints,
+                runs.as_slice(),
+                walk.block,
+                wires,
+            ) {
                 Err(Memory) => Err(RowsError::Flow(FlowError::Memory)),
-                Ok(results) => founds_of(alloc, its, results),
+                Ok(results) => founds_of(walk.alloc, its, results),
             }
         }
     }

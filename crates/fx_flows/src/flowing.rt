@@ -28,7 +28,7 @@ pub(crate) fn flow<R: Threads + Wait + Sync, W: Wire + Send, U: Step + Sync>(
     requires run { CanFollow run.now.endpoints.now (map U.unit run.now.units.now) run.now.shape }
     requires shape { me.old.me.view.client.shape ≡ Some run.now.shape }
     ensures pass { IsSegPassOf queue.now.line.now me.new × IsSamePass me.old.me.view.client me.new.me.view.client }
-    ensures flowed { HaveFlowedOver (seen W.tells_log W.counts_alone (map W.seen wires.old) (map W.seen wires.new))
+    ensures flowed { HaveFlowedOver (seen W.Wire wires.old wires.new)
         run.now.endpoints.now (map U.unit run.now.units.now) run.now.shape me.old.me.view.client me.new.me.view.client result }
 {
     if wires.len() < 2 {
@@ -48,7 +48,7 @@ pub(crate) fn flow<R: Threads + Wait + Sync, W: Wire + Send, U: Step + Sync>(
             requires run { CanFollow endpoints.now (map U.unit units.now) shape.now }
             requires shape { me.now.me.view.client.shape ≡ Some shape.now }
             ensures pass { IsSegPassOf line.entry.now me.exit.now × IsSamePass me.entry.now.me.view.client me.exit.now.me.view.client }
-            ensures flowed { HaveFlowedOver (seen W.tells_log W.counts_alone (map W.seen left.entry.now) (map W.seen left.exit.now))
+            ensures flowed { HaveFlowedOver (seen W.Wire left.entry.now left.exit.now)
                 endpoints.entry.now (map U.unit units.entry.now) shape.entry.now me.entry.now.me.view.client me.exit.now.me.view.client result }
         {
             let queue = Queue {
@@ -70,7 +70,7 @@ pub(crate) fn flow<R: Threads + Wait + Sync, W: Wire + Send, U: Step + Sync>(
             requires run { CanFollow endpoints.now (map U.unit units.now) shape.now }
             requires shape { them.now.me.view.client.shape ≡ Some shape.now }
             ensures pass { IsSegPassOf line.entry.now them.exit.now × IsSamePass them.entry.now.me.view.client them.exit.now.me.view.client }
-            ensures flowed { HaveFlowedOver (seen W.tells_log W.counts_alone (map W.seen right.entry.now) (map W.seen right.exit.now))
+            ensures flowed { HaveFlowedOver (seen W.Wire right.entry.now right.exit.now)
                 endpoints.entry.now (map U.unit units.entry.now) shape.entry.now them.entry.now.me.view.client them.exit.now.me.view.client result }
         {
             let queue = Queue {
@@ -103,7 +103,7 @@ pub(crate) fn flow_out<R: Threads + Wait + Sync, W: Wire + Send, U: Step + Sync>
     requires run { CanFollow run.now.endpoints.now (map U.unit run.now.units.now) run.now.shape }
     requires shape { me.old.me.view.client.shape ≡ Some run.now.shape }
     ensures pass { IsSegPassOf queue.now.line.now me.new × IsSamePass me.old.me.view.client me.new.me.view.client }
-    ensures flowed { HaveFlowedOver (seen W.tells_log W.counts_alone (map W.seen wires.old) (map W.seen wires.new))
+    ensures flowed { HaveFlowedOver (seen W.Wire wires.old wires.new)
         run.now.endpoints.now (map U.unit run.now.units.now) run.now.shape me.old.me.view.client me.new.me.view.client result }
     ensures empty { OnOk result (me.old.me.view.client.parts ≡ 16 → SameParcels me.new.me.view.client.put me.new.me.view.client.took) }
 {

@@ -77,7 +77,7 @@ pub fn run_flow<R: Threads + Wait + Sync, W: Wire + Send>(
     requires fit { All IsFit units.now }
     requires block { (0 < block) × (block ≤ 64) }
     requires within { All (λ u. All (λ at. at < length endpoints.now) u.members) units.now }
-    ensures { RunFlowedOver (seen W.tells_log W.counts_alone (map W.seen wires.old) (map W.seen wires.new))
+    ensures { RunFlowedOver (seen W.Wire wires.old wires.new)
         endpoints.now units.now block (numbered 0 rows.now) (rows_in result) }
 {
     let Ok(first) = number(alloc, rows) else {
@@ -102,7 +102,7 @@ pub fn run_rows<R: Threads + Wait + Sync, W: Wire + Send>(
     requires fit { All IsFit units.now }
     requires block { (0 < block) × (block ≤ 64) }
     requires within { All (λ u. All (λ at. at < length endpoints.now) u.members) units.now }
-    ensures { RunFlowedOver (seen W.tells_log W.counts_alone (map W.seen wires.old) (map W.seen wires.new))
+    ensures { RunFlowedOver (seen W.Wire wires.old wires.new)
         endpoints.now units.now block rows.items (rows_in result) }
 {
     let mut left = units;
@@ -140,7 +140,7 @@ fn ask_unit<R: Threads + Wait + Sync, W: Wire + Send>(
     requires within { All (λ at. at < length endpoints.now) unit.now.members }
     requires first { (0 < length batches.items) × All (IsSized block) batches.items }
     ensures { (rows : List RowParts) → AreCut rows block batches.items
-        → RunFlowedOver (seen W.tells_log W.counts_alone (map W.seen wires.old) (map W.seen wires.new))
+        → RunFlowedOver (seen W.Wire wires.old wires.new)
         endpoints.now (unit.now ∷ []) block rows (rows_in result) }
 {
     if waits_less_in_rounds(batches.len(), unit.members.len(), wires.len()) {
@@ -182,7 +182,7 @@ fn piped<R: Threads + Wait + Sync, W: Wire + Send>(
     requires within { All (λ u. All (λ at. at < length endpoints.now) u.members) units.now }
     requires first { (0 < length first.items) × All (IsSized block) first.items }
     ensures { (rows : List RowParts) → AreCut rows block first.items
-        → RunFlowedOver (seen W.tells_log W.counts_alone (map W.seen wires.old) (map W.seen wires.new))
+        → RunFlowedOver (seen W.Wire wires.old wires.new)
         endpoints.now units.now block rows (rows_in result) }
 {
     let shape = RunShape {
@@ -218,7 +218,7 @@ fn all_rows<R: Threads + Wait + Sync, W: Wire + Send, U: Step + Sync>(
     requires run { CanFollow run.now.endpoints.now (map U.unit run.now.units.now) run.now.shape }
     requires some { 0 < run.now.shape.units }
     ensures { (rows : List RowParts) → AreCut rows run.now.shape.block first.items
-        → RunFlowedOver (seen W.tells_log W.counts_alone (map W.seen wires.old) (map W.seen wires.new))
+        → RunFlowedOver (seen W.Wire wires.old wires.new)
         run.now.endpoints.now (map U.unit run.now.units.now) run.now.shape.block rows (rows_in result) }
 {
     let gate = Gate::new(first.len() as u64);

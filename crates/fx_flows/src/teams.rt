@@ -33,7 +33,7 @@ pub(crate) fn ask_rounds<R: Threads + Wait + Sync, W: Wire + Send>(
     requires fit { IsFit unit.now }
     requires few { All (λ rows. length rows ≤ 64) batches.now }
     requires within { All (λ at. at < length endpoints.now) unit.now.members }
-    ensures { StepAskedOver (seen W.tells_log W.counts_alone (map W.seen wires.old) (map W.seen wires.new))
+    ensures { StepAskedOver (seen W.Wire wires.old wires.new)
         endpoints.now unit.now batches.now (rows_in result) }
 {
     let teams = teams_for(batches.len(), unit.members.len(), wires.len());
@@ -118,7 +118,7 @@ pub(crate) fn ask_step<R: Threads + Wait + Sync, W: Wire + Send>(
     requires fit { IsFit unit.now }
     requires few { All (λ rows. length rows ≤ 64) batches.now }
     requires within { All (λ at. at < length endpoints.now) unit.now.members }
-    ensures { StepAskedOver (seen W.tells_log W.counts_alone (map W.seen wires.old) (map W.seen wires.new))
+    ensures { StepAskedOver (seen W.Wire wires.old wires.new)
         endpoints.now unit.now batches.now (rows_in result) }
 {
     if batches.len() < 2 {
@@ -137,7 +137,7 @@ pub(crate) fn ask_step<R: Threads + Wait + Sync, W: Wire + Send>(
             requires fit { IsFit unit.now }
             requires few { All (λ rows. length rows ≤ 64) first.now }
             requires within { All (λ at. at < length endpoints.now) unit.now.members }
-            ensures { StepAskedOver (seen W.tells_log W.counts_alone (map W.seen left.entry.now) (map W.seen left.exit.now))
+            ensures { StepAskedOver (seen W.Wire left.entry.now left.exit.now)
                 endpoints.entry.now unit.entry.now first.entry.now (rows_in result) }
         { ask_step(rt, alloc, endpoints, unit, first, left) },
         &mut || -> Result<Vec<Row>, FlowError>
@@ -147,7 +147,7 @@ pub(crate) fn ask_step<R: Threads + Wait + Sync, W: Wire + Send>(
             requires fit { IsFit unit.now }
             requires few { All (λ rows. length rows ≤ 64) others.now }
             requires within { All (λ at. at < length endpoints.now) unit.now.members }
-            ensures { StepAskedOver (seen W.tells_log W.counts_alone (map W.seen right.entry.now) (map W.seen right.exit.now))
+            ensures { StepAskedOver (seen W.Wire right.entry.now right.exit.now)
                 endpoints.entry.now unit.entry.now others.entry.now (rows_in result) }
         { ask_step(rt, alloc, endpoints, unit, others, right) },
     );
@@ -191,7 +191,7 @@ pub(crate) fn ask_batch_over<R: Threads + Wait + Sync, W: Wire + Send>(
     requires fit { IsFit unit.now }
     requires few { length rows.now ≤ 64 }
     requires within { All (λ at. at < length endpoints.now) unit.now.members }
-    ensures { BatchAskedOver (seen W.tells_log W.counts_alone (map W.seen wires.old) (map W.seen wires.new))
+    ensures { BatchAskedOver (seen W.Wire wires.old wires.new)
         endpoints.now (record { unit = unit.now; rows = rows.now }) (rows_in result) }
 {
     match batch_text(*alloc, unit, rows) {
@@ -216,7 +216,7 @@ pub(crate) fn ask_over<R: Threads + Wait + Sync, W: Wire + Send>(
     requires wired { 0 < length wires.old }
     requires sendable { All (λ e. is_sendable e ≡ true) endpoints.now }
     requires within { All (λ at. at < length endpoints.now) members.now }
-    ensures { MembersAskedOver (seen W.tells_log W.counts_alone (map W.seen wires.old) (map W.seen wires.new))
+    ensures { MembersAskedOver (seen W.Wire wires.old wires.new)
         endpoints.now batch.now members.now (lists_in result) }
 {
     if wires.len() < 2 || members.len() < 2 {
@@ -233,7 +233,7 @@ pub(crate) fn ask_over<R: Threads + Wait + Sync, W: Wire + Send>(
             requires wired { 0 < length left.now }
             requires sendable { All (λ e. is_sendable e ≡ true) endpoints.now }
             requires within { All (λ at. at < length endpoints.now) here.now }
-            ensures { MembersAskedOver (seen W.tells_log W.counts_alone (map W.seen left.entry.now) (map W.seen left.exit.now))
+            ensures { MembersAskedOver (seen W.Wire left.entry.now left.exit.now)
                 endpoints.entry.now batch.entry.now here.entry.now (lists_in result) }
         { ask_over(rt, alloc, endpoints, batch, here, left) },
         &mut || -> Result<Vec<Items<Found>>, FlowError>
@@ -241,7 +241,7 @@ pub(crate) fn ask_over<R: Threads + Wait + Sync, W: Wire + Send>(
             requires wired { 0 < length right.now }
             requires sendable { All (λ e. is_sendable e ≡ true) endpoints.now }
             requires within { All (λ at. at < length endpoints.now) there.now }
-            ensures { MembersAskedOver (seen W.tells_log W.counts_alone (map W.seen right.entry.now) (map W.seen right.exit.now))
+            ensures { MembersAskedOver (seen W.Wire right.entry.now right.exit.now)
                 endpoints.entry.now batch.entry.now there.entry.now (lists_in result) }
         { ask_over(rt, alloc, endpoints, batch, there, right) },
     );

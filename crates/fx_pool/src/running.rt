@@ -41,7 +41,7 @@ pub fn run_jobs<R: Threads + Wait + Sync, W: Wire + Send>(
     requires sendable { All (λ e. is_sendable e ≡ true) endpoints.now }
     requires within { All (λ j. j.at < length endpoints.now) jobs.now }
     requires few { length jobs.now < 4294967296 }
-    ensures { WiresDidOver (seen W.tells_log W.counts_alone (map W.seen wires.old) (map W.seen wires.new)) endpoints.now jobs.now (all_replies result) }
+    ensures { WiresDidOver (seen W.Wire wires.old wires.new) endpoints.now jobs.now (all_replies result) }
 {
     let Ok((claims, mut me)) = opened(alloc, jobs.len() as u64) else {
         return Err(Memory);

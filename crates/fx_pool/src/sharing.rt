@@ -33,7 +33,7 @@ pub(crate) fn share<R: Threads + Wait + Sync, W: Wire + Send, T: Task + Sync>(
     requires within { All (λ j. j.at < length endpoints.now) (map T.job tasks.now) }
     requires wired { (0 < length wires.old) × (length wires.old ≤ me.old.me.0.parts) }
     ensures table { me.new.table_id ≡ me.old.table_id }
-    ensures worked { HaveWorkedOver (seen W.tells_log W.counts_alone (map W.seen wires.old) (map W.seen wires.new))
+    ensures worked { HaveWorkedOver (seen W.Wire wires.old wires.new)
         endpoints.now (map T.job tasks.now) me.old.me me.new.me result }
 {
     if wires.len() < 2 {
@@ -52,7 +52,7 @@ pub(crate) fn share<R: Threads + Wait + Sync, W: Wire + Send, T: Task + Sync>(
             requires within { All (λ j. j.at < length endpoints.now) (map T.job tasks.now) }
             requires wired { (0 < length left.now) × (length left.now ≤ me.now.me.0.parts) }
             ensures table { me.exit.now.table_id ≡ me.entry.now.table_id }
-            ensures worked { HaveWorkedOver (seen W.tells_log W.counts_alone (map W.seen left.entry.now) (map W.seen left.exit.now))
+            ensures worked { HaveWorkedOver (seen W.Wire left.entry.now left.exit.now)
                 endpoints.entry.now (map T.job tasks.entry.now) me.entry.now.me me.exit.now.me result }
         { share(rt, alloc, claims, me, endpoints, tasks, left) },
         &mut || -> Result<Vec<Done>, Memory>
@@ -63,7 +63,7 @@ pub(crate) fn share<R: Threads + Wait + Sync, W: Wire + Send, T: Task + Sync>(
             requires within { All (λ j. j.at < length endpoints.now) (map T.job tasks.now) }
             requires wired { (0 < length right.now) × (length right.now ≤ them.now.me.0.parts) }
             ensures table { them.exit.now.table_id ≡ them.entry.now.table_id }
-            ensures worked { HaveWorkedOver (seen W.tells_log W.counts_alone (map W.seen right.entry.now) (map W.seen right.exit.now))
+            ensures worked { HaveWorkedOver (seen W.Wire right.entry.now right.exit.now)
                 endpoints.entry.now (map T.job tasks.entry.now) them.entry.now.me them.exit.now.me result }
         { share(rt, alloc, claims, them, endpoints, tasks, right) },
     );

@@ -19,10 +19,10 @@ use Rattle.fx_ntriples.proofs.Complete.{document_reads}
 use Rattle.fx_keys.specs.declared.probes.Probe.{Probe}
 use Rattle.fx_sources.specs.Registries.{read_registry}
 use Rattle.fx_sources.specs.declared.errors.RegistryError.{RegistryError}
-use Rattle.fx_traffic.specs.Gains.{Tell, TellAll, faults_at}
+use Rattle.fx_traffic.specs.Gains.{Tell, TellAll, WiresSeen, faults_at}
 use Rattle.fx_wire.specs.Exchanges.{Seen}
 use Rattle.fx_engine.specs.Calls.{Call, HasFirstRefused}
-use Rattle.fx_engine.specs.Unknown.{unknown_of}
+use Rattle.fx_walks.specs.Unknown.{unknown_of}
 use Rattle.fx_services.specs.declared.noted.DownCause.TheVariants as cause
 use Rattle.fx_engine.specs.declared.mediator.FedError.{FedError}
 use Rattle.fx_engine.specs.declared.mediator.FedError.TheVariants as fed
@@ -49,7 +49,7 @@ use Rattle.fx_commands.specs.FedRefusals.{fed_status_of}
 use Rattle.fx_local.specs.Limits.{graph_limit, query_limit, registry_limit}
 use Rattle.fx_local.specs.declared.statuses.Status.{Status}
 use Rattle.fx_local.specs.declared.statuses.Status.TheVariants as status
-use Rattle.fx_commands.specs.Asking.{IsRefusedBefore, WiresSeen}
+use Rattle.fx_commands.specs.Asking.{IsRefusedBefore}
 use Rattle.fx_program.specs.Completeness.{Completes, AreAsksShort, AreRepliesShort, AreTextsShort, AreWell, IsDoneOrWant, IsReadWell, IsWrittenWell}
 use Rattle.fx_words.specs.Commands.{Asked, over_file, over_members, planned, served, generated}
 use Rattle.fx_commands.specs.Explain.{IsExplainReported}

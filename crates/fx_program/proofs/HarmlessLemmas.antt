@@ -22,7 +22,7 @@ use Rattle.fx_algebra.proofs.CutLemmas.{seeds_for_each}
 use Rattle.fx_http.specs.Requests.{request_of}
 use Rattle.fx_plan.specs.Plans.{plan}
 use Rattle.fx_sources.specs.Probes.{Entry}
-use Rattle.fx_traffic.specs.Gains.{Tell, TellAll, faults_at}
+use Rattle.fx_traffic.specs.Gains.{Tell, TellAll, WiresSeen, faults_at}
 use Rattle.fx_traffic.specs.Sent.{Sent}
 use Rattle.fx_traffic.specs.Traffic.{AreStationsSent, IsStationSent, SentUnless}
 use Rattle.fx_traffic.proofs.CutLemmas.{batch_laws}
@@ -31,17 +31,16 @@ use Rattle.fx_engine.specs.Calls.{AgreesWith, AreCalls, Call, Came, HasComeTo, H
 use Rattle.fx_services.specs.Beside.{Occurrence}
 use Rattle.fx_engine.specs.Mediation.{Federated, Serve}
 use Rattle.fx_services.specs.Noted.{places}
-use Rattle.fx_engine.specs.RunsSent.{AreRunsSent, IsSentForRun}
+use Rattle.fx_walks.specs.RunsSent.{AreRunsSent, IsSentForRun}
 use Rattle.fx_services.specs.ServicesAsked.{service_text}
-use Rattle.fx_engine.specs.Unknown.{is_registered}
+use Rattle.fx_walks.specs.Unknown.{is_registered}
 use Rattle.fx_services.specs.declared.noted.DownCause.{DownCause}
 use Rattle.fx_services.specs.declared.noted.DownCause.TheVariants as cause
 use Rattle.fx_engine.specs.declared.mediator.FedError.{FedError}
 use Rattle.fx_engine.specs.declared.mediator.Outcome.{Outcome}
 use Rattle.fx_engine.proofs.DownLemmas.{down_at, has_gone}
 use Rattle.fx_services.proofs.NotedLemmas.{apart_below, the_same}
-use Rattle.fx_engine.proofs.RegisteredLemmas.{registered_by, unregistered_by}
-use Rattle.fx_commands.specs.Asking.{WiresSeen}
+use Rattle.fx_walks.proofs.RegisteredLemmas.{registered_by, unregistered_by}
 use Rattle.fx_program.specs.Completeness.{AreRepliesShort, AreTextsShort, AreWell}
 use Rattle.fx_commands.specs.Silent.{unregistered}
 use Rattle.fx_engine.proofs.CallLemmas.{first_of}

@@ -2,9 +2,9 @@
 use Rattle.std.proofs.Common.{◌≡◌, sym, subst, refl, ℕ, List, [], Option, Some, None, inl}
 use Rattle.fx_outside.specs.Doors.{DoorSeen}
 use Rattle.fx_local.specs.declared.statuses.Status.TheVariants as status
-use Rattle.fx_traffic.specs.Gains.{faults_at}
+use Rattle.fx_traffic.specs.Gains.{WiresSeen, faults_at}
 use Rattle.fx_wire.specs.Exchanges.{Seen}
-use Rattle.fx_commands.specs.Asking.{WiresSeen, IsUnasked}
+use Rattle.fx_commands.specs.Asking.{IsUnasked}
 use Rattle.fx_words.specs.Commands.{Asked, over_file, over_members, planned, served, generated}
 use Rattle.fx_commands.specs.Explain.{IsExplainReported, IsExplainWritten}
 use Rattle.fx_commands.specs.FedRefusals.{IsGivenEnd}

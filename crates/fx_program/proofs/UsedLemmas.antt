@@ -1,11 +1,10 @@
 -- What a run leaves of all wires, where it uses some of them.
 use Rattle.std.proofs.Common.{◌≡◌, ◌∙◌, ap, sym, subst, ℕ, ◌+◌, Bool, List, [], ◌∷◌, ◌++◌, map, take, drop, length, min, arith}
 use Rattle.std.proofs.lemmas.List.{drop_min, map-append, take-append-drop, take_min}
-use Rattle.fx_traffic.specs.Gains.{AreAfter, faults_at}
+use Rattle.fx_traffic.specs.Gains.{AreAfter, WiresSeen, faults_at, wires_seen}
 use Rattle.fx_traffic.proofs.GainLemmas.{gain_laws}
 use Rattle.fx_wire.specs.Exchanges.{Seen}
 use Rattle.fx_pool.proofs.WireLemmas.{after_itself}
-use Rattle.fx_commands.specs.Asking.{WiresSeen, wires_seen}
 use Rattle.fx_local.specs.Files.{FileRead}
 use Rattle.fx_commands.specs.Query.{CountsDown}
 use Rattle.fx_program.specs.Runs.{OnUsed}

@@ -15,17 +15,16 @@ use Rattle.fx_ntriples.specs.Forms.{IsDocument}
 use Rattle.fx_keys.specs.declared.probes.Probe.{Probe}
 use Rattle.fx_sources.specs.Probes.{missing}
 use Rattle.fx_sources.specs.Sources.{ask_text}
-use Rattle.fx_traffic.specs.Gains.{HaveGained, faults_at}
+use Rattle.fx_traffic.specs.Gains.{HaveGained, WiresSeen, faults_at}
 use Rattle.fx_traffic.specs.Sent.{Sent}
 use Rattle.fx_traffic.specs.Traffic.{AreStationsSent}
 use Rattle.fx_wire.specs.Exchanges.{Exchange}
 use Rattle.fx_engine.specs.Calls.{occurrences}
 use Rattle.fx_engine.specs.Mediation.{Serve}
-use Rattle.fx_engine.specs.Unknown.{unknown_of}
+use Rattle.fx_walks.specs.Unknown.{unknown_of}
 use Rattle.fx_local.specs.Limits.{graph_limit, query_limit}
 use Rattle.fx_local.specs.declared.statuses.Status.{Status}
 use Rattle.fx_local.specs.declared.statuses.Status.TheVariants as status
-use Rattle.fx_commands.specs.Asking.{WiresSeen}
 use Rattle.fx_words.specs.Commands.{Asked, over_file, over_members, planned, served, generated}
 use Rattle.fx_local.specs.Files.{FileRead, Holds}
 use Rattle.fx_program.specs.Headline.{IsTold}

@@ -12,14 +12,13 @@ use Rattle.fx_ntriples.specs.Forms.{IsDocument}
 use Rattle.fx_results.specs.Documents.{document}
 use Rattle.fx_plan.specs.Explained.{explained}
 use Rattle.fx_sources.specs.Registries.{read_registry}
-use Rattle.fx_traffic.specs.Gains.{TellAll, faults_at}
+use Rattle.fx_traffic.specs.Gains.{TellAll, WiresSeen, faults_at}
 use Rattle.fx_engine.specs.Mediation.{Serve}
-use Rattle.fx_engine.specs.Sections.{parts_with}
+use Rattle.fx_walks.specs.Sections.{parts_with}
 use Rattle.fx_services.specs.declared.noted.Down.{Down}
 use Rattle.fx_local.specs.Limits.{graph_limit, query_limit, registry_limit}
 use Rattle.fx_local.specs.declared.statuses.Status.{Status}
 use Rattle.fx_local.specs.declared.statuses.Status.TheVariants as status
-use Rattle.fx_commands.specs.Asking.{WiresSeen}
 use Rattle.fx_words.specs.Commands.{Asked, over_file, over_members, planned, generated}
 use Rattle.fx_local.specs.Files.{FileRead, Holds}
 use Rattle.fx_commands.specs.Generator.{summary}

@@ -11,7 +11,7 @@ use Rattle.fx_algebra.specs.declared.expressions.Expr.{Expr}
 use Rattle.fx_algebra.specs.declared.queries.Element.{Element, Element-F, map-Element, fold-roll-Element, roll-Element}
 use Rattle.fx_algebra.specs.declared.queries.Group.{Group, Group-F, ind-Group, fold-roll-Group, map-Group, roll-Group}
 use Rattle.fx_algebra.proofs.CutLemmas.{meanings_alike}
-use Rattle.fx_services.specs.Served.{Served, element_in, group_in}
+use Rattle.fx_walks.specs.Served.{Served, element_in, group_in}
 
 none_front : {X : Type 0} (xs ys : List X) → xs ++ ys ≡ [] → xs ≡ []
 none_front [] ys h = refl

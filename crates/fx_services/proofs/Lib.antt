@@ -8,3 +8,4 @@ pub mod SharingLemmas
 pub mod SideLemmas
 pub mod PieceLemmas
 pub mod ToldLemmas
+pub mod InTurnLemmas

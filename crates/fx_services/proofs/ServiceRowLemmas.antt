@@ -36,7 +36,7 @@ use Rattle.fx_pool.specs.declared.faults.ReplyFault.{ReplyFault}
 use Rattle.fx_pool.specs.declared.faults.ReplyFault.TheVariants as fault
 use Rattle.fx_pool.proofs.FaultLemmas.{same_results}
 use Rattle.fx_pool.proofs.HonestLemmas.{honest_results}
-use Rattle.fx_services.specs.Served.{Served, group_in}
+use Rattle.fx_walks.specs.Served.{Served, group_in}
 use Rattle.fx_services.specs.ServicesAsked.{AreRowsOver, IsServable, service_text}
 use Rattle.fx_services.proofs.FreeLemmas.{rows_free}
 use Rattle.fx_services.proofs.WithinLemmas.{AllBind, Binds, group_rows_bind}

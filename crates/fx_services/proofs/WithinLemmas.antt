@@ -21,7 +21,7 @@ use Rattle.fx_algebra.specs.declared.queries.Group.{Group, Group-F, ind-Group, f
 use Rattle.fx_algebra.specs.declared.queries.Inline.{Inline}
 use Rattle.fx_algebra.proofs.ForcedLemmas.{IsForced, forced_is, name_from, names_of, of_outcome, with_pair_has}
 use Rattle.fx_algebra.proofs.JoinLemmas.{find-merge}
-use Rattle.fx_services.specs.Served.{Served, element_in, group_in}
+use Rattle.fx_walks.specs.Served.{Served, element_in, group_in}
 
 -- ---- names
 

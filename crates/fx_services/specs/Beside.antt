@@ -9,7 +9,7 @@ use Rattle.fx_terms.specs.declared.triples.Triple.{Triple}
 use Rattle.fx_outside.specs.Endpoints.{EndpointParts}
 use Rattle.fx_algebra.specs.Solutions.{Bindings}
 use Rattle.fx_algebra.specs.declared.queries.Group.{Group}
-use Rattle.fx_traffic.specs.Gains.{AreAfter, HaveGained, Tell, faults_at}
+use Rattle.fx_traffic.specs.Gains.{AreAfter, HaveGained, Tell, WiresSeen, faults_at}
 use Rattle.fx_traffic.specs.Sent.{Sent, Sends}
 use Rattle.fx_traffic.specs.Traffic.{IsServiceSent}
 use Rattle.fx_wire.specs.Exchanges.{Exchange, Seen}
@@ -127,6 +127,9 @@ pub record AllInvoked (tells alone : Bool) (before after : List Seen) (endpoints
   pub come_to : HaveComeTo before after endpoints os came in_turn
   pub counted : IfSome came (λ cs. (address : List ℕ) → faults_at before address + failures_in address os cs ≤ faults_at after address)
   pub exact : IsTrue alone → IfSome came (λ cs. (address : List ℕ) → faults_at after address ≡ faults_at before address + failures_in address os cs)
+
+abbrev pub OccurrencesAsked : WiresSeen → List EndpointParts → List Occurrence → Option (List Came) → Type 0
+OccurrencesAsked w endpoints os came = AllInvoked w.tells w.alone w.before w.after endpoints os came
 
 abbrev pub came_in : Result (Vec Came Global) Memory → Option (List Came)
 came_in (Ok cs) = Some cs.items

@@ -1,20 +1,21 @@
 //! Occurrences of SERVICE, invoked side by side (SPARQL 1.1 Federated Query, sections 2 and 4).
-ghost use Rattle.std.specs.Prelude.{◌≡◌, ◌<◌, ◌≤◌, IfOk, length, map};
+ghost use Rattle.std.specs.Prelude.{◌≡◌, ◌<◌, ◌≤◌, IfOk, length};
+ghost use Rattle.fx_pool.specs.Runs.{WiresDidOver, all_replies};
+ghost use Rattle.fx_traffic.specs.Gains.{seen};
 ghost use Rattle.fx_services.specs.Beside as spec;
 ghost use Rattle.fx_services.specs.Noted as noted;
 ghost use Rattle.fx_sources.specs.Registries.{number_of};
 
+use crate::doing::DoesJobs;
 use crate::noted::{Down, note_down};
 use crate::services::{ServiceError, job_of, rows_in};
 use fx_algebra::{Group, Solution};
-use fx_pool::{Job, JobReply, run_jobs};
+use fx_pool::{Job, JobReply};
 use fx_sources::Registry;
 use fx_terms::{Iri, Items, Memory};
 use fx_wire::Wire;
 use std::alloc::Global;
 use std::marker::Model;
-use std::sync::Wait;
-use std::thread::Threads;
 
 /// The most occurrences that are invoked at once.
 const MOST: usize = 65_536;
@@ -55,53 +56,51 @@ pub struct Settled {
 /// The text of each, a SELECT with its group's scope as columns, is sent once to the endpoint of the registry whose address is its IRI, character by character, and
 /// nowhere else: each wire sends the next that no other has begun. Nothing is sent for one whose endpoint the registry doesn't have, or whose text is longer than 67,108,864
 /// bytes. Each is invoked whatever becomes of the others, in pieces of 65,536; where memory runs out, those of later pieces aren't.
-pub fn ask_services<R: Threads + Wait + Sync, W: Wire + Send>(
-    rt: &R,
+pub fn ask_services<H: DoesJobs<W>, W: Wire>(
+    hands: &H,
     alloc: Global,
     asked: &[Occurrence<'_>],
     registry: &Registry,
     wires: &mut [W],
 ) -> Result<Vec<Result<Items<Solution>, ServiceError>>, Memory>
+    requires hands { H.does hands.now }
     requires wired { (0 < length wires.old) × (length wires.old ≤ 16) }
     requires servable { spec.AreServable asked.now }
-    ensures { spec.AllInvoked W.tells_log W.counts_alone (map W.seen wires.old) (map W.seen wires.new) registry.now asked.now (spec.came_in result) }
+    ensures { spec.OccurrencesAsked (seen W.Wire wires.old wires.new) registry.now asked.now (spec.came_in result) }
 {
-    let mut came = Vec::new(alloc);
+    let mut replies = Vec::new(alloc);
     let mut start = 0;
     while start < asked.len() {
         let end = start + (asked.len() - start).min(MOST);
-        match ask_some(rt, alloc, &asked[start..end], registry, wires) {
+        match ask_some(hands, alloc, &asked[start..end], registry, wires) {
             Err(Memory) => return Err(Memory),
             Ok(mut more) => {
-                if came.append(&mut more).is_err() {
+                if replies.append(&mut more).is_err() {
                     return Err(Memory);
                 }
             }
         }
         start = end;
     }
-    Ok(came)
+    told_of(alloc, asked, registry, replies)
 }
 
-// What occurrences come to that are invoked at once.
-fn ask_some<R: Threads + Wait + Sync, W: Wire + Send>(
-    rt: &R,
+// The replies to occurrences that are invoked at once.
+fn ask_some<H: DoesJobs<W>, W: Wire>(
+    hands: &H,
     alloc: Global,
     asked: &[Occurrence<'_>],
     registry: &Registry,
     wires: &mut [W],
-) -> Result<Vec<Result<Items<Solution>, ServiceError>>, Memory>
+) -> Result<Vec<JobReply>, Memory>
+    requires hands { H.does hands.now }
     requires wired { (0 < length wires.old) × (length wires.old ≤ 16) }
-    requires servable { spec.AreServable asked.now }
     requires few { length asked.now ≤ 65536 }
-    ensures { spec.AllInvoked W.tells_log W.counts_alone (map W.seen wires.old) (map W.seen wires.new) registry.now asked.now (spec.came_in result) }
+    ensures { WiresDidOver (seen W.Wire wires.old wires.new) registry.now (spec.jobs_of registry.now asked.now) (all_replies result) }
 {
     match jobs_of(alloc, asked, registry) {
         Err(Memory) => Err(Memory),
-        Ok(jobs) => match run_jobs(rt, alloc, registry.endpoints(), jobs.as_slice(), wires) {
-            Err(Memory) => Err(Memory),
-            Ok(replies) => told_of(alloc, asked, registry, replies),
-        },
+        Ok(jobs) => hands.run_jobs(alloc, registry.endpoints(), jobs.as_slice(), wires),
     }
 }
 

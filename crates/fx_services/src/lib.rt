@@ -2,10 +2,12 @@
 #![tactic(auto)]
 
 pub mod beside;
+pub mod doing;
 pub mod noted;
 pub mod services;
 
 pub use beside::{Occurrence, Settled, ask_services, settle};
+pub use doing::DoesJobs;
 use fx_terms::shareable;
 pub use noted::{Down, DownCause};
 pub use services::ServiceError;

@@ -2,7 +2,9 @@
 #![tactic(auto)]
 
 mod choices;
+pub mod doing;
 pub mod runs;
 mod steps;
 
+pub use doing::DoesFlows;
 pub use runs::run_side_by_side;

@@ -35,7 +35,7 @@ pub fn run_side_by_side<R: Threads + Wait + Sync, W: Wire + Send>(
     requires sendable { All (λ e. is_sendable e ≡ true) endpoints.now }
     requires block { (0 < block) × (block ≤ 64) }
     requires runs { All (CanAsk (length endpoints.now)) runs.now }
-    ensures { SideBySideOver (seen W.tells_log W.counts_alone (map W.seen wires.old) (map W.seen wires.new))
+    ensures { SideBySideOver (seen W.Wire wires.old wires.new)
         endpoints.now runs.now block (results_in result) }
 {
     let mut found = begun(alloc, runs)?;

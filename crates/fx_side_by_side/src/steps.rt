@@ -43,7 +43,7 @@ pub(crate) fn ask_in_steps<R: Threads + Wait + Sync, W: Wire + Send>(
     requires block { (0 < block) × (block ≤ 64) }
     requires runs { All (CanAsk (length endpoints.now)) runs.now }
     requires begun { map rows_in found.old ≡ begins runs.now }
-    ensures { RunsFlowedOver (seen W.tells_log W.counts_alone (map W.seen wires.old) (map W.seen wires.new))
+    ensures { RunsFlowedOver (seen W.Wire wires.old wires.new)
         endpoints.now runs.now block (map rows_in found.new) }
 {
     for step in 0..longest(runs) {
@@ -87,7 +87,7 @@ fn ask_steps<R: Threads + Wait + Sync, W: Wire + Send>(
     requires block { (0 < turn.now.block) × (turn.now.block ≤ 64) }
     requires runs { All (CanAsk (length endpoints.now)) runs.now }
     requires some { (0 < length runs.now) × (length found.old ≡ length runs.now) }
-    ensures { StepsFlowedOver (seen W.tells_log W.counts_alone (map W.seen wires.old) (map W.seen wires.new))
+    ensures { StepsFlowedOver (seen W.Wire wires.old wires.new)
         endpoints.now turn.now.step turn.now.block runs.now (map rows_in found.old) (map rows_in found.new) }
 {
     if runs.len() < 2 {
@@ -126,7 +126,7 @@ fn ask_beside<R: Threads + Wait + Sync, W: Wire + Send>(
     requires block { (0 < turn.now.block) × (turn.now.block ≤ 64) }
     requires runs { All (CanAsk (length endpoints.now)) runs.now }
     requires some { (1 < length runs.now) × (length found.old ≡ length runs.now) }
-    ensures { StepsFlowedOver (seen W.tells_log W.counts_alone (map W.seen wires.old) (map W.seen wires.new))
+    ensures { StepsFlowedOver (seen W.Wire wires.old wires.new)
         endpoints.now turn.now.step turn.now.block runs.now (map rows_in found.old) (map rows_in found.new) }
 {
     let used = wires_of_first(runs, found, turn, wires.len());
@@ -142,7 +142,7 @@ fn ask_beside<R: Threads + Wait + Sync, W: Wire + Send>(
             requires block { (0 < turn.now.block) × (turn.now.block ≤ 64) }
             requires runs { All (CanAsk (length endpoints.now)) first.now }
             requires some { (0 < length first.now) × (length ours.now ≡ length first.now) }
-            ensures { StepsFlowedOver (seen W.tells_log W.counts_alone (map W.seen left.entry.now) (map W.seen left.exit.now))
+            ensures { StepsFlowedOver (seen W.Wire left.entry.now left.exit.now)
                 endpoints.entry.now turn.entry.now.step turn.entry.now.block first.entry.now (map rows_in ours.entry.now) (map rows_in ours.exit.now) }
         { ask_steps(rt, alloc, endpoints, first, turn, ours, left) },
         &mut ||
@@ -152,7 +152,7 @@ fn ask_beside<R: Threads + Wait + Sync, W: Wire + Send>(
             requires block { (0 < turn.now.block) × (turn.now.block ≤ 64) }
             requires runs { All (CanAsk (length endpoints.now)) others.now }
             requires some { (0 < length others.now) × (length theirs.now ≡ length others.now) }
-            ensures { StepsFlowedOver (seen W.tells_log W.counts_alone (map W.seen right.entry.now) (map W.seen right.exit.now))
+            ensures { StepsFlowedOver (seen W.Wire right.entry.now right.exit.now)
                 endpoints.entry.now turn.entry.now.step turn.entry.now.block others.entry.now (map rows_in theirs.entry.now) (map rows_in theirs.exit.now) }
         { ask_steps(rt, alloc, endpoints, others, turn, theirs, right) },
     );
@@ -191,7 +191,7 @@ fn ask_next<R: Threads + Wait + Sync, W: Wire + Send>(
     requires sendable { All (λ e. is_sendable e ≡ true) endpoints.now }
     requires block { (0 < turn.now.block) × (turn.now.block ≤ 64) }
     requires units { CanAsk (length endpoints.now) units.now }
-    ensures { StepsFlowedOver (seen W.tells_log W.counts_alone (map W.seen wires.old) (map W.seen wires.new))
+    ensures { StepsFlowedOver (seen W.Wire wires.old wires.new)
         endpoints.now turn.now.step turn.now.block (units.now ∷ []) (rows_in found.old ∷ []) (rows_in found.new ∷ []) }
 {
     match mem::replace(found, Err(FlowError::Memory)) {

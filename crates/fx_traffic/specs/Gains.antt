@@ -1,11 +1,12 @@
 -- What is known of several wires before and after a call, each by its place among them.
-use Rattle.std.specs.Prelude.{◌≡◌, ℕ, Bool, ◌+◌, ◌≤◌, List, [], ◌∷◌, ◌++◌, Some, All, Contains, IsPermutation, slice_get}
+use Rattle.std.specs.Prelude.{◌≡◌, ℕ, Bool, ◌+◌, ◌≤◌, List, [], ◌∷◌, ◌++◌, Some, All, Contains, IsPermutation, slice_get, map}
 use Rattle.std.specs.List.{sum_by}
 use Rattle.fx_terms.specs.declared.triples.Triple.{Triple}
 use Rattle.fx_outside.specs.Endpoints.{EndpointParts}
 use Rattle.fx_algebra.specs.Units.{graph_of}
 use Rattle.fx_algebra.specs.declared.units.Unit as unit
 use Rattle.fx_wire.specs.Exchanges.{Exchange, IsAfter, Seen}
+use Rattle.fx_wire.specs.declared.wires.Wire.{Ghosts}
 
 -- how many faults they counted at an address, together
 abbrev pub faults_at : List Seen → List ℕ → ℕ
@@ -53,8 +54,13 @@ pub record WiresSeen : Type 0 where
   pub before : List Seen
   pub after : List Seen
 
-abbrev pub seen : Bool → Bool → List Seen → List Seen → WiresSeen
-seen tells alone before after = record { tells = tells; alone = alone; before = before; after = after }
+-- of wires of one type, by what is told of each
+abbrev pub wires_seen : {W : Type 0} → Bool → Bool → (W → Seen) → List W → List W → WiresSeen
+wires_seen tells alone seen old new = record { tells = tells; alone = alone; before = map seen old; after = map seen new }
+
+-- as their type tells it
+abbrev pub seen : {W : Type 0} → Ghosts W → List W → List W → WiresSeen
+seen w old new = wires_seen w.tells_log w.counts_alone w.seen old new
 
 -- ---- laws
 

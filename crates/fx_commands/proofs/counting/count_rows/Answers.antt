@@ -1,4 +1,4 @@
-use Rattle.fx_commands.specs.Asking.{wires_seen}
+use Rattle.fx_traffic.specs.Gains.{wires_seen}
 use Rattle.fx_commands.proofs.CountingLemmas.{counted, refused_by, was_counted, was_refused}
 use Rattle.fx_commands.proofs.counting.count_rows.Goals as goal
 

@@ -2,7 +2,7 @@ use Rattle.std.proofs.Common.{◌∙◌, map, subst, sym}
 use Rattle.fx_algebra.specs.declared.queries.Query.{Query}
 use Rattle.fx_grammar.specs.Accepted.{IsSpellable}
 use Rattle.fx_pool.proofs.WireLemmas.{after_itself}
-use Rattle.fx_commands.specs.Asking.{wires_seen}
+use Rattle.fx_traffic.specs.Gains.{wires_seen}
 use Rattle.fx_commands.specs.MemberSteps.{IsAnswered}
 use Rattle.fx_commands.proofs.CountingLemmas.{query_spellable}
 use Rattle.fx_commands.proofs.counting.over.Goals as goal

@@ -1,7 +1,7 @@
 use Rattle.std.proofs.Common.{List, map, subst}
 use Rattle.fx_outside.specs.Endpoints.{EndpointParts}
 use Rattle.fx_pool.proofs.WireLemmas.{after_itself}
-use Rattle.fx_commands.specs.Asking.{wires_seen}
+use Rattle.fx_traffic.specs.Gains.{wires_seen}
 use Rattle.fx_commands.specs.Counting.{generated_query}
 use Rattle.fx_commands.specs.MemberSteps.{IsAnswered}
 use Rattle.fx_commands.proofs.counting.over_members.Goals as goal

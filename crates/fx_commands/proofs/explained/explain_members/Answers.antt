@@ -1,5 +1,5 @@
 use Rattle.std.proofs.Common.{◌∙◌, sym}
-use Rattle.fx_commands.specs.Asking.{wires_seen}
+use Rattle.fx_traffic.specs.Gains.{wires_seen}
 use Rattle.fx_commands.specs.FedRefusals.{fed_line}
 use Rattle.fx_commands.proofs.QueryLemmas.{fed_not_cut, fed_not_done, refused_wrote}
 use Rattle.fx_commands.proofs.ExplainLemmas.{none_counted, plan_given, plan_refused}

@@ -2,7 +2,7 @@ use Rattle.std.proofs.Common.{sym, subst, refl, Ok, Err, inl, map}
 use Rattle.fx_algebra.specs.declared.queries.Query.{Query}
 use Rattle.fx_outside.proofs.CountLemmas.{stayed_both}
 use Rattle.fx_pool.proofs.WireLemmas.{after_itself}
-use Rattle.fx_commands.specs.Asking.{wires_seen}
+use Rattle.fx_traffic.specs.Gains.{wires_seen}
 use Rattle.fx_local.specs.Counts.{CountsOnly}
 use Rattle.fx_local.specs.Files.{file_read}
 use Rattle.fx_local.specs.LocalSteps.{GivesQuery, query_line}

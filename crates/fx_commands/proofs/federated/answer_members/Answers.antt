@@ -1,5 +1,5 @@
 use Rattle.std.proofs.Common.{◌∙◌, sym}
-use Rattle.fx_commands.specs.Asking.{wires_seen}
+use Rattle.fx_traffic.specs.Gains.{wires_seen}
 use Rattle.fx_commands.specs.FedRefusals.{fed_line}
 use Rattle.fx_local.specs.Sinks.{sink_written}
 use Rattle.fx_commands.proofs.QueryLemmas.{cut_so, fed_not_cut, fed_not_done, given_done, given_reported, refusal_reported, refused_wrote, union_document, wrote_so}

@@ -3,17 +3,17 @@ use Rattle.std.specs.Prelude.{All}
 use Rattle.fx_keys.specs.declared.probes.Probe.{Probe}
 use Rattle.fx_sources.specs.Probes.{chosen, missing, told}
 use Rattle.fx_spelling.specs.Printable.{IsTriple}
-use Rattle.fx_engine.specs.Sections.{parts_by, sections}
+use Rattle.fx_walks.specs.Sections.{parts_by, sections}
 use Rattle.fx_engine.proofs.AsksLemmas.{unasked}
 use Rattle.fx_engine.proofs.ChoiceLemmas.{asked_here, truths_lost}
-use Rattle.fx_engine.proofs.KeyLemmas.{probes_are_triples}
+use Rattle.fx_walks.proofs.KeyLemmas.{probes_are_triples}
 use Rattle.fx_engine.proofs.choices.choose_parts.Goals as goal
 
 pub returns-in_default-clause-asked : goal.returns-in_default-clause-asked
 returns-in_default-clause-asked g c = unasked g.W.Wire.tells_log g.W.Wire.counts_alone c.args.registry.now (map g.W.Wire.seen c.args.wires.now) (missing c.args.query.now (length c.args.registry.now) c.args.cache.now)
 
 pub ask_all-requires-clause-triples : goal.ask_all-requires-clause-triples
-ask_all-requires-clause-triples g c κs within =
+ask_all-requires-clause-triples g c =
     subst (λ (v : List Probe). All (λ p. IsTriple p.key.pattern) v) (sym (c.as_slice.ensures.value ∙ c.in-Ok.ensures.probes))
     (probes_are_triples c.requires.spellable.0 c.args.query.now c.requires.spellable.1 (length c.args.registry.now) c.args.cache.now)
 

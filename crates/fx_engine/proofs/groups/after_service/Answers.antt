@@ -1,8 +1,8 @@
 use Rattle.std.proofs.Common.{◌≤◌, subst, List, length, IsPermutation, IfOk, Contains}
 use Rattle.fx_algebra.specs.Operators.{join}
 use Rattle.fx_algebra.specs.Solutions.{Bindings}
-use Rattle.fx_engine.specs.declared.tasks.Task.{Task}
-use Rattle.fx_engine.proofs.FrontLemmas.{IsNextTask, next_of_all}
+use Rattle.fx_walks.specs.declared.tasks.Task.{Task}
+use Rattle.fx_walks.proofs.FrontLemmas.{IsNextTask, next_of_all}
 use Rattle.fx_engine.proofs.ServiceElementLemmas.{empty_run_there, nothing_there, rows_there, run_there}
 use Rattle.fx_engine.proofs.groups.after_service.Goals as goal
 

@@ -1,7 +1,7 @@
 use Rattle.std.proofs.Common.{◌∙◌, ap, List}
 use Rattle.fx_algebra.specs.Operators.{filtered as filtered_of}
 use Rattle.fx_algebra.specs.declared.expressions.Expr.{Expr}
-use Rattle.fx_engine.proofs.ElementLemmas.{own_filters}
+use Rattle.fx_walks.proofs.ElementLemmas.{own_filters}
 use Rattle.fx_engine.proofs.groups.filtered.Goals as goal
 
 pub returns-clause-given : goal.returns-clause-given

@@ -1,7 +1,7 @@
 use Rattle.std.proofs.Common.{◌≡◌, drop, map}
 use Rattle.std.specs.List.{flat_map}
-use Rattle.fx_engine.specs.GroupsAsked.{is_run}
-use Rattle.fx_engine.specs.SectionSteps.{part_of, part_patterns}
+use Rattle.fx_walks.specs.GroupsAsked.{is_run}
+use Rattle.fx_walks.specs.SectionSteps.{part_of, part_patterns}
 use Rattle.fx_engine.proofs.groups.has_pattern.Given as goal
 
 abbrev pub invariant-loop-element : goal.invariant-loop-element

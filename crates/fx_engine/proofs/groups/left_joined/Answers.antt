@@ -1,5 +1,5 @@
 use Rattle.std.proofs.Common.{◌∙◌}
-use Rattle.fx_engine.proofs.ElementLemmas.{own_filters}
+use Rattle.fx_walks.proofs.ElementLemmas.{own_filters}
 use Rattle.fx_engine.proofs.groups.left_joined.Goals as goal
 
 pub returns-clause-given : goal.returns-clause-given

@@ -1,7 +1,7 @@
 use Rattle.std.proofs.Common.{◌∙◌, ap, List}
 use Rattle.fx_algebra.specs.declared.expressions.Expr.{Expr}
 use Rattle.fx_steps.specs.Optionals.{optional_rows}
-use Rattle.fx_engine.proofs.ElementLemmas.{own_filters}
+use Rattle.fx_walks.proofs.ElementLemmas.{own_filters}
 use Rattle.fx_engine.proofs.groups.with_optional.Goals as goal
 
 pub returns-clause-given : goal.returns-clause-given

@@ -10,7 +10,7 @@ pub returns-in-Err : goal.returns-in-Err
 returns-in-Err g c = not_invoked g.W.Wire.tells_log g.W.Wire.counts_alone (map g.W.Wire.seen c.args.wires.now) c.args.registry.now (occurrences c.args.query.now)
 
 pub ask_services-requires-clause-servable : goal.ask_services-requires-clause-servable
-ask_services-requires-clause-servable g c κs within =
+ask_services-requires-clause-servable g c =
     let q = c.args.query.now in
     let all : c.as_slice.result.now ≡ occurrences q = c.as_slice.ensures.value ∙ c.in-Ok.ensures ∙ ap (λ (v : List Occurrence). v ++ occurrences q) c.new-found.ensures.items in
     subst AreServable (sym all) (occurrences_servable c.requires.spellable.0 q c.requires.spellable.1)

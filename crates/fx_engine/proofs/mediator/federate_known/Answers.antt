@@ -6,9 +6,9 @@ use Rattle.fx_plan.specs.declared.parts.Part.{Part}
 use Rattle.fx_keys.specs.Probes.{key_of}
 use Rattle.fx_keys.specs.declared.probes.Probe.{Probe}
 use Rattle.fx_sources.specs.Probes.{Entry, learned, members_of, missing, told}
-use Rattle.fx_engine.specs.GroupsAsked.{CanBeAsked}
+use Rattle.fx_engine.specs.RowsAsked.{CanBeAsked}
 use Rattle.fx_engine.specs.Mediation.{IsNamed, IsPlaced}
-use Rattle.fx_engine.specs.Tasks.{tasks_with}
+use Rattle.fx_walks.specs.Tasks.{tasks_with}
 use Rattle.fx_engine.proofs.AskableLemmas.{by_members, tasks_can_be_asked}
 use Rattle.fx_engine.proofs.AskedLemmas.{all_tell}
 use Rattle.fx_engine.proofs.ChoiceLemmas.{probe_placed}
@@ -22,7 +22,7 @@ named-requires g c =
     (probe_placed c.args.registry.now c.args.query.now c.args.cache.now (map see c.args.wires.now) (map see c.choose_parts.new.wires) c.in-Err.ensures.asked.exchanges c.in-Err.error c.in-Err.ensures.asked.cause)
 
 pub outcome_by_plan-requires-clause-laid_out : goal.outcome_by_plan-requires-clause-laid_out
-outcome_by_plan-requires-clause-laid_out g c κs within =
+outcome_by_plan-requires-clause-laid_out g c =
     let q = c.args.query.now in
     let n = length c.args.registry.now in
     let old = c.args.cache.now in
@@ -30,7 +30,7 @@ outcome_by_plan-requires-clause-laid_out g c κs within =
     ((λ p. members_of entries n (key_of p)), c.in-Ok.ensures.chosen.parts_are ∙ by_members q n entries)
 
 pub outcome_by_plan-requires-clause-asked : goal.outcome_by_plan-requires-clause-asked
-outcome_by_plan-requires-clause-asked g c κs within found =
+outcome_by_plan-requires-clause-asked g c found =
     let q = c.args.query.now in
     let n = length c.args.registry.now in
     let old = c.args.cache.now in
@@ -47,7 +47,7 @@ pub returns-in-Err-outcome_by_plan : goal.returns-in-Err-outcome_by_plan
 returns-in-Err-outcome_by_plan g c =
     let see = g.W.Wire.seen in
     let tells = g.W.Wire.tells_log in
-    let told_so = (g.met.W.Wire g.world.𝓛 g.world.𝓜 g.world.𝓡 ((λ s x. x), (λ x. x), (λ x. x), λ x. x)).told in
+    let told_so = g.met.W.Wire.told in
     let q = c.args.query.now in
     let es = c.args.registry.now in
     let n = length es in
@@ -63,7 +63,7 @@ pub returns-in-Err-learn : goal.returns-in-Err-learn
 returns-in-Err-learn g c =
     let see = g.W.Wire.seen in
     let tells = g.W.Wire.tells_log in
-    let told_so = (g.met.W.Wire g.world.𝓛 g.world.𝓜 g.world.𝓡 ((λ s x. x), (λ x. x), (λ x. x), λ x. x)).told in
+    let told_so = g.met.W.Wire.told in
     let q = c.args.query.now in
     let es = c.args.registry.now in
     let n = length es in
@@ -82,7 +82,7 @@ pub returns : goal.returns
 returns g c =
     let see = g.W.Wire.seen in
     let tells = g.W.Wire.tells_log in
-    let told_so = (g.met.W.Wire g.world.𝓛 g.world.𝓜 g.world.𝓡 ((λ s x. x), (λ x. x), (λ x. x), λ x. x)).told in
+    let told_so = g.met.W.Wire.told in
     let q = c.args.query.now in
     let es = c.args.registry.now in
     let n = length es in

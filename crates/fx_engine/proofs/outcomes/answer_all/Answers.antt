@@ -2,8 +2,8 @@ use Rattle.std.proofs.Common.{sym, subst, refl, List, length, map}
 use Rattle.fx_outside.specs.Endpoints.{EndpointParts}
 use Rattle.fx_engine.specs.Mediation.{IsNamed, IsPlaced}
 use Rattle.fx_engine.specs.Asked.{HasRowsCause}
-use Rattle.fx_engine.specs.GroupsAsked.{units_in}
-use Rattle.fx_engine.specs.Tasks.{tasks_with}
+use Rattle.fx_walks.specs.GroupsAsked.{units_in}
+use Rattle.fx_walks.specs.Tasks.{tasks_with}
 use Rattle.fx_engine.proofs.AskedLemmas.{all_tell}
 use Rattle.fx_engine.proofs.BatchCauseLemmas.{flow_placed}
 use Rattle.fx_engine.proofs.RefusalLemmas.{all_given, all_refused, refused_as_told}
@@ -14,26 +14,26 @@ pub named-requires : goal.named-requires
 named-requires g c =
     let see = g.W.Wire.seen in
     subst (λ (es : List EndpointParts). IsPlaced (length es) c.in-Err-Flow.error) (sym c.endpoints.ensures.value)
-    (flow_placed c.args.registry.now (units_in (tasks_with c.args.plan.items c.args.rows.items)) c.args.block (map see c.args.wires.now) (map see c.answer_of_plan.new.wires) c.in-Err-Flow.ensures.exchanges c.in-Err-Flow.ensures.wanted c.in-Err-Flow.error (subst (HasRowsCause (map see c.args.wires.now) (map see c.answer_of_plan.new.wires) c.args.registry.now (tasks_with c.args.plan.items c.args.rows.items) c.args.block c.in-Err-Flow.ensures.wanted c.in-Err-Flow.ensures.exchanges) c.in-Err-Flow.field-0-is c.in-Err-Flow.ensures.cause))
+    (flow_placed c.args.question.now.registry.now (units_in (tasks_with c.args.plan.items c.args.rows.items)) c.args.question.now.block (map see c.args.wires.now) (map see c.answer_with.new.wires) c.in-Err-Flow.ensures.exchanges c.in-Err-Flow.ensures.wanted c.in-Err-Flow.error (subst (HasRowsCause (map see c.args.wires.now) (map see c.answer_with.new.wires) c.args.question.now.registry.now (tasks_with c.args.plan.items c.args.rows.items) c.args.question.now.block c.in-Err-Flow.ensures.wanted c.in-Err-Flow.ensures.exchanges) c.in-Err-Flow.field-0-is c.in-Err-Flow.ensures.cause))
 
 pub unreachable-requires : goal.unreachable-requires
 unreachable-requires g c =
     let see = g.W.Wire.seen in
-    all_at_hand c.args.query.now c.args.plan.items c.requires.laid_out c.args.rows.items c.requires.all
-    (subst (HasRowsCause (map see c.args.wires.now) (map see c.answer_of_plan.new.wires) c.args.registry.now (tasks_with c.args.plan.items c.args.rows.items) c.args.block c.in-Err-Refused.ensures.wanted c.in-Err-Refused.ensures.exchanges) c.in-Err-Refused.field-0-is c.in-Err-Refused.ensures.cause)
+    all_at_hand c.args.question.now.query.now c.args.plan.items c.requires.laid_out c.args.rows.items c.requires.all
+    (subst (HasRowsCause (map see c.args.wires.now) (map see c.answer_with.new.wires) c.args.question.now.registry.now (tasks_with c.args.plan.items c.args.rows.items) c.args.question.now.block c.in-Err-Refused.ensures.wanted c.in-Err-Refused.ensures.exchanges) c.in-Err-Refused.field-0-is c.in-Err-Refused.ensures.cause)
 
 pub returns-in-Ok : goal.returns-in-Ok
 returns-in-Ok g c start tell invoked =
     let see = g.W.Wire.seen in
     let tells = g.W.Wire.tells_log in
-    let told_so = (g.met.W.Wire g.world.𝓛 g.world.𝓜 g.world.𝓡 ((λ s x. x), (λ x. x), (λ x. x), λ x. x)).told in
-    all_given tells g.W.Wire.counts_alone start (map see c.args.wires.now) (map see c.answer_of_plan.new.wires) tell (all_tell see tells told_so c.args.wires.now) c.args.registry.now c.args.query.now c.requires.spellable.0 c.requires.spellable.1 c.args.plan.items c.args.block c.args.rows.items
+    let told_so = g.met.W.Wire.told in
+    all_given tells g.W.Wire.counts_alone start (map see c.args.wires.now) (map see c.answer_with.new.wires) tell (all_tell see tells told_so c.args.wires.now) c.args.question.now.registry.now c.args.question.now.query.now c.requires.spellable.0 c.requires.spellable.1 c.args.plan.items c.args.question.now.block c.args.rows.items
     c.args.down.items invoked _ c.in-Ok.answer c.in-Ok.ensures refl c.from_vec.ensures
 
 pub returns-in-Err-Flow : goal.returns-in-Err-Flow
 returns-in-Err-Flow g c start tell invoked =
     let see = g.W.Wire.seen in
     let tells = g.W.Wire.tells_log in
-    let told_so = (g.met.W.Wire g.world.𝓛 g.world.𝓜 g.world.𝓡 ((λ s x. x), (λ x. x), (λ x. x), λ x. x)).told in
-    all_refused tells g.W.Wire.counts_alone start (map see c.args.wires.now) (map see c.answer_of_plan.new.wires) tell (all_tell see tells told_so c.args.wires.now) c.args.registry.now c.args.query.now c.requires.spellable.0 c.requires.spellable.1 c.args.plan.items c.args.block c.args.rows.items
-    c.args.down.items invoked c.in-Err-Flow.error c.named.result (subst (refused_as_told c.args.registry.now c.args.query.now c.args.plan.items c.args.rows.items c.args.block tells g.W.Wire.counts_alone (map see c.args.wires.now) (map see c.answer_of_plan.new.wires)) c.in-Err-Flow.field-0-is c.in-Err-Flow.ensures) (subst (λ (es : List EndpointParts). IsNamed es c.in-Err-Flow.error c.named.result) c.endpoints.ensures.value c.named.ensures)
+    let told_so = g.met.W.Wire.told in
+    all_refused tells g.W.Wire.counts_alone start (map see c.args.wires.now) (map see c.answer_with.new.wires) tell (all_tell see tells told_so c.args.wires.now) c.args.question.now.registry.now c.args.question.now.query.now c.requires.spellable.0 c.requires.spellable.1 c.args.plan.items c.args.question.now.block c.args.rows.items
+    c.args.down.items invoked c.in-Err-Flow.error c.named.result (subst (refused_as_told c.args.question.now.registry.now c.args.question.now.query.now c.args.plan.items c.args.rows.items c.args.question.now.block tells g.W.Wire.counts_alone (map see c.args.wires.now) (map see c.answer_with.new.wires)) c.in-Err-Flow.field-0-is c.in-Err-Flow.ensures) (subst (λ (es : List EndpointParts). IsNamed es c.in-Err-Flow.error c.named.result) c.endpoints.ensures.value c.named.ensures)

@@ -1,6 +1,6 @@
 use Rattle.std.proofs.Common.{◌≡◌, ◌∙◌, ap, drop, length, take, arith}
-use Rattle.fx_engine.specs.Tasks.{front_of}
-use Rattle.fx_engine.proofs.FrontLemmas.{next_are}
+use Rattle.fx_walks.specs.Tasks.{front_of}
+use Rattle.fx_walks.proofs.FrontLemmas.{next_are}
 use Rattle.fx_engine.proofs.together.next_tasks.Goals as goal
 
 pub returns : goal.returns

@@ -4,9 +4,9 @@ use Rattle.fx_engine.proofs.together.union_rows.Goals as goal
 
 pub returns-in-Err : goal.returns-in-Err
 returns-in-Err g c = λ tasks next end k.
-    union_refused g.W.Wire.tells_log g.W.Wire.counts_alone c.args.endpoints.now c.args.block tasks next end c.args.groups.now c.args.its.now (map g.W.Wire.seen c.args.wires.now) (map g.W.Wire.seen c.rows_together.new.wires) k c.in-Err.error (c.in-Err.ensures tasks k.are_next.in_front)
+    union_refused g.W.Wire.tells_log g.W.Wire.counts_alone c.args.walk.now.endpoints.now c.args.walk.now.block tasks next end c.args.groups.now c.args.its.now (map g.W.Wire.seen c.args.wires.now) (map g.W.Wire.seen c.rows_together.new.wires) k c.in-Err.error (c.in-Err.ensures tasks k.are_next.in_front)
 
 pub returns-in-Ok : goal.returns-in-Ok
 returns-in-Ok g c = λ tasks next end k.
-    union_asked g.W.Wire.tells_log g.W.Wire.counts_alone c.args.endpoints.now c.args.block tasks next end c.args.groups.now c.args.its.now (map g.W.Wire.seen c.args.wires.now) (map g.W.Wire.seen c.rows_together.new.wires) k c.in-Ok.founds.items c.rows_of_runs.result
+    union_asked g.W.Wire.tells_log g.W.Wire.counts_alone c.args.walk.now.endpoints.now c.args.walk.now.block tasks next end c.args.groups.now c.args.its.now (map g.W.Wire.seen c.args.wires.now) (map g.W.Wire.seen c.rows_together.new.wires) k c.in-Ok.founds.items c.rows_of_runs.result
     c.rows_of_runs.ensures.given c.rows_of_runs.ensures.memory (c.in-Ok.ensures tasks k.are_next.in_front)

@@ -1,7 +1,7 @@
 use Rattle.std.proofs.Common.{◌≡◌, ap, sym, subst, refl, ℕ, List, [], ◌++◌, Option, Some, IsTrue, map, string_bytes, take}
 use Rattle.fx_pool.proofs.WireLemmas.{after_itself}
 use Rattle.fx_wire.specs.Exchanges.{Seen}
-use Rattle.fx_commands.specs.Asking.{WiresSeen, wires_seen}
+use Rattle.fx_traffic.specs.Gains.{WiresSeen, wires_seen}
 use Rattle.fx_words.specs.Commands.{Asked, asked, over_members, planned}
 use Rattle.fx_program.specs.Completeness.{Completes}
 use Rattle.fx_local.specs.Files.{file_read}

@@ -1,5 +1,0 @@
-use Rattle.fx_engine.proofs.SectionLemmas.{runs_have}
-use Rattle.fx_engine.proofs.laws.runs_have_the_patterns.Goals as goal
-
-pub returns : goal.returns
-returns c = runs_have

@@ -1,5 +1,0 @@
-use Rattle.fx_engine.proofs.UnitLemmas as lemmas
-use Rattle.fx_engine.proofs.laws.units_are_fit.Goals as goal
-
-pub returns : goal.returns
-returns c = lemmas.units_are_fit

@@ -1,0 +1,17 @@
+pub mod ElementLemmas
+pub mod EvenLemmas
+pub mod FilterLemmas
+pub mod FrontLemmas
+pub mod KeyLemmas
+pub mod LeftRowLemmas
+pub mod PartLemmas
+pub mod PlaceLemmas
+pub mod PlanLemmas
+pub mod RegisteredLemmas
+pub mod RunLemmas
+pub mod RunRowsLemmas
+pub mod SectionLemmas
+pub mod ServedLemmas
+pub mod SourceLemmas
+pub mod StationLemmas
+pub mod UnitLemmas

@@ -1,0 +1,10 @@
+pub mod AnswersAsked
+pub mod GroupsAsked
+pub mod Laws
+pub mod LeftRows
+pub mod RunsSent
+pub mod SectionSteps
+pub mod Sections
+pub mod Served
+pub mod Tasks
+pub mod Unknown
