@@ -21,7 +21,7 @@ use Rattle.fx_steps.specs.Fewer.{AreFewer}
 use Rattle.fx_steps.proofs.FewerLemmas.{fewer_laws}
 use Rattle.fx_member.specs.GroupRows.{AreJoined, AreNearlyAfter, AreTables, IsTable, elements_at, with_tables}
 use Rattle.fx_member.proofs.OutsideLemmas.{fewer_on_the_left}
-use Rattle.fx_member.proofs.RunLemmas.{run_of_fewer, same_again}
+use Rattle.fx_member.proofs.RunLemmas.{run_of_fewer}
 
 abbrev Rising : List Bindings → Type 0
 Rising rows = AllByRecursion (λ s. rises s ≡ true) rows

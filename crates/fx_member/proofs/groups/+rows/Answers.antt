@@ -11,7 +11,7 @@ use Rattle.fx_algebra.specs.Evaluation.{rows_from}
 use Rattle.fx_steps.specs.Fewer.{AreFewer}
 use Rattle.std.specs.Prelude.{IfOk}
 use Rattle.fx_member.proofs.GroupLemmas.{after_service, alternatives_next}
-use Rattle.fx_member.proofs.HeldLemmas.{held_joined, held_nowhere, leads_first, leads_fewer, leads_end, one_place_more}
+use Rattle.fx_member.proofs.HeldLemmas.{held_joined, held_nowhere, leads_first, leads_fewer, one_place_more}
 use Rattle.fx_member.proofs.OutsideLemmas.{nothing_known, said_known}
 use Rattle.fx_member.proofs.WalkLemmas.{known_minus, known_optional, known_union, row_more, row_none, rows_filtered, near_first, after_is_near, union_is_near, held_end, held_filter, held_other, held_triple, held_union, held_values}
 use Rattle.fx_member.proofs.groups.+rows.Goals as goal
