@@ -126,6 +126,13 @@ IsServingReported before after addresses count graph status.DoorFault lines last
 IsServingReported before after addresses count graph status.NoMemory lines last = IsCut before after addresses count graph no_memory lines last
 IsServingReported before after addresses count graph s lines last = ⊥
 
+-- what serving a graph reports, and that its sink of lines gained these
+abbrev pub HasServingReport : DoorSeen → DoorSeen → List (List ℕ) → ℕ → List Triple → Status → SinkWritten → Type 0
+HasServingReport before after addresses count graph s err =
+    (lines : List ℕ) × (last : List ℕ) × IsServingReported before after addresses count graph s lines last
+    × (IsTrue err.tells → Gains (err.old ++ lines) err.new err.before err.after last)
+    × IsLastCut s err lines last
+
 -- the cause of each status, and what it writes on standard error: the graph's file is read first, then its graph, and then the
 -- door is opened at the address, once, for so many connections. Before that all that is seen of the door is as it was, and no line is written
 -- but the last.

@@ -7,7 +7,7 @@ ghost use Rattle.fx_local.specs.Counts.{CountsDoor, CountsOnly};
 ghost use Rattle.fx_local.specs.Files.{file_read};
 ghost use Rattle.fx_local.specs.Lines.{Gains};
 ghost use Rattle.fx_http.specs.Requests.{TakesOfRequest};
-ghost use Rattle.fx_local.specs.Serving.{ending_line, ending_text, HasMemberReport, IsEnded, IsLastCut, IsServingReported, once_more};
+ghost use Rattle.fx_local.specs.Serving.{ending_line, ending_text, HasMemberReport, HasServingReport, IsEnded, once_more};
 ghost use Rattle.fx_local.specs.Sinks.{sink_written};
 ghost use Rattle.fx_local.specs.ServingSteps.{end_line, end_status, GivesEnding};
 
@@ -71,7 +71,8 @@ fn serve_store<D: Door, E: Sink>(
     count: u64,
     err: &mut E,
 ) -> Status
-    ensures reported { (lines : List ℕ) × (last : List ℕ) × IsServingReported (D.seen door.old) (D.seen door.new) (once_more (D.seen door.old) address.now) count store.now result lines last × (IsTrue E.tells_held → Gains (E.held err.old ++ lines) (E.held err.new) (E.write_faults err.old) (E.write_faults err.new) last) × IsLastCut result (sink_written E.tells_held E.held E.write_faults err.old err.new) lines last }
+    ensures reported { HasServingReport (D.seen door.old) (D.seen door.new) (once_more (D.seen door.old) address.now) count store.now result
+        (sink_written E.tells_held E.held E.write_faults err.old err.new) }
     ensures write_fault { result ≡ Status.WriteFault → HasRisen (E.write_faults err.old) (E.write_faults err.new) }
     ensures unfailed_lines { result ≡ Status.Done → E.write_faults err.new ≡ E.write_faults err.old }
     ensures door_faults { CountsDoor result (D.seen door.old).faults (D.seen door.new).faults }
@@ -91,7 +92,8 @@ fn serve<D: Door, E: Sink>(
     count: u64,
     err: &mut E,
 ) -> Status
-    ensures reported { (lines : List ℕ) × (last : List ℕ) × IsServingReported (D.seen door.old) (D.seen door.new) (D.seen door.old).started count store.now result lines last × (IsTrue E.tells_held → Gains (E.held err.old ++ lines) (E.held err.new) (E.write_faults err.old) (E.write_faults err.new) last) × IsLastCut result (sink_written E.tells_held E.held E.write_faults err.old err.new) lines last }
+    ensures reported { HasServingReport (D.seen door.old) (D.seen door.new) (D.seen door.old).started count store.now result
+        (sink_written E.tells_held E.held E.write_faults err.old err.new) }
     ensures write_fault { result ≡ Status.WriteFault → HasRisen (E.write_faults err.old) (E.write_faults err.new) }
     ensures unfailed_lines { result ≡ Status.Done → E.write_faults err.new ≡ E.write_faults err.old }
     ensures door_faults { CountsDoor result (D.seen door.old).faults (D.seen door.new).faults }
