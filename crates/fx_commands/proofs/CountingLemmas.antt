@@ -35,16 +35,16 @@ use Rattle.fx_spelling.proofs.Saying.{fine_both}
 use Rattle.fx_spelling.proofs.Terms.{fine_triple}
 use Rattle.fx_sources.specs.Probes.{Entry}
 use Rattle.fx_traffic.specs.Gains.{TellAll, WiresSeen}
-use Rattle.fx_engine.specs.Calls.{AreAllOrNone, Call, down_in, occurrence_in, occurrences}
+use Rattle.fx_outcomes.specs.Calls.{AreAllOrNone, Call, down_in, occurrence_in, occurrences}
 use Rattle.fx_services.specs.Beside.{Occurrence}
-use Rattle.fx_engine.specs.Mediation.{Federated, Serve}
+use Rattle.fx_outcomes.specs.Mediation.{Federated, Serve}
 use Rattle.fx_services.specs.Noted.{places}
 use Rattle.fx_walks.specs.Unknown.{first_unknown, unknown_of}
 use Rattle.fx_services.specs.declared.noted.Down.{Down}
 use Rattle.fx_services.specs.declared.noted.DownCause.TheVariants as cause
-use Rattle.fx_engine.specs.declared.mediator.FedError.{FedError}
-use Rattle.fx_engine.specs.declared.mediator.FedError.TheVariants as fed
-use Rattle.fx_engine.specs.declared.mediator.Outcome.{Outcome}
+use Rattle.fx_outcomes.specs.declared.federated.FedError.{FedError}
+use Rattle.fx_outcomes.specs.declared.federated.FedError.TheVariants as fed
+use Rattle.fx_outcomes.specs.declared.federated.Outcome.{Outcome}
 use Rattle.fx_commands.specs.Counting.{IsOfMember, IsRowCount, WasCounted, age, first_address, generated_elements, generated_members, generated_query, generated_text, is_young, knows, linked, rows_in, second_address, thirty}
 use Rattle.fx_commands.specs.MemberSteps.{IsAnswered}
 use Rattle.fx_commands.proofs.QueryLemmas.{known_from_nothing}

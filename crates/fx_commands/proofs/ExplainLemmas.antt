@@ -9,8 +9,8 @@ use Rattle.fx_plan.specs.declared.parts.Part.{Part}
 use Rattle.fx_sources.specs.Registries.{read_registry}
 use Rattle.fx_traffic.specs.Gains.{WiresSeen, faults_at}
 use Rattle.fx_wire.specs.Exchanges.{Seen}
-use Rattle.fx_engine.specs.declared.mediator.FedError.{FedError}
-use Rattle.fx_engine.specs.declared.mediator.FedError.TheVariants as fed
+use Rattle.fx_outcomes.specs.declared.federated.FedError.{FedError}
+use Rattle.fx_outcomes.specs.declared.federated.FedError.TheVariants as fed
 use Rattle.fx_local.specs.Limits.{query_limit, registry_limit}
 use Rattle.fx_local.specs.declared.statuses.Status.{Status}
 use Rattle.fx_commands.specs.Explain.{IsExplainReported, IsExplanation, IsExplanationOf, IsPlanText}

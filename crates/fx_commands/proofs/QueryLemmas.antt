@@ -12,10 +12,10 @@ use Rattle.fx_sources.specs.Sources as source
 use Rattle.fx_sources.specs.declared.errors.RegistryError.TheVariants as error
 use Rattle.fx_traffic.specs.Gains.{TellAll, WiresSeen}
 use Rattle.fx_wire.specs.Exchanges.{Seen}
-use Rattle.fx_engine.specs.Mediation.{AreKnown}
-use Rattle.fx_engine.specs.declared.mediator.FedError.{FedError}
-use Rattle.fx_engine.specs.declared.mediator.FedError.TheVariants as fed
-use Rattle.fx_engine.specs.declared.mediator.Outcome.{Outcome}
+use Rattle.fx_outcomes.specs.Mediation.{AreKnown}
+use Rattle.fx_outcomes.specs.declared.federated.FedError.{FedError}
+use Rattle.fx_outcomes.specs.declared.federated.FedError.TheVariants as fed
+use Rattle.fx_outcomes.specs.declared.federated.Outcome.{Outcome}
 use Rattle.fx_local.specs.Limits.{query_limit, registry_limit}
 use Rattle.fx_local.specs.declared.refusals.QueryRefusal.{QueryRefusal}
 use Rattle.fx_local.specs.declared.refusals.QueryRefusal.TheVariants as query

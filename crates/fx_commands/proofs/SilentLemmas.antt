@@ -9,15 +9,15 @@ use Rattle.fx_sources.specs.Probes.{Entry}
 use Rattle.fx_sources.specs.Sources as source
 use Rattle.fx_traffic.specs.Gains.{WiresSeen, faults_at}
 use Rattle.fx_wire.specs.Exchanges.{Exchange, Seen}
-use Rattle.fx_engine.specs.Calls.{AreAllOrNone, AreCalls, Call, Came, HasComeTo, HasFirstRefused, IsPassed, Passes, down_from, down_if, failed, failure_of, failures_at, lost, occurrences, told}
+use Rattle.fx_outcomes.specs.Calls.{AreAllOrNone, AreCalls, Call, Came, HasComeTo, HasFirstRefused, IsPassed, Passes, down_from, down_if, failed, failure_of, failures_at, lost, occurrences, told}
 use Rattle.fx_services.specs.Beside.{Occurrence}
-use Rattle.fx_engine.specs.Mediation.{Federated}
+use Rattle.fx_outcomes.specs.Mediation.{Federated}
 use Rattle.fx_services.specs.Noted.{places}
 use Rattle.fx_services.specs.declared.noted.Down.{Down}
 use Rattle.fx_services.specs.declared.noted.DownCause.{DownCause}
 use Rattle.fx_services.specs.declared.noted.DownCause.TheVariants as cause
-use Rattle.fx_engine.specs.declared.mediator.FedError.TheVariants as fed
-use Rattle.fx_engine.specs.declared.mediator.Outcome.{Outcome}
+use Rattle.fx_outcomes.specs.declared.federated.FedError.TheVariants as fed
+use Rattle.fx_outcomes.specs.declared.federated.Outcome.{Outcome}
 use Rattle.fx_walks.proofs.RegisteredLemmas.{registered_by, unregistered_by}
 use Rattle.fx_local.specs.Files.{FileRead}
 use Rattle.fx_commands.specs.MemberSteps.{IsAnswerDone}

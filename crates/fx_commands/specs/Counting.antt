@@ -22,10 +22,10 @@ use Rattle.fx_algebra.specs.declared.queries.Query.{Query}
 use Rattle.fx_sources.specs.Probes.{Entry}
 use Rattle.fx_traffic.specs.Gains.{TellAll, WiresSeen}
 use Rattle.fx_wire.specs.Exchanges.{Seen}
-use Rattle.fx_engine.specs.Mediation.{Federated}
-use Rattle.fx_engine.specs.declared.mediator.FedError.{FedError}
-use Rattle.fx_engine.specs.declared.mediator.FedError.TheVariants as fed
-use Rattle.fx_engine.specs.declared.mediator.Outcome.{Outcome}
+use Rattle.fx_outcomes.specs.Mediation.{Federated}
+use Rattle.fx_outcomes.specs.declared.federated.FedError.{FedError}
+use Rattle.fx_outcomes.specs.declared.federated.FedError.TheVariants as fed
+use Rattle.fx_outcomes.specs.declared.federated.Outcome.{Outcome}
 use Rattle.fx_commands.specs.Asking.{IsUnasked}
 
 -- ---- the query

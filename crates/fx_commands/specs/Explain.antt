@@ -11,9 +11,9 @@ use Rattle.fx_sources.specs.Probes.{Entry}
 use Rattle.fx_sources.specs.Registries.{read_registry}
 use Rattle.fx_traffic.specs.Gains.{TellAll, WiresSeen}
 use Rattle.fx_wire.specs.Exchanges.{Seen}
-use Rattle.fx_engine.specs.Mediation.{Planned}
+use Rattle.fx_outcomes.specs.Mediation.{Planned}
 use Rattle.fx_walks.specs.Sections.{parts_with}
-use Rattle.fx_engine.specs.declared.mediator.FedError.{FedError}
+use Rattle.fx_outcomes.specs.declared.federated.FedError.{FedError}
 use Rattle.fx_local.specs.declared.statuses.Status.{Status}
 use Rattle.fx_commands.specs.Asking.{IsUnasked, IsRefusedBefore}
 use Rattle.fx_commands.specs.FedRefusals.{IsEnd}

@@ -1,7 +1,7 @@
 -- How a run ends that asks members, and its line.
 use Rattle.std.specs.Prelude.{◌≡◌, ◌⊎◌, ℕ, List, [], Result, Ok, Err}
-use Rattle.fx_engine.specs.declared.mediator.FedError.{FedError}
-use Rattle.fx_engine.specs.declared.mediator.FedError.TheVariants as fed
+use Rattle.fx_outcomes.specs.declared.federated.FedError.{FedError}
+use Rattle.fx_outcomes.specs.declared.federated.FedError.TheVariants as fed
 use Rattle.fx_local.specs.declared.statuses.Status.{Status}
 use Rattle.fx_local.specs.declared.statuses.Status.TheVariants as status
 use Rattle.fx_local.specs.Lines.{no_memory, unknown_service}

@@ -3,7 +3,7 @@ use Rattle.std.specs.Prelude.{ℕ, List, ◌++◌, codes}
 use Rattle.std.specs.List.{flat_map}
 use Rattle.std.specs.Fmt.{decimal}
 use Rattle.fx_pool.specs.declared.faults.ReplyFault.{ReplyFault}
-use Rattle.fx_engine.specs.FaultTexts.{fault_text}
+use Rattle.fx_outcomes.specs.FaultTexts.{fault_text}
 use Rattle.fx_services.specs.declared.noted.Down.{Down}
 use Rattle.fx_services.specs.declared.noted.DownCause.{DownCause}
 use Rattle.fx_services.specs.declared.noted.DownCause.TheVariants as cause

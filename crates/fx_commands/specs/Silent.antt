@@ -7,10 +7,10 @@ use Rattle.fx_traffic.specs.Gains.{HaveGained, TellAll, WiresSeen, faults_at}
 use Rattle.fx_traffic.specs.Sent.{Sent}
 use Rattle.fx_traffic.specs.Traffic.{IsTraffic}
 use Rattle.fx_wire.specs.Exchanges.{Exchange}
-use Rattle.fx_engine.specs.Calls.{AreCalls, Call, HasFirstRefused, IsPassed, down_in, failed, failure_of, failures_at, occurrences}
+use Rattle.fx_outcomes.specs.Calls.{AreCalls, Call, HasFirstRefused, IsPassed, down_in, failed, failure_of, failures_at, occurrences}
 use Rattle.fx_services.specs.Beside.{Occurrence}
 use Rattle.fx_services.specs.Noted.{places}
-use Rattle.fx_engine.specs.Mediation.{Serve}
+use Rattle.fx_outcomes.specs.Mediation.{Serve}
 use Rattle.fx_walks.specs.Unknown.{is_registered}
 use Rattle.fx_services.specs.declared.noted.Down.{Down}
 use Rattle.fx_services.specs.declared.noted.DownCause.TheVariants as cause

@@ -1,7 +1,7 @@
 //! The command `explain`.
 ghost use Rattle.std.specs.Prelude.{◌≡◌, ◌<◌, ◌≤◌, [], All, IfOk, IsTrue, List, ℕ, length, map};
 ghost use Rattle.fx_grammar.specs.Accepted.{IsSpellable};
-ghost use Rattle.fx_engine.specs.Mediation.{parts_in};
+ghost use Rattle.fx_outcomes.specs.Mediation.{parts_in};
 ghost use Rattle.fx_plan.specs.Explained.{HasMembers, explained};
 ghost use Rattle.fx_traffic.specs.Gains.{AreAfter, faults_at, wires_seen};
 ghost use Rattle.fx_local.specs.Counts.{CountsOnly};

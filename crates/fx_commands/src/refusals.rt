@@ -1,7 +1,7 @@
 //! How a run ends that the members refuse: its status, and its line on standard error.
 ghost use Rattle.std.specs.Prelude.{◌≡◌, ◌++◌, Some, codes, IsTrue};
 ghost use Rattle.std.specs.Fmt.{decimal};
-ghost use Rattle.fx_engine.specs.FaultTexts.{fault_text, with_code};
+ghost use Rattle.fx_outcomes.specs.FaultTexts.{fault_text, with_code};
 ghost use Rattle.fx_local.specs.Lines.{Gains, line};
 ghost use Rattle.fx_commands.specs.FedRefusals.{fed_line, fed_status_of};
 ghost use Rattle.fx_commands.specs.MemberLines.{bad_reply, request_too_long};

@@ -28,7 +28,7 @@ use Rattle.fx_engine.specs.declared.rows.RowsError.TheVariants as rows_error
 use Rattle.fx_walks.specs.declared.tasks.Task.{Task}
 use Rattle.fx_engine.proofs.AskedLemmas.{given_as, lost_behind}
 use Rattle.fx_walks.proofs.StationLemmas.{no_run_sent}
-use Rattle.fx_engine.proofs.TaskLemmas.{AreAtHand}
+use Rattle.fx_outcomes.proofs.TaskLemmas.{AreAtHand}
 
 -- ---- from rows
 

@@ -29,7 +29,7 @@ use Rattle.fx_walks.specs.Tasks.{tasks_with}
 use Rattle.fx_walks.specs.declared.tasks.Task.TheVariants as task
 use Rattle.fx_walks.proofs.PartLemmas.{by_function}
 use Rattle.fx_walks.proofs.SectionLemmas.{runs_have}
-use Rattle.fx_engine.proofs.TaskLemmas.{run_in_front}
+use Rattle.fx_outcomes.proofs.TaskLemmas.{run_in_front}
 use Rattle.fx_walks.proofs.UnitLemmas.{range_rises}
 
 -- parts by what is known of each member and key

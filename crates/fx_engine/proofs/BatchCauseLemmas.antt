@@ -32,26 +32,26 @@ use Rattle.fx_flows.specs.RunFlows.{HasFlowCause, IsFlowCause}
 use Rattle.fx_flows.specs.declared.flows.FlowError.{FlowError}
 use Rattle.fx_flows.specs.declared.flows.FlowError.TheVariants as flow
 use Rattle.fx_pool.specs.declared.jobs.BadReply.{BadReply}
-use Rattle.fx_engine.specs.Calls.{Call, IsRefused}
+use Rattle.fx_outcomes.specs.Calls.{Call, IsRefused}
 use Rattle.fx_walks.specs.GroupsAsked.{task_units, units_in}
 use Rattle.fx_engine.specs.RowsAsked.{CanBeAsked}
-use Rattle.fx_engine.specs.Mediation.{HasFedCause, IsBatchFor, IsNamed, IsPlaced, IsUnitBefore, IsUnitOf}
-use Rattle.fx_engine.specs.Order.{patterns_before}
+use Rattle.fx_outcomes.specs.Mediation.{HasFedCause, IsBatchFor, IsNamed, IsPlaced, IsUnitBefore, IsUnitOf}
+use Rattle.fx_outcomes.specs.Order.{patterns_before}
 use Rattle.fx_walks.specs.Sections.{part_with, parts_by, run_patterns, section_of, sections}
 use Rattle.fx_walks.specs.Tasks.{tasks_with}
-use Rattle.fx_engine.specs.declared.mediator.FedError.{FedError}
-use Rattle.fx_engine.specs.declared.mediator.FedError.TheVariants as fed
+use Rattle.fx_outcomes.specs.declared.federated.FedError.{FedError}
+use Rattle.fx_outcomes.specs.declared.federated.FedError.TheVariants as fed
 use Rattle.fx_walks.specs.declared.sections.Section.{Section}
 use Rattle.fx_walks.specs.declared.sections.Section.TheVariants.{Run, Service}
 use Rattle.fx_walks.specs.declared.tasks.Task.{Task}
 use Rattle.fx_walks.specs.declared.tasks.Task.TheVariants as task
 use Rattle.fx_engine.proofs.AskableLemmas.{by_members}
 use Rattle.fx_engine.proofs.AskedLemmas.{flow_cause_behind, read_of_more}
-use Rattle.fx_engine.proofs.ChoiceLemmas.{below, its_name}
+use Rattle.fx_outcomes.proofs.ChoiceLemmas.{below, its_name}
 use Rattle.fx_services.proofs.WentLemmas.{found_here}
 use Rattle.fx_walks.proofs.FrontLemmas.{all_both, all_split, units_in_front}
 use Rattle.fx_walks.proofs.SectionLemmas.{runs_have}
-use Rattle.fx_engine.proofs.TaskLemmas.{run_in_front}
+use Rattle.fx_outcomes.proofs.TaskLemmas.{run_in_front}
 use Rattle.fx_walks.proofs.UnitLemmas.{of_asked}
 
 -- ---- the units of a plan have patterns of its query

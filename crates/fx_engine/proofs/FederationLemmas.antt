@@ -28,29 +28,29 @@ use Rattle.fx_traffic.specs.Traffic.{AreAsked, IsServiceSent, IsTraffic}
 use Rattle.fx_traffic.proofs.GainLemmas.{gain_laws}
 use Rattle.fx_traffic.proofs.SentLemmas.{sent_laws}
 use Rattle.fx_wire.specs.Exchanges.{Exchange, Seen}
-use Rattle.fx_engine.specs.Asks.{AskedAll, HasFailedAsk, IsAskRead}
-use Rattle.fx_engine.specs.Calls.{AgreesWith, AreCalls, Call, IsPassed, down_in, failures_at, occurrences}
+use Rattle.fx_outcomes.specs.Asks.{AskedAll, HasFailedAsk, IsAskRead}
+use Rattle.fx_outcomes.specs.Calls.{AgreesWith, AreCalls, Call, IsPassed, down_in, failures_at, occurrences}
 use Rattle.fx_services.specs.Beside.{Occurrence}
-use Rattle.fx_engine.specs.Mediation.{AreKnown, FailedAtAsk, FailedBeside, Federated, HasFedCause, HasPlanCause, HoldsBehind, IsNamed, IsRead, IsUnitBefore, IsUnitOf, KnowsServices, Serve}
+use Rattle.fx_outcomes.specs.Mediation.{AreKnown, FailedAtAsk, FailedBeside, Federated, HasFedCause, HasPlanCause, HoldsBehind, IsNamed, IsRead, IsUnitBefore, IsUnitOf, KnowsServices, Serve}
 use Rattle.fx_services.specs.Noted.{places}
 use Rattle.fx_walks.specs.GroupsAsked.{units_in}
 use Rattle.fx_engine.specs.RowsAsked.{CanBeAsked}
-use Rattle.fx_engine.specs.Order.{AreAnswered, AreGiven}
-use Rattle.fx_engine.specs.Outcomes.{HasBatchRefusal, HasOutcomeCause, HasRefusal, Outcomed}
+use Rattle.fx_outcomes.specs.Order.{AreAnswered, AreGiven}
+use Rattle.fx_outcomes.specs.Outcomes.{HasBatchRefusal, HasOutcomeCause, HasRefusal, Outcomed}
 use Rattle.fx_walks.specs.RunsSent.{AreRunsSent}
 use Rattle.fx_walks.specs.Sections.{parts_by, parts_with, sections}
 use Rattle.fx_walks.specs.Tasks.{tasks_with}
 use Rattle.fx_walks.specs.Unknown.{unknown_of}
-use Rattle.fx_engine.specs.declared.mediator.FedError.{FedError}
-use Rattle.fx_engine.specs.declared.mediator.FedError.TheVariants as fed
-use Rattle.fx_engine.specs.declared.mediator.Outcome.{Outcome}
+use Rattle.fx_outcomes.specs.declared.federated.FedError.{FedError}
+use Rattle.fx_outcomes.specs.declared.federated.FedError.TheVariants as fed
+use Rattle.fx_outcomes.specs.declared.federated.Outcome.{Outcome}
 use Rattle.fx_walks.specs.declared.tasks.Task.{Task}
 use Rattle.fx_engine.proofs.BatchCauseLemmas.{batch_cause_behind, read_of_query, texts_of_query}
-use Rattle.fx_engine.proofs.CallLemmas.{calls_earlier, first_of}
-use Rattle.fx_engine.proofs.ChoiceLemmas.{has_kept, has_learned, its_name, parts_are_by_graphs, plan_cause}
+use Rattle.fx_outcomes.proofs.CallLemmas.{calls_earlier, first_of}
+use Rattle.fx_outcomes.proofs.ChoiceLemmas.{has_kept, has_learned, its_name, parts_are_by_graphs, plan_cause}
 use Rattle.fx_services.proofs.WentLemmas.{found_here}
-use Rattle.fx_engine.proofs.MediationLemmas.{kept_true, known_named, learned_true, stays}
-use Rattle.fx_engine.proofs.RunsSentLemmas.{AreCalled, sent_by_all}
+use Rattle.fx_outcomes.proofs.MediationLemmas.{kept_true, known_named, learned_true, stays}
+use Rattle.fx_outcomes.proofs.RunsSentLemmas.{AreCalled, sent_by_all}
 use Rattle.fx_walks.proofs.StationLemmas.{no_run_sent}
 use Rattle.fx_pool.proofs.WiresLemmas.{AllTell, all_after, gained_both, still_tell_all}
 

@@ -13,15 +13,15 @@ use Rattle.fx_algebra.specs.declared.queries.Group.{Group}
 use Rattle.fx_traffic.specs.Gains.{Tell, TellAll}
 use Rattle.fx_traffic.specs.Numbers.{numbered_from, service_in}
 use Rattle.fx_wire.specs.Exchanges.{Exchange, Seen}
-use Rattle.fx_engine.specs.Calls.{AreCalls, Call, Came, HasComeTo, IsPassed, Passes, came_rows, failed, lost, occurrence_in, rows_of, told}
+use Rattle.fx_outcomes.specs.Calls.{AreCalls, Call, Came, HasComeTo, IsPassed, Passes, came_rows, failed, lost, occurrence_in, rows_of, told}
 use Rattle.fx_services.specs.Beside.{Occurrence}
 use Rattle.fx_walks.specs.GroupsAsked.{HasRows}
 use Rattle.fx_walks.specs.Served.{Served, group_in}
-use Rattle.fx_engine.specs.Mediation.{Serve}
+use Rattle.fx_outcomes.specs.Mediation.{Serve}
 use Rattle.fx_services.specs.ServicesAsked.{AreRowsOver}
-use Rattle.fx_engine.proofs.DownLemmas.{has_gone}
+use Rattle.fx_outcomes.proofs.DownLemmas.{has_gone}
 use Rattle.fx_engine.proofs.ServiceElementLemmas.{rows_answered, rows_down}
-use Rattle.fx_engine.proofs.TaskLemmas.{AreAtHand}
+use Rattle.fx_outcomes.proofs.TaskLemmas.{AreAtHand}
 
 -- ---- the graph at an address
 

@@ -24,27 +24,27 @@ use Rattle.fx_traffic.proofs.NumberLemmas.{stations_have_the_numbers}
 use Rattle.fx_wire.specs.Exchanges.{Exchange, Seen}
 use Rattle.fx_walks.specs.AnswersAsked.{AnswerDue, AnswerGiven}
 use Rattle.fx_engine.specs.Asked.{Asked, Knows}
-use Rattle.fx_engine.specs.Calls.{AgreesWith, AreAllOrNone, AreCalls, Call, Came, IsPassed, IsRefused, Passes, down_in, failed, failures_at, occurrences, rows_of}
+use Rattle.fx_outcomes.specs.Calls.{AgreesWith, AreAllOrNone, AreCalls, Call, Came, IsPassed, IsRefused, Passes, down_in, failed, failures_at, occurrences, rows_of}
 use Rattle.fx_services.specs.Beside.{Occurrence}
 use Rattle.fx_walks.specs.GroupsAsked.{HasRows, all_planned, units_in}
 use Rattle.fx_walks.specs.Served.{Served}
-use Rattle.fx_engine.specs.Invocations.{Calling}
-use Rattle.fx_engine.specs.Mediation.{FailedBeside, Serve}
+use Rattle.fx_outcomes.specs.Invocations.{Calling}
+use Rattle.fx_outcomes.specs.Mediation.{FailedBeside, Serve}
 use Rattle.fx_services.specs.Noted.{places}
-use Rattle.fx_engine.specs.Order.{AreGiven}
-use Rattle.fx_engine.specs.Outcomes.{HasBatchRefusal, HasOutcomeCause, Outcomed}
+use Rattle.fx_outcomes.specs.Order.{AreGiven}
+use Rattle.fx_outcomes.specs.Outcomes.{HasBatchRefusal, HasOutcomeCause, Outcomed}
 use Rattle.fx_walks.specs.RunsSent.{AreRunsSent}
 use Rattle.fx_walks.specs.Sections.{part_with, parts_with, section_of}
 use Rattle.fx_walks.specs.Tasks.{tasks_with}
 use Rattle.fx_services.specs.declared.noted.DownCause.{DownCause}
-use Rattle.fx_engine.specs.declared.mediator.FedError.{FedError}
-use Rattle.fx_engine.specs.declared.mediator.Outcome.{Outcome}
+use Rattle.fx_outcomes.specs.declared.federated.FedError.{FedError}
+use Rattle.fx_outcomes.specs.declared.federated.Outcome.{Outcome}
 use Rattle.fx_engine.specs.declared.rows.RowsError.{RowsError}
 use Rattle.fx_walks.specs.declared.tasks.Task.{Task}
-use Rattle.fx_engine.proofs.CallLemmas.{AreFirst, first_of}
-use Rattle.fx_engine.proofs.DownLemmas.{down_at, has_gone}
+use Rattle.fx_outcomes.proofs.CallLemmas.{AreFirst, first_of}
+use Rattle.fx_outcomes.proofs.DownLemmas.{down_at, has_gone}
 use Rattle.fx_engine.proofs.HandLemmas.{Fits, at_hand, calls_fit}
-use Rattle.fx_engine.proofs.TaskLemmas.{AreAtHand, tasks_are_planned}
+use Rattle.fx_outcomes.proofs.TaskLemmas.{AreAtHand, tasks_are_planned}
 use Rattle.fx_pool.proofs.WiresLemmas.{AllTell, all_after, gained_both, still_tell_all}
 
 -- the front of a list

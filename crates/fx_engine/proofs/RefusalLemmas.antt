@@ -26,29 +26,29 @@ use Rattle.fx_traffic.proofs.GainLemmas.{gain_laws}
 use Rattle.fx_wire.specs.Exchanges.{Exchange, Seen}
 use Rattle.fx_walks.specs.AnswersAsked.{AnswerDue, AnswerGiven}
 use Rattle.fx_engine.specs.Asked.{Asked}
-use Rattle.fx_engine.specs.Calls.{AreAllKnown, Call, HasFirstRefused, IsPassed, down_in, failed, failure_of, failures_at, occurrences}
+use Rattle.fx_outcomes.specs.Calls.{AreAllKnown, Call, HasFirstRefused, IsPassed, down_in, failed, failure_of, failures_at, occurrences}
 use Rattle.fx_walks.specs.GroupsAsked.{units_in}
-use Rattle.fx_engine.specs.Invocations.{AreInvoked, AreLost, Calling, IsAt, IsStopped}
-use Rattle.fx_engine.specs.Mediation.{FailedBeside, IsNamed}
+use Rattle.fx_outcomes.specs.Invocations.{AreInvoked, AreLost, Calling, IsAt, IsStopped}
+use Rattle.fx_outcomes.specs.Mediation.{FailedBeside, IsNamed}
 use Rattle.fx_services.specs.Noted.{cause_of, places}
-use Rattle.fx_engine.specs.Outcomes.{HasBatchRefusal, HasRefusal, IsPlacedAt, IsTold, Outcomed}
+use Rattle.fx_outcomes.specs.Outcomes.{HasBatchRefusal, HasRefusal, IsPlacedAt, IsTold, Outcomed}
 use Rattle.fx_walks.specs.Tasks.{tasks_with}
 use Rattle.fx_walks.specs.Unknown.{unknown_of}
 use Rattle.fx_services.specs.declared.noted.Down.{Down}
 use Rattle.fx_services.specs.declared.noted.DownCause.{DownCause}
 use Rattle.fx_services.specs.declared.noted.DownCause.TheVariants as cause
-use Rattle.fx_engine.specs.declared.mediator.FedError.{FedError}
-use Rattle.fx_engine.specs.declared.mediator.FedError.TheVariants as fed
-use Rattle.fx_engine.specs.declared.mediator.Outcome.{Outcome}
+use Rattle.fx_outcomes.specs.declared.federated.FedError.{FedError}
+use Rattle.fx_outcomes.specs.declared.federated.FedError.TheVariants as fed
+use Rattle.fx_outcomes.specs.declared.federated.Outcome.{Outcome}
 use Rattle.fx_services.specs.declared.services.ServiceError.{ServiceError}
 use Rattle.fx_services.specs.declared.services.ServiceError.TheVariants as error
 use Rattle.fx_engine.specs.declared.rows.RowsError.{RowsError}
 use Rattle.fx_engine.specs.declared.rows.RowsError.TheVariants as rows_error
 use Rattle.fx_engine.proofs.AskedLemmas.{flow_cause_behind, unasked}
-use Rattle.fx_engine.proofs.CallLemmas.{failures_behind, passed_known}
-use Rattle.fx_engine.proofs.ChoiceLemmas.{get_below, its_name}
+use Rattle.fx_outcomes.proofs.CallLemmas.{failures_behind, passed_known}
+use Rattle.fx_outcomes.proofs.ChoiceLemmas.{get_below, its_name}
 use Rattle.fx_services.proofs.WentLemmas.{found_here}
-use Rattle.fx_engine.proofs.KnownLemmas.{plain_is_known}
+use Rattle.fx_outcomes.proofs.KnownLemmas.{plain_is_known}
 use Rattle.fx_engine.proofs.OutcomeLemmas.{its_answer, none_but_theirs, outcomed}
 use Rattle.fx_walks.proofs.StationLemmas.{no_run_sent}
 use Rattle.fx_pool.proofs.WiresLemmas.{AllTell}

@@ -1,13 +1,4 @@
-pub mod AskSteps
 pub mod Asked
-pub mod Asks
-pub mod Calls
-pub mod Choices
-pub mod FaultTexts
-pub mod Invocations
-pub mod Mediation
-pub mod Order
-pub mod Outcomes
 pub mod Questions
 pub mod RowsAsked
 pub mod Together

@@ -2,25 +2,19 @@
 use Rattle.std.specs.Prelude.{ℕ, Bool, List, Result, All, length}
 use Rattle.fx_algebra.specs.Solutions.{Bindings}
 use Rattle.fx_algebra.specs.declared.answers.Answer.{Answer}
-use Rattle.fx_algebra.specs.declared.queries.Query.{Query}
 use Rattle.fx_plan.specs.declared.parts.Part.{Part}
-use Rattle.fx_outside.specs.Endpoints.{EndpointParts}
-use Rattle.fx_services.specs.declared.beside.Settled.{Settled}
 use Rattle.fx_services.specs.declared.noted.Down.{Down}
 use Rattle.fx_services.specs.declared.services.ServiceError.{ServiceError}
-use Rattle.fx_sources.specs.Probes.{Entry}
-use Rattle.fx_terms.specs.declared.allocation.Memory.{Memory}
 use Rattle.fx_wire.specs.Exchanges.{Seen}
-use Rattle.fx_engine.specs.Calls.{occurrences}
+use Rattle.fx_outcomes.specs.Calls.{occurrences}
 use Rattle.fx_engine.specs.RowsAsked.{CanBeAsked}
-use Rattle.fx_engine.specs.Invocations.{AreInvoked, Invoked, IsStopped}
-use Rattle.fx_engine.specs.Mediation.{Federated, Planned}
-use Rattle.fx_engine.specs.Outcomes.{AllTell, Outcomed}
+use Rattle.fx_outcomes.specs.Invocations.{AreInvoked, IsStopped}
+use Rattle.fx_outcomes.specs.Outcomes.{AllTell, Outcomed}
 use Rattle.fx_walks.specs.Tasks.{tasks_with}
 use Rattle.fx_engine.specs.Walks.{AnswerAsked}
 use Rattle.fx_traffic.specs.Gains.{WiresSeen}
-use Rattle.fx_engine.specs.declared.mediator.FedError.{FedError}
-use Rattle.fx_engine.specs.declared.mediator.Outcome.{Outcome}
+use Rattle.fx_outcomes.specs.declared.federated.FedError.{FedError}
+use Rattle.fx_outcomes.specs.declared.federated.Outcome.{Outcome}
 use Rattle.fx_engine.specs.declared.questions.Question.{Question}
 use Rattle.fx_engine.specs.declared.rows.RowsError.{RowsError}
 
@@ -31,10 +25,6 @@ CanBePut q plan = (found : List (List Bindings)) → All (CanBeAsked (length q.r
 -- the query was answered by its plan, from these rows of its occurrences of SERVICE
 abbrev pub AnsweredBy : WiresSeen → Question → List Part → List (List Bindings) → Result Answer RowsError → Type 0
 AnsweredBy w q plan rows answer = AnswerAsked w q.registry.now q.block (tasks_with plan rows) q.query.now answer
-
--- each occurrence of SERVICE of a query was invoked
-abbrev pub OccurrencesInvoked : WiresSeen → List EndpointParts → Query → Result Settled Memory → Type 0
-OccurrencesInvoked w endpoints q settled = Invoked w.tells w.alone w.before w.after endpoints (occurrences q) settled
 
 -- its occurrences of SERVICE were invoked, and then its runs were asked for
 abbrev pub OutcomedBy : WiresSeen → Question → List Part → Result Outcome FedError → Type 0
@@ -51,11 +41,3 @@ abbrev pub OutcomedBehindStop : WiresSeen → Question → List Part → List (L
 OutcomedBehindStop w q plan rows why outcome =
     (start : List Seen) → AllTell w.tells start → IsStopped w.tells w.alone start w.before q.registry.now (occurrences q.query.now) rows why
     → Outcomed w.tells w.alone start w.after q.registry.now q.query.now plan q.block outcome
-
--- ---- the mediator's calls
-
-abbrev pub FederatedBy : WiresSeen → List EndpointParts → Query → List Entry → List Entry → ℕ → Result Outcome FedError → Type 0
-FederatedBy w endpoints q old new block outcome = Federated w.tells w.alone w.before w.after endpoints q old new block outcome
-
-abbrev pub PlannedBy : WiresSeen → List EndpointParts → Query → List Entry → List Entry → Result (List Part) FedError → Type 0
-PlannedBy w endpoints q old new parts = Planned w.tells w.alone w.before w.after endpoints q old new parts

@@ -1,21 +1,15 @@
 -- What a walk through the groups of a query leaves of the wires, and what it gives.
-use Rattle.std.specs.Prelude.{ℕ, Bool, List, Option, Result, All, Contains, length, map}
+use Rattle.std.specs.Prelude.{ℕ, Bool, List, Result, All, Contains, length, map}
 use Rattle.fx_algebra.specs.Solutions.{Bindings}
 use Rattle.fx_algebra.specs.declared.answers.Answer.{Answer}
 use Rattle.fx_algebra.specs.declared.queries.Element.{Element}
 use Rattle.fx_algebra.specs.declared.queries.Group.{Group}
 use Rattle.fx_algebra.specs.declared.queries.Query.{Query}
 use Rattle.fx_algebra.specs.declared.units.Row.{Row}
-use Rattle.fx_flows.specs.declared.flows.FlowError.{FlowError}
-use Rattle.fx_keys.specs.declared.probes.Probe.{Probe}
 use Rattle.fx_outside.specs.Endpoints.{EndpointParts}
-use Rattle.fx_pool.specs.Runs.{WiresDid}
-use Rattle.fx_pool.specs.declared.jobs.Job.{Job}
-use Rattle.fx_pool.specs.declared.jobs.JobReply.{JobReply}
 use Rattle.fx_traffic.specs.Gains.{WiresSeen}
 use Rattle.fx_walks.specs.AnswersAsked.{AnswerDue, AnswerGiven}
 use Rattle.fx_engine.specs.Asked.{Asked}
-use Rattle.fx_engine.specs.Asks.{AskedAll}
 use Rattle.fx_walks.specs.GroupsAsked.{AlternativesDue, AlternativesGiven, ElementDue, ElementGiven, EndDue, EndGiven, GroupDue, GroupGiven, OperatorDue, OperatorGiven, RunDue, RunGiven, UnfilteredGiven}
 use Rattle.fx_engine.specs.RowsAsked.{CanBeAsked}
 use Rattle.fx_walks.specs.Tasks.{front_of}
@@ -89,13 +83,3 @@ BothAsked w k gs its both = RunAndGroups w.tells w.alone w.before w.after k.endp
 -- that operator was gone through
 abbrev pub BehindAsked : WiresSeen → Walk → Element → List Group → List Task → Result (List Bindings) RowsError → Type 0
 BehindAsked w k e gs its rows = GoesBehind w.tells w.alone w.before w.after k.endpoints.now k.block e gs its rows
-
--- ---- ASKs
-
--- each of these probes was asked for, up to a refusal
-abbrev pub ProbesAsked : WiresSeen → List EndpointParts → List Probe → Result (List Bool) FlowError → Type 0
-ProbesAsked w endpoints probes truths = AskedAll w.tells w.alone w.before w.after endpoints probes truths
-
--- jobs were done, with these replies where there are any
-abbrev pub JobsDone : WiresSeen → List EndpointParts → List Job → Option (List JobReply) → Type 0
-JobsDone w endpoints jobs replies = WiresDid w.tells w.alone w.before w.after endpoints jobs replies

@@ -1,96 +1,32 @@
 //! The mediator over several wires: the answer of a query over the union of the graphs of a registry's endpoints, and its plan.
-ghost use Rattle.std.specs.Prelude.{◌≡◌, ◌<◌, ◌≤◌, All, IfOk, None, length, string_bytes, true};
+ghost use Rattle.std.specs.Prelude.{◌≡◌, ◌<◌, ◌≤◌, All, None, length, true};
 ghost use Rattle.fx_outside.specs.Endpoints.{is_sendable};
 ghost use Rattle.fx_spelling.specs.Units.{IsFit};
 ghost use Rattle.fx_side_by_side.specs.SideBySide.{CanAsk};
 ghost use Rattle.fx_walks.specs.Unknown.{unknown_of};
 ghost use Rattle.fx_grammar.specs.Accepted.{IsSpellable};
-ghost use Rattle.fx_engine.specs.Mediation.{HasName, IsNamed, IsPlaced, parts_in};
-ghost use Rattle.fx_engine.specs.Questions.{FederatedBy, PlannedBy};
+ghost use Rattle.fx_outcomes.specs.Mediation.{FederatedOver, PlannedOver, parts_in};
 ghost use Rattle.fx_traffic.specs.Gains.{seen};
 
-use crate::choices::{Choice, choose_parts};
 use crate::hands::ByCalls;
 use crate::outcomes::outcome_by_plan;
 use crate::questions::Question;
-use fx_algebra::{Answer, Query, Row, Solution, Unit};
+use fx_algebra::{Query, Row, Solution, Unit};
 use fx_flows::{FlowError, run_flow};
+use fx_outcomes::choices::{Choice, choose_parts};
+use fx_outcomes::{FedError, Options, Outcome, named};
 use fx_outside::Endpoint;
 use fx_plan::Part;
-use fx_pool::{BadReply, Job, JobReply, run_jobs};
-use fx_services::{DoesJobs, Down};
+use fx_pool::{Job, JobReply, run_jobs};
+use fx_services::DoesJobs;
 use fx_side_by_side::{DoesFlows, run_side_by_side};
 use fx_sources::{AskCache, Registry};
-use fx_terms::{Iri, Items, Memory};
+use fx_terms::{Items, Memory};
 use fx_walks::unknown::unknown_service;
 use fx_wire::Wire;
 use std::alloc::Global;
-use std::marker::Model;
 use std::sync::Wait;
 use std::thread::Threads;
-
-/// How a query is asked.
-#[derive(Clone, Copy)]
-pub struct Options {
-    /// How many rows one request asks for at most, from 1 to 64.
-    pub block: u32,
-}
-
-/// What a federation gives.
-#[derive(Drop)]
-pub struct Outcome {
-    /// The answer over the union of the graphs.
-    pub answer: Answer,
-    /// The occurrences of SERVICE SILENT that failed, by number, each of which gave the one empty solution.
-    pub down: Items<Down>,
-}
-
-/// The name of an endpoint in a registry. Contracts see its bytes.
-#[derive(Drop)]
-pub struct MemberName {
-    text: String,
-}
-
-impl Model for MemberName {
-    ghost use Rattle.std.specs.Prelude.{List, ℕ, string_bytes};
-
-    ghost Value = { List ℕ };
-
-    ghost view = { λ n. string_bytes n.text };
-}
-
-impl MemberName {
-    /// This name. It takes no memory.
-    pub fn of(text: String) -> MemberName
-        ensures { result ≡ string_bytes text }
-    {
-        MemberName { text }
-    }
-
-    /// The name.
-    pub fn as_str(&self) -> &str
-        ensures { result.now ≡ self.now }
-    {
-        self.text.as_str()
-    }
-}
-
-/// Why a query has no answer or no plan over the endpoints of a registry.
-#[derive(Drop)]
-pub enum FedError {
-    /// An exchange with the endpoint failed, and was counted as a fault at its address.
-    Member { name: MemberName },
-    /// The exchange for a SERVICE without SILENT failed, the first in text order that has no rows, and was counted as a fault at the address that is its IRI.
-    Service { iri: Iri },
-    /// A reply of the endpoint is bad.
-    BadReply { name: MemberName, bad: BadReply },
-    /// A text for the endpoint has more than 67,108,864 bytes, so many, and wasn't sent.
-    RequestTooLong { name: MemberName, length: u64 },
-    /// A SERVICE without SILENT names no endpoint by this IRI. It is the first such, and nothing was asked.
-    UnknownService { iri: Iri },
-    /// Memory ran out.
-    Memory,
-}
 
 /// The answer of a query over the union of the graphs of the registry's endpoints, as if they were one graph.
 ///
@@ -118,7 +54,7 @@ pub fn federate<R: Threads + Wait + Sync, W: Wire + Send>(
     requires wired { (0 < length wires.old) × (length wires.old ≤ 16) }
     requires block { (0 < options.block) × (options.block ≤ 64) }
     requires spellable { IsSpellable query.now }
-    ensures { FederatedBy (seen W.Wire wires.old wires.new) registry.now query.now cache.old cache.new options.block result }
+    ensures { FederatedOver (seen W.Wire wires.old wires.new) registry.now query.now cache.old cache.new options.block result }
 {
     let hands = ByCalls {
         jobs: |alloc: Global, endpoints: &[Endpoint], jobs: &[Job], wires: &mut [W]| -> Result<
@@ -167,7 +103,7 @@ pub fn federate_by<H: DoesJobs<W> + DoesFlows<W>, W: Wire>(
     requires wired { (0 < length wires.old) × (length wires.old ≤ 16) }
     requires block { (0 < options.block) × (options.block ≤ 64) }
     requires spellable { IsSpellable query.now }
-    ensures { FederatedBy (seen W.Wire wires.old wires.new) registry.now query.now cache.old cache.new options.block result }
+    ensures { FederatedOver (seen W.Wire wires.old wires.new) registry.now query.now cache.old cache.new options.block result }
 {
     match unknown_service(alloc, query, registry) {
         Err(Memory) => Err(FedError::Memory),
@@ -191,7 +127,7 @@ fn federate_known<H: DoesJobs<W> + DoesFlows<W>, W: Wire>(
     requires block { (0 < options.block) × (options.block ≤ 64) }
     requires spellable { IsSpellable query.now }
     requires known { unknown_of registry.now query.now ≡ None }
-    ensures { FederatedBy (seen W.Wire wires.old wires.new) registry.now query.now cache.old cache.new options.block result }
+    ensures { FederatedOver (seen W.Wire wires.old wires.new) registry.now query.now cache.old cache.new options.block result }
 {
     match choose_parts(hands, alloc, query, registry, cache, wires) {
         Err(error) => Err(named(alloc, registry.endpoints(), error)),
@@ -234,7 +170,7 @@ pub fn plan_parts<R: Threads + Wait + Sync, W: Wire + Send>(
 ) -> Result<Vec<Part>, FedError>
     requires wired { (0 < length wires.old) × (length wires.old ≤ 16) }
     requires spellable { IsSpellable query.now }
-    ensures { PlannedBy (seen W.Wire wires.old wires.new) registry.now query.now cache.old cache.new (parts_in result) }
+    ensures { PlannedOver (seen W.Wire wires.old wires.new) registry.now query.now cache.old cache.new (parts_in result) }
 {
     let hands = ByCalls {
         jobs: |alloc: Global, endpoints: &[Endpoint], jobs: &[Job], wires: &mut [W]| -> Result<
@@ -264,7 +200,7 @@ pub fn plan_parts_by<H: DoesJobs<W>, W: Wire>(
     requires hands { H.does hands.now }
     requires wired { (0 < length wires.old) × (length wires.old ≤ 16) }
     requires spellable { IsSpellable query.now }
-    ensures { PlannedBy (seen W.Wire wires.old wires.new) registry.now query.now cache.old cache.new (parts_in result) }
+    ensures { PlannedOver (seen W.Wire wires.old wires.new) registry.now query.now cache.old cache.new (parts_in result) }
 {
     match unknown_service(alloc, query, registry) {
         Err(Memory) => Err(FedError::Memory),
@@ -286,7 +222,7 @@ fn plan_known<H: DoesJobs<W>, W: Wire>(
     requires wired { (0 < length wires.old) × (length wires.old ≤ 16) }
     requires spellable { IsSpellable query.now }
     requires known { unknown_of registry.now query.now ≡ None }
-    ensures { PlannedBy (seen W.Wire wires.old wires.new) registry.now query.now cache.old cache.new (parts_in result) }
+    ensures { PlannedOver (seen W.Wire wires.old wires.new) registry.now query.now cache.old cache.new (parts_in result) }
 {
     match choose_parts(hands, alloc, query, registry, cache, wires) {
         Err(error) => Err(named(alloc, registry.endpoints(), error)),
@@ -300,38 +236,5 @@ fn plan_known<H: DoesJobs<W>, W: Wire>(
             Err(Memory) => Err(FedError::Memory),
             Ok(()) => Ok(parts),
         },
-    }
-}
-
-// The refusal, with the name of the endpoint in place of its number.
-pub(crate) fn named(alloc: Global, endpoints: &[Endpoint], error: FlowError) -> FedError
-    requires { IsPlaced (length endpoints.now) error }
-    ensures { IsNamed endpoints.now error result }
-{
-    match error {
-        FlowError::Memory => FedError::Memory,
-        FlowError::Member { at } => match name_at(alloc, endpoints, at) {
-            Ok(name) => FedError::Member { name },
-            Err(Memory) => FedError::Memory,
-        },
-        FlowError::BadReply { at, bad } => match name_at(alloc, endpoints, at) {
-            Ok(name) => FedError::BadReply { name, bad },
-            Err(Memory) => FedError::Memory,
-        },
-        FlowError::RequestTooLong { at, length } => match name_at(alloc, endpoints, at) {
-            Ok(name) => FedError::RequestTooLong { name, length },
-            Err(Memory) => FedError::Memory,
-        },
-    }
-}
-
-pub(crate) fn name_at(alloc: Global, endpoints: &[Endpoint], at: u32) -> Result<MemberName, Memory>
-    requires { at < length endpoints.now }
-    ensures { IfOk result (HasName endpoints.now at) }
-{
-    let name = endpoints[at as usize].name();
-    match String::from_str(alloc, name) {
-        Ok(text) => Ok(MemberName::of(text)),
-        Err(_) => Err(Memory),
     }
 }

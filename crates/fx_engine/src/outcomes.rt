@@ -1,18 +1,18 @@
 //! The answer of a query by its plan, with its occurrences of SERVICE.
 ghost use Rattle.std.specs.Prelude.{◌≡◌, ◌<◌, ◌≤◌, None, length};
 ghost use Rattle.fx_grammar.specs.Accepted.{IsSpellable};
-ghost use Rattle.fx_engine.specs.Outcomes as spec;
-ghost use Rattle.fx_engine.specs.Outcomes.{IsAllOf, IsPlanOf};
+ghost use Rattle.fx_outcomes.specs.Outcomes as spec;
+ghost use Rattle.fx_outcomes.specs.Outcomes.{IsAllOf, IsPlanOf};
 ghost use Rattle.fx_engine.specs.Questions.{CanBePut, OutcomedBehindAll, OutcomedBehindStop, OutcomedBy};
 ghost use Rattle.fx_walks.specs.Unknown.{unknown_of};
 ghost use Rattle.fx_traffic.specs.Gains.{seen};
 
 use crate::answers::answer_with;
-use crate::invocations::invoke_all;
-use crate::mediator::{FedError, Outcome, name_at, named};
 use crate::questions::Question;
 use crate::rows::RowsError;
 use fx_algebra::Solution;
+use fx_outcomes::invocations::invoke_all;
+use fx_outcomes::{FedError, Outcome, name_at, named};
 use fx_outside::Endpoint;
 use fx_plan::Part;
 use fx_services::{DoesJobs, Down, ServiceError, Settled};

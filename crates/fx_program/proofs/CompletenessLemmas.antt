@@ -21,11 +21,11 @@ use Rattle.fx_sources.specs.Registries.{read_registry}
 use Rattle.fx_sources.specs.declared.errors.RegistryError.{RegistryError}
 use Rattle.fx_traffic.specs.Gains.{Tell, TellAll, WiresSeen, faults_at}
 use Rattle.fx_wire.specs.Exchanges.{Seen}
-use Rattle.fx_engine.specs.Calls.{Call, HasFirstRefused}
+use Rattle.fx_outcomes.specs.Calls.{Call, HasFirstRefused}
 use Rattle.fx_walks.specs.Unknown.{unknown_of}
 use Rattle.fx_services.specs.declared.noted.DownCause.TheVariants as cause
-use Rattle.fx_engine.specs.declared.mediator.FedError.{FedError}
-use Rattle.fx_engine.specs.declared.mediator.FedError.TheVariants as fed
+use Rattle.fx_outcomes.specs.declared.federated.FedError.{FedError}
+use Rattle.fx_outcomes.specs.declared.federated.FedError.TheVariants as fed
 use Rattle.fx_terms.proofs.SetLemmas.{Among, among_from, contains_from}
 use Rattle.fx_algebra.specs.Printed.{printed_query}
 use Rattle.fx_algebra.specs.declared.units.Row.{Row}
@@ -42,9 +42,9 @@ use Rattle.fx_traffic.specs.Gains.{HaveGained}
 use Rattle.fx_traffic.specs.Sent.{Sent}
 use Rattle.fx_wire.specs.Exchanges.{Exchange, exchanged}
 use Rattle.fx_flows.specs.Flows.{IsLongBatch}
-use Rattle.fx_engine.specs.Asks.{IsLongAsk}
+use Rattle.fx_outcomes.specs.Asks.{IsLongAsk}
 use Rattle.fx_pool.specs.declared.jobs.BadReply.{BadReply}
-use Rattle.fx_engine.specs.Mediation.{Federated, HasBadAsk, HasBadBatch, HasLongAsk, HasLongBatch, Planned, Serve}
+use Rattle.fx_outcomes.specs.Mediation.{Federated, HasBadAsk, HasBadBatch, HasLongAsk, HasLongBatch, Planned, Serve}
 use Rattle.fx_commands.specs.FedRefusals.{fed_status_of}
 use Rattle.fx_local.specs.Limits.{graph_limit, query_limit, registry_limit}
 use Rattle.fx_local.specs.declared.statuses.Status.{Status}

@@ -27,23 +27,23 @@ use Rattle.fx_traffic.specs.Sent.{Sent}
 use Rattle.fx_traffic.specs.Traffic.{AreStationsSent, IsStationSent, SentUnless}
 use Rattle.fx_traffic.proofs.CutLemmas.{batch_laws}
 use Rattle.fx_wire.specs.Exchanges.{Exchange, Seen, exchanged}
-use Rattle.fx_engine.specs.Calls.{AgreesWith, AreCalls, Call, Came, HasComeTo, HasFirstRefused, IsPassed, Passes, down_in, failed, failure_of, failures_at, lost, occurrence_in, occurrences, told}
+use Rattle.fx_outcomes.specs.Calls.{AgreesWith, AreCalls, Call, Came, HasComeTo, HasFirstRefused, IsPassed, Passes, down_in, failed, failure_of, failures_at, lost, occurrence_in, occurrences, told}
 use Rattle.fx_services.specs.Beside.{Occurrence}
-use Rattle.fx_engine.specs.Mediation.{Federated, Serve}
+use Rattle.fx_outcomes.specs.Mediation.{Federated, Serve}
 use Rattle.fx_services.specs.Noted.{places}
 use Rattle.fx_walks.specs.RunsSent.{AreRunsSent, IsSentForRun}
 use Rattle.fx_services.specs.ServicesAsked.{service_text}
 use Rattle.fx_walks.specs.Unknown.{is_registered}
 use Rattle.fx_services.specs.declared.noted.DownCause.{DownCause}
 use Rattle.fx_services.specs.declared.noted.DownCause.TheVariants as cause
-use Rattle.fx_engine.specs.declared.mediator.FedError.{FedError}
-use Rattle.fx_engine.specs.declared.mediator.Outcome.{Outcome}
-use Rattle.fx_engine.proofs.DownLemmas.{down_at, has_gone}
+use Rattle.fx_outcomes.specs.declared.federated.FedError.{FedError}
+use Rattle.fx_outcomes.specs.declared.federated.Outcome.{Outcome}
+use Rattle.fx_outcomes.proofs.DownLemmas.{down_at, has_gone}
 use Rattle.fx_services.proofs.NotedLemmas.{apart_below, the_same}
 use Rattle.fx_walks.proofs.RegisteredLemmas.{registered_by, unregistered_by}
 use Rattle.fx_program.specs.Completeness.{AreRepliesShort, AreTextsShort, AreWell}
 use Rattle.fx_commands.specs.Silent.{unregistered}
-use Rattle.fx_engine.proofs.CallLemmas.{first_of}
+use Rattle.fx_outcomes.proofs.CallLemmas.{first_of}
 use Rattle.fx_program.proofs.HeadlineLemmas.{of_query}
 use Rattle.fx_commands.proofs.QueryLemmas.{known_from_nothing}
 

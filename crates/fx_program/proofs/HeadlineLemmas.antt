@@ -22,13 +22,13 @@ use Rattle.fx_plan.specs.Explained.{explained}
 use Rattle.fx_sources.specs.Probes.{Entry}
 use Rattle.fx_sources.specs.Registries.{read_registry}
 use Rattle.fx_traffic.specs.Gains.{TellAll, WiresSeen, faults_at}
-use Rattle.fx_engine.specs.Calls.{AreAllOrNone, Call, occurrences}
+use Rattle.fx_outcomes.specs.Calls.{AreAllOrNone, Call, occurrences}
 use Rattle.fx_services.specs.Beside.{Occurrence}
-use Rattle.fx_engine.specs.Mediation.{Federated, Serve}
+use Rattle.fx_outcomes.specs.Mediation.{Federated, Serve}
 use Rattle.fx_walks.specs.Sections.{parts_with}
 use Rattle.fx_services.specs.declared.noted.Down.{Down}
-use Rattle.fx_engine.specs.declared.mediator.FedError.TheVariants as fed
-use Rattle.fx_engine.specs.declared.mediator.Outcome.{Outcome}
+use Rattle.fx_outcomes.specs.declared.federated.FedError.TheVariants as fed
+use Rattle.fx_outcomes.specs.declared.federated.Outcome.{Outcome}
 use Rattle.fx_local.specs.Limits.{graph_limit, query_limit, registry_limit}
 use Rattle.fx_local.specs.declared.statuses.Status.{Status}
 use Rattle.fx_local.specs.declared.statuses.Status.TheVariants as status

@@ -19,8 +19,8 @@ use Rattle.fx_traffic.specs.Gains.{HaveGained, WiresSeen, faults_at}
 use Rattle.fx_traffic.specs.Sent.{Sent}
 use Rattle.fx_traffic.specs.Traffic.{AreStationsSent}
 use Rattle.fx_wire.specs.Exchanges.{Exchange}
-use Rattle.fx_engine.specs.Calls.{occurrences}
-use Rattle.fx_engine.specs.Mediation.{Serve}
+use Rattle.fx_outcomes.specs.Calls.{occurrences}
+use Rattle.fx_outcomes.specs.Mediation.{Serve}
 use Rattle.fx_walks.specs.Unknown.{unknown_of}
 use Rattle.fx_local.specs.Limits.{graph_limit, query_limit}
 use Rattle.fx_local.specs.declared.statuses.Status.{Status}

@@ -13,7 +13,7 @@ use Rattle.fx_results.specs.Documents.{document}
 use Rattle.fx_plan.specs.Explained.{explained}
 use Rattle.fx_sources.specs.Registries.{read_registry}
 use Rattle.fx_traffic.specs.Gains.{TellAll, WiresSeen, faults_at}
-use Rattle.fx_engine.specs.Mediation.{Serve}
+use Rattle.fx_outcomes.specs.Mediation.{Serve}
 use Rattle.fx_walks.specs.Sections.{parts_with}
 use Rattle.fx_services.specs.declared.noted.Down.{Down}
 use Rattle.fx_local.specs.Limits.{graph_limit, query_limit, registry_limit}

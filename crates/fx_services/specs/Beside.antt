@@ -128,8 +128,8 @@ pub record AllInvoked (tells alone : Bool) (before after : List Seen) (endpoints
   pub counted : IfSome came (λ cs. (address : List ℕ) → faults_at before address + failures_in address os cs ≤ faults_at after address)
   pub exact : IsTrue alone → IfSome came (λ cs. (address : List ℕ) → faults_at after address ≡ faults_at before address + failures_in address os cs)
 
-abbrev pub OccurrencesAsked : WiresSeen → List EndpointParts → List Occurrence → Option (List Came) → Type 0
-OccurrencesAsked w endpoints os came = AllInvoked w.tells w.alone w.before w.after endpoints os came
+abbrev pub AllInvokedOver : WiresSeen → List EndpointParts → List Occurrence → Option (List Came) → Type 0
+AllInvokedOver w endpoints os came = AllInvoked w.tells w.alone w.before w.after endpoints os came
 
 abbrev pub came_in : Result (Vec Came Global) Memory → Option (List Came)
 came_in (Ok cs) = Some cs.items

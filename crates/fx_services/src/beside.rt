@@ -66,7 +66,7 @@ pub fn ask_services<H: DoesJobs<W>, W: Wire>(
     requires hands { H.does hands.now }
     requires wired { (0 < length wires.old) × (length wires.old ≤ 16) }
     requires servable { spec.AreServable asked.now }
-    ensures { spec.OccurrencesAsked (seen W.Wire wires.old wires.new) registry.now asked.now (spec.came_in result) }
+    ensures { spec.AllInvokedOver (seen W.Wire wires.old wires.new) registry.now asked.now (spec.came_in result) }
 {
     let mut replies = Vec::new(alloc);
     let mut start = 0;

@@ -1,5 +1,5 @@
 use Rattle.std.proofs.Common.{map, refl, sym, ◌∙◌}
-use Rattle.fx_engine.specs.declared.mediator.FedError.TheVariants as fed
+use Rattle.fx_outcomes.specs.declared.federated.FedError.TheVariants as fed
 use Rattle.fx_engine.proofs.FederationLemmas.{federated_unasked}
 use Rattle.fx_engine.proofs.mediator.federate_by.Goals as goal
 

@@ -7,11 +7,11 @@ use Rattle.fx_keys.specs.Probes.{key_of}
 use Rattle.fx_keys.specs.declared.probes.Probe.{Probe}
 use Rattle.fx_sources.specs.Probes.{Entry, learned, members_of, missing, told}
 use Rattle.fx_engine.specs.RowsAsked.{CanBeAsked}
-use Rattle.fx_engine.specs.Mediation.{IsNamed, IsPlaced}
+use Rattle.fx_outcomes.specs.Mediation.{IsNamed, IsPlaced}
 use Rattle.fx_walks.specs.Tasks.{tasks_with}
 use Rattle.fx_engine.proofs.AskableLemmas.{by_members, tasks_can_be_asked}
 use Rattle.fx_engine.proofs.AskedLemmas.{all_tell}
-use Rattle.fx_engine.proofs.ChoiceLemmas.{probe_placed}
+use Rattle.fx_outcomes.proofs.ChoiceLemmas.{probe_placed}
 use Rattle.fx_engine.proofs.FederationLemmas.{federated_given, federated_lost, federated_refused, federated_stopped}
 use Rattle.fx_engine.proofs.mediator.federate_known.Goals as goal
 

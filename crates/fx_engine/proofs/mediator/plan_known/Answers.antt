@@ -4,9 +4,9 @@ use Rattle.std.specs.List.{zip}
 use Rattle.fx_outside.specs.Endpoints.{EndpointParts}
 use Rattle.fx_keys.specs.declared.probes.Probe.{Probe}
 use Rattle.fx_sources.specs.Probes.{Entry, learned, missing}
-use Rattle.fx_engine.specs.Mediation.{IsNamed, IsPlaced}
-use Rattle.fx_engine.proofs.ChoiceLemmas.{probe_placed}
-use Rattle.fx_engine.proofs.MediationLemmas.{planned, planned_lost, planned_refused}
+use Rattle.fx_outcomes.specs.Mediation.{IsNamed, IsPlaced}
+use Rattle.fx_outcomes.proofs.ChoiceLemmas.{probe_placed}
+use Rattle.fx_outcomes.proofs.MediationLemmas.{planned, planned_lost, planned_refused}
 use Rattle.fx_engine.proofs.mediator.plan_known.Goals as goal
 
 pub named-requires : goal.named-requires

@@ -1,6 +1,6 @@
 use Rattle.std.proofs.Common.{map, refl, sym, ◌∙◌}
-use Rattle.fx_engine.specs.declared.mediator.FedError.TheVariants as fed
-use Rattle.fx_engine.proofs.MediationLemmas.{planned_unasked}
+use Rattle.fx_outcomes.specs.declared.federated.FedError.TheVariants as fed
+use Rattle.fx_outcomes.proofs.MediationLemmas.{planned_unasked}
 use Rattle.fx_engine.proofs.mediator.plan_parts_by.Goals as goal
 
 pub returns-in-Err : goal.returns-in-Err

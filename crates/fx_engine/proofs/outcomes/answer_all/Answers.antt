@@ -1,13 +1,13 @@
 use Rattle.std.proofs.Common.{sym, subst, refl, List, length, map}
 use Rattle.fx_outside.specs.Endpoints.{EndpointParts}
-use Rattle.fx_engine.specs.Mediation.{IsNamed, IsPlaced}
+use Rattle.fx_outcomes.specs.Mediation.{IsNamed, IsPlaced}
 use Rattle.fx_engine.specs.Asked.{HasRowsCause}
 use Rattle.fx_walks.specs.GroupsAsked.{units_in}
 use Rattle.fx_walks.specs.Tasks.{tasks_with}
 use Rattle.fx_engine.proofs.AskedLemmas.{all_tell}
 use Rattle.fx_engine.proofs.BatchCauseLemmas.{flow_placed}
 use Rattle.fx_engine.proofs.RefusalLemmas.{all_given, all_refused, refused_as_told}
-use Rattle.fx_engine.proofs.TaskLemmas.{all_at_hand}
+use Rattle.fx_outcomes.proofs.TaskLemmas.{all_at_hand}
 use Rattle.fx_engine.proofs.outcomes.answer_all.Goals as goal
 
 pub named-requires : goal.named-requires

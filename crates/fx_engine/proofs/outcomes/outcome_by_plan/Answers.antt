@@ -1,6 +1,6 @@
 use Rattle.std.proofs.Common.{subst, map}
-use Rattle.fx_engine.specs.Calls.{occurrences}
-use Rattle.fx_engine.specs.Invocations.{InvokedBy}
+use Rattle.fx_outcomes.specs.Calls.{occurrences}
+use Rattle.fx_outcomes.specs.Invocations.{InvokedBy}
 use Rattle.fx_engine.proofs.AskedLemmas.{all_tell}
 use Rattle.fx_engine.proofs.RefusalLemmas.{lost_outcomed, placed_so}
 use Rattle.fx_engine.proofs.outcomes.outcome_by_plan.Goals as goal

@@ -2,8 +2,8 @@ use Rattle.std.proofs.Common.{sym, subst, List, length, map}
 use Rattle.fx_outside.specs.Endpoints.{EndpointParts}
 use Rattle.fx_engine.specs.Asked.{HasRowsCause}
 use Rattle.fx_walks.specs.GroupsAsked.{units_in}
-use Rattle.fx_engine.specs.Mediation.{IsNamed, IsPlaced}
-use Rattle.fx_engine.specs.Outcomes.{IsTold}
+use Rattle.fx_outcomes.specs.Mediation.{IsNamed, IsPlaced}
+use Rattle.fx_outcomes.specs.Outcomes.{IsTold}
 use Rattle.fx_walks.specs.Tasks.{tasks_with}
 use Rattle.fx_engine.proofs.AskedLemmas.{all_tell}
 use Rattle.fx_engine.proofs.BatchCauseLemmas.{flow_placed}

@@ -1,0 +1,16 @@
+pub mod AskTextLemmas
+pub mod AsksLemmas
+pub mod CallLemmas
+pub mod ChoiceLemmas
+pub mod DownLemmas
+pub mod GatherLemmas
+pub mod InvocationLemmas
+pub mod KnownLemmas
+pub mod MediationLemmas
+pub mod OccurrenceLemmas
+pub mod ProbeLemmas
+pub mod RepliesLemmas
+pub mod RunsSentLemmas
+pub mod ServableLemmas
+pub mod TaskLemmas
+pub mod TruthLemmas

@@ -1,0 +1,9 @@
+pub mod AskSteps
+pub mod Asks
+pub mod Calls
+pub mod Choices
+pub mod FaultTexts
+pub mod Invocations
+pub mod Mediation
+pub mod Order
+pub mod Outcomes

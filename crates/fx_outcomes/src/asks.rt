@@ -1,0 +1,143 @@
+//! The ASKs of a query, over several wires.
+ghost use Rattle.std.specs.Prelude.{◌≡◌, ◌<◌, ◌≤◌, All, IfOk, length, map, true};
+ghost use Rattle.fx_outside.specs.Endpoints.{is_sendable};
+ghost use Rattle.fx_spelling.specs.Printable.{IsTriple};
+ghost use Rattle.fx_outcomes.specs.AskSteps as spec;
+ghost use Rattle.fx_outcomes.specs.AskSteps.{AreTruthsOf, IsForAsk, IsTruthOf, truths_in};
+ghost use Rattle.fx_outcomes.specs.Asks.{AskedAllOver};
+ghost use Rattle.fx_traffic.specs.Gains.{seen};
+ghost use Rattle.fx_pool.specs.Runs.{WiresDidOver, all_replies};
+
+use fx_flows::FlowError;
+use fx_outside::Endpoint;
+use fx_pool::{Job, JobReply, RequestText, Work};
+use fx_services::DoesJobs;
+use fx_sources::{Probe, ask_text};
+use fx_terms::Memory;
+use fx_wire::Wire;
+use std::alloc::Global;
+
+/// The most probes that are asked for at once.
+const MOST: usize = 65_536;
+
+/// What the endpoints answer to probes, in their order.
+///
+/// The ASK of each probe's key goes to the probe's endpoint, once, whatever becomes of the others. Where some have no answer the refusal is that of the first of them: `Member`, the exchange
+/// with the endpoint failed, and was counted as a fault at its address; `BadReply`, with the first fault of what was replied; `RequestTooLong`, the text has more than 67,108,864
+/// bytes, and wasn't sent. `Memory` comes where memory runs out. The probes are asked for in pieces of 65,536.
+pub fn ask_all<H: DoesJobs<W>, W: Wire>(
+    hands: &H,
+    alloc: Global,
+    probes: &[Probe],
+    endpoints: &[Endpoint],
+    wires: &mut [W],
+) -> Result<Vec<bool>, FlowError>
+    requires hands { H.does hands.now }
+    requires wired { (0 < length wires.old) × (length wires.old ≤ 16) }
+    requires sendable { All (λ e. is_sendable e ≡ true) endpoints.now }
+    requires within { All (λ p. p.at < length endpoints.now) probes.now }
+    requires triples { All (λ p. IsTriple p.key.pattern) probes.now }
+    ensures { AskedAllOver (seen W.Wire wires.old wires.new) endpoints.now probes.now (truths_in result) }
+{
+    let mut replies = Vec::new(alloc);
+    let mut start = 0;
+    while start < probes.len() {
+        let end = start + (probes.len() - start).min(MOST);
+        match ask_some(hands, alloc, &probes[start..end], endpoints, wires) {
+            Err(Memory) => return Err(FlowError::Memory),
+            Ok(mut more) => {
+                if replies.append(&mut more).is_err() {
+                    return Err(FlowError::Memory);
+                }
+            }
+        }
+        start = end;
+    }
+    truths_of(alloc, probes, replies)
+}
+
+// The replies to probes that are asked for at once.
+fn ask_some<H: DoesJobs<W>, W: Wire>(
+    hands: &H,
+    alloc: Global,
+    probes: &[Probe],
+    endpoints: &[Endpoint],
+    wires: &mut [W],
+) -> Result<Vec<JobReply>, Memory>
+    requires hands { H.does hands.now }
+    requires wired { (0 < length wires.old) × (length wires.old ≤ 16) }
+    requires sendable { All (λ e. is_sendable e ≡ true) endpoints.now }
+    requires few { length probes.now ≤ 65536 }
+    requires within { All (λ p. p.at < length endpoints.now) probes.now }
+    ensures { WiresDidOver (seen W.Wire wires.old wires.new) endpoints.now (map spec.job_of probes.now) (all_replies result) }
+{
+    match jobs_of(alloc, probes) {
+        Err(Memory) => Err(Memory),
+        Ok(jobs) => hands.run_jobs(alloc, endpoints, jobs.as_slice(), wires),
+    }
+}
+
+// The jobs that ask for probes.
+fn jobs_of(alloc: Global, probes: &[Probe]) -> Result<Vec<Job>, Memory>
+    ensures { IfOk result (λ jobs. jobs.items ≡ map spec.job_of probes.now) }
+{
+    let mut jobs = Vec::new(alloc);
+    for probe in probes {
+        let job = job_of(alloc, probe)?;
+        if jobs.push(job).is_err() {
+            return Err(Memory);
+        }
+    }
+    Ok(jobs)
+}
+
+fn job_of(alloc: Global, probe: &Probe) -> Result<Job, Memory>
+    ensures { IfOk result (λ job. job ≡ spec.job_of probe.now) }
+{
+    let text = ask_text(alloc, &probe.key)?;
+    Ok(Job {
+        at: probe.at,
+        work: Work::Ask {
+            text: RequestText::of(text),
+        },
+    })
+}
+
+// The truth values that the replies to probes are, or the first refusal.
+fn truths_of(
+    alloc: Global,
+    probes: &[Probe],
+    replies: Vec<JobReply>,
+) -> Result<Vec<bool>, FlowError>
+    requires many { length replies.items ≡ length probes.now }
+    requires asked { All IsForAsk replies.items }
+    ensures { AreTruthsOf probes.now replies.items (truths_in result) }
+{
+    let mut truths = Vec::new(alloc);
+    for (probe, reply) in probes.iter().zip(replies) {
+        match truth_of(probe.at, reply) {
+            Err(error) => return Err(error),
+            Ok(truth) => {
+                if truths.push(truth).is_err() {
+                    return Err(FlowError::Memory);
+                }
+            }
+        }
+    }
+    Ok(truths)
+}
+
+// The truth value that the reply of an endpoint is, or the refusal.
+fn truth_of(at: u32, reply: JobReply) -> Result<bool, FlowError>
+    requires { IsForAsk reply }
+    ensures { IsTruthOf at reply result }
+{
+    match reply {
+        JobReply::Truth(truth) => Ok(truth),
+        JobReply::Failed => Err(FlowError::Member { at }),
+        JobReply::Bad(bad) => Err(FlowError::BadReply { at, bad }),
+        JobReply::TooLong { length } => Err(FlowError::RequestTooLong { at, length }),
+        JobReply::Found(_) => unreachable!(),
+        JobReply::Table(_) => unreachable!(),
+    }
+}
