@@ -7,6 +7,7 @@ pub mod KnownLemmas
 pub mod OutsideLemmas
 pub mod HeldLemmas
 pub mod WalkLemmas
+pub mod FirstRowLemmas
 pub mod CountLemmas
 pub mod PlaceLemmas
 pub mod FormLemmas

@@ -3,6 +3,7 @@ pub mod Conditions
 pub mod Known
 pub mod Runs
 pub mod Optionals
+pub mod FirstRows
 pub mod FirstHere
 pub mod GraphWires
 pub mod FaultWires

@@ -4,11 +4,13 @@ ghost use Rattle.fx_terms.specs.declared.triples.Triple.{Triple as TripleTree};
 ghost use Rattle.fx_algebra.specs.Answers.{answer as answer_of, has_rows, with_inline as with_inline_of};
 ghost use Rattle.fx_algebra.specs.BasicGraphPatterns.{bgp};
 ghost use Rattle.fx_algebra.specs.Operators.{merges};
+ghost use Rattle.fx_algebra.specs.declared.answers.Answer.TheVariants.{Truth};
 ghost use Rattle.fx_algebra.specs.declared.queries.Element.TheVariants.{Triple};
 ghost use Rattle.fx_member.specs.FirstHere.{first_here as first_here_of, IsCause};
 ghost use Rattle.fx_member.specs.GroupRows.{AsksFor, IsAnswerOf};
 ghost use Rattle.fx_store.specs.Stores.{alone};
 
+use crate::first_rows::row_of_group;
 use crate::groups::group_rows;
 use crate::places::first_here;
 use fx_algebra::{Answer, Element, Form, Inline, Query, Solution};
@@ -65,9 +67,31 @@ pub fn answer(
 fn answer_here(alloc: Global, store: &Store, query: &Query) -> Result<Answer, Memory>
     ensures { IfOk result (IsAnswerOf query.now store.now) }
 {
-    match pattern_asked(query) {
-        Some(pattern) => Ok(Answer::Truth(has_solution(alloc, store, pattern))),
+    if let Some(pattern) = pattern_asked(query) {
+        return Ok(Answer::Truth(has_solution(alloc, store, pattern)));
+    }
+    match first_row_asked(alloc, store, query)? {
+        Some(truth) => Ok(Answer::Truth(truth)),
         None => answer_by_rows(alloc, store, query),
+    }
+}
+
+// The answer of a query that asks whether triple patterns give a row on which filters hold, found without all of the rows; nothing of any other.
+fn first_row_asked(alloc: Global, store: &Store, query: &Query) -> Result<Option<bool>, Memory>
+    ensures { IfOk result (λ found. IfSome found (λ truth. IsAnswerOf query.now store.now (Truth truth))) }
+{
+    match &query.form {
+        Form::Select {
+            distinct: _,
+            columns: _,
+        } => Ok(None),
+        Form::Ask => match &query.inline {
+            Some(_) => Ok(None),
+            None => {
+                let found = row_of_group(alloc, store, &query.group)?;
+                Ok(found)
+            }
+        },
     }
 }
 

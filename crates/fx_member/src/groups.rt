@@ -337,8 +337,8 @@ fn alone(alloc: Global, row: Solution) -> Result<Vec<Solution>, Memory>
     Ok(rows)
 }
 
-// What holds where a group's own filters do, conjunct by conjunct.
-fn conditions_of(alloc: Global, group: &Group) -> Result<Vec<Expr>, Memory>
+/// What holds where a group's own filters do, conjunct by conjunct.
+pub(crate) fn conditions_of(alloc: Global, group: &Group) -> Result<Vec<Expr>, Memory>
     ensures { IfOk result (λ conditions. spec.AreConditions group.now conditions.items) }
 {
     let filters = filters_of(alloc, group)?;

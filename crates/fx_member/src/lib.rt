@@ -5,6 +5,7 @@ pub mod answering;
 mod conditions;
 mod estimates;
 pub mod fault_wires;
+mod first_rows;
 pub mod graph_wires;
 pub mod groups;
 mod known;

@@ -44,8 +44,8 @@ fn triples_of(store: &Store, element: &Element, nothing: &Solution) -> u64 {
     }
 }
 
-// The patterns of a group that holds triple patterns and filters alone, in text order; nothing where it holds anything else.
-fn run_of(alloc: Global, group: &Group) -> Result<Option<Vec<Pattern>>, Memory>
+/// The patterns of a group that holds triple patterns and filters alone, in text order; nothing where it holds anything else.
+pub(crate) fn run_of(alloc: Global, group: &Group) -> Result<Option<Vec<Pattern>>, Memory>
     ensures { IfOk result (λ run. IfSome run (λ patterns. spec.IsRunOf group.now patterns.items)) }
 {
     let mut patterns = Vec::new(alloc);

@@ -74,8 +74,8 @@ pub(crate) fn with_next_of(
     })
 }
 
-// The first row, or one that binds nothing where there is none.
-fn first_of(alloc: Global, rows: &[Solution]) -> Result<Solution, Memory> {
+/// The first row, or one that binds nothing where there is none.
+pub(crate) fn first_of(alloc: Global, rows: &[Solution]) -> Result<Solution, Memory> {
     match rows.first() {
         Some(row) => row.copy(alloc),
         None => Ok(Solution::empty(alloc)),
@@ -204,8 +204,8 @@ pub(crate) fn in_order(
     Ok(ordered)
 }
 
-// Some of the rows that a pattern gives of rows, or these, where it gives none.
-fn seen_with(
+/// Some of the rows that a pattern gives of rows, or these, where it gives none.
+pub(crate) fn seen_with(
     alloc: Global,
     store: &Store,
     pattern: &Pattern,
