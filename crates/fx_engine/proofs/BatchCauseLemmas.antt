@@ -187,7 +187,7 @@ module _ (es : List EndpointParts) (q : Query) (old : List Entry) (n : ℕ) (ent
     k.endpoint,
     found_here es k.at k.endpoint k.found,
     its_name es k.at at k.endpoint name k.named k.found n.0,
-    inr (inl (record { unit = k.unit; batch = k.batch; asked = batch_for (flow.RequestTooLong at size) k; allowed = k.allowed; is_long = subst (IsLongBatch (record { unit = k.unit; rows = k.batch })) (sym n.1) k.cause })),
+    inr (inl (record { unit = k.unit; batch = k.batch; asked = batch_for (flow.RequestTooLong at size) k; allowed = k.allowed; is_long = subst (IsLongBatch k.endpoint (record { unit = k.unit; rows = k.batch })) (sym n.1) k.cause })),
   )
   named_batch_cause (flow.Member at) (fed.BadReply name other) k n = absurd n
   named_batch_cause (flow.Member at) (fed.RequestTooLong name other) k n = absurd n

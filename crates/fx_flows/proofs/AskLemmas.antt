@@ -8,11 +8,10 @@ use Rattle.fx_algebra.specs.Graphs.{union}
 use Rattle.fx_algebra.specs.Units.{step}
 use Rattle.fx_algebra.specs.declared.units.Row.{Row}
 use Rattle.fx_spelling.specs.Units.{IsSound}
-use Rattle.fx_bound.specs.Answers.{AreReadOf}
 use Rattle.fx_bound.specs.Parts.{Parts}
 use Rattle.fx_founds.specs.declared.founds.Found.{Found}
 use Rattle.fx_wire.specs.Exchanges.{Seen}
-use Rattle.fx_flows.specs.Flows.{AskedBatch, AskedMembers, HasMemberCause, IsShort, rows_in}
+use Rattle.fx_flows.specs.Flows.{AreToldOf, AskedBatch, AskedMembers, HasMemberCause, IsShort, rows_in}
 use Rattle.fx_flows.specs.declared.flows.FlowError.{FlowError}
 use Rattle.fx_flows.specs.declared.flows.FlowError.TheVariants as flow
 use Rattle.fx_flows.proofs.MembersLemmas.{passed_none}
@@ -25,7 +24,7 @@ module _ (alone : Bool) (s t : Seen) (es : List EndpointParts) (p : Parts) where
   refused why h = record { exchanges = h.exchanges; failed = h.failed; once = h.once; unfailed = tt; passed = h.passed; left = h.left; sent = h.sent; whole = tt; short = h.short; faultless = tt; done = tt; cause = h.cause }
 
   pub given : (lists : List (List Found)) (result : Result (Vec Row Global) FlowError) → AskedMembers alone s t es p p.unit.members (Ok lists)
-      → ((graphs : List (List Triple)) → IsSound graphs p.unit → AreReadOf graphs p p.unit.members lists → IfOk result (λ rows. IsPermutation rows.items (step (union graphs) p.unit p.rows)))
+      → ((graphs : List (List Triple)) → IsSound graphs p.unit → AreToldOf graphs p p.unit.members lists → IfOk result (λ rows. IsPermutation rows.items (step (union graphs) p.unit p.rows)))
       → IfErr result (λ e. e ≡ flow.Memory) → AskedBatch alone s t es p (rows_in result)
   given lists (Ok rows) h f m = record {
     exchanges = h.exchanges;

@@ -8,41 +8,26 @@ use Rattle.fx_terms.specs.Graphs.{IsGraph}
 use Rattle.fx_terms.specs.declared.triples.Triple.{Triple}
 use Rattle.fx_terms.proofs.SetLemmas.{contains_from}
 use Rattle.fx_outside.specs.Endpoints.{EndpointParts}
-use Rattle.fx_algebra.specs.Printed.{printed_query}
-use Rattle.fx_algebra.specs.declared.units.Unit as unit
 use Rattle.fx_grammar.specs.Accepted.{Accepted}
 use Rattle.fx_http.specs.Requests.{request_of}
 use Rattle.fx_http.specs.declared.replies.ReplyError.TheVariants.{TooLong}
 use Rattle.fx_wire.specs.Exchanges.{Exchange, Seen, exchanged}
 use Rattle.fx_wire.specs.Honest.{IsHonest}
-use Rattle.fx_bound.specs.Answers.{IsRead, numbers}
-use Rattle.fx_bound.specs.Batches.{batch_query}
-use Rattle.fx_bound.specs.Parts.{IsBatch, Parts, places, printed_by, query_of, text_of}
-use Rattle.fx_founds.specs.Uniting.{Place}
+use Rattle.fx_bound.specs.Answers.{numbers}
+use Rattle.fx_bound.specs.Parts.{IsBatch, Parts}
 use Rattle.fx_founds.specs.declared.founds.Found.{Found}
-use Rattle.fx_traffic.specs.Batches.{member_sent, text_sent, to_endpoint}
+use Rattle.fx_traffic.specs.Batches.{member_sent, text_for, text_sent, to_endpoint}
 use Rattle.fx_traffic.specs.Sent.{Sent, Sends}
-use Rattle.fx_flows.specs.Flows.{AskedMember, FoundBy, FoundIn, IsBadReplyTo, IsBatchCause, IsReadFor, IsShort, Names, Passed}
+use Rattle.fx_flows.specs.Flows.{AskedMember, FoundBy, FoundIn, IsBadReplyTo, IsBatchCause, IsReadFor, IsShort, IsToldBy, Names, Passed}
 use Rattle.fx_pool.specs.Posting.{IsHonestAt, IsPosted, IsSent, exchanges_of, failures_of}
-use Rattle.fx_pool.specs.Reading.{a_batch, HasFault, HasResults}
+use Rattle.fx_pool.specs.Reading.{carried_for, HasFault}
 use Rattle.fx_pool.specs.declared.faults.ReplyFault.TheVariants.{Http}
 use Rattle.fx_flows.specs.declared.flows.FlowError.{FlowError}
 use Rattle.fx_flows.specs.declared.flows.FlowError.TheVariants as flow
 use Rattle.fx_pool.specs.declared.jobs.BadReply.{BadReply}
 use Rattle.fx_pool.specs.declared.posting.Posted.{Posted}
 use Rattle.fx_pool.specs.declared.posting.Posted.TheVariants as posted
-use Rattle.fx_flows.proofs.BatchLemmas.{found_read, no_services, nothing_read, told_answered}
-use Rattle.fx_pool.proofs.FaultLemmas.{faultless, long_fault}
-
--- ---- texts
-
-texts_by : (e : EndpointParts) (u : unit.Unit) (bs : List Place) (text : List ℕ) → printed_by (batch_query u bs) bs ≡ Some text → text_sent e u bs ≡ record { at = e; request = request_of e text } ∷ []
-texts_by e u [] text h = cc
-texts_by e u (b ∷ bs) text h = let same : printed_query (batch_query u (b ∷ bs)) ≡ text = cc in ap (λ (t : List ℕ). record { at = e; request = request_of e t } ∷ []) same
-
-no_places : (u : unit.Unit) (bs : List Place) → printed_by (batch_query u bs) bs ≡ None → bs ≡ []
-no_places u [] h = refl
-no_places u (b ∷ bs) h = cc
+use Rattle.fx_flows.proofs.BatchLemmas.{found_told, honest_faultless, nothing_told, only_long, query_for}
 
 long_or_short : (n : ℕ) (b : Bool) → ltb 67108864 n ≡ b → (67108864 < n) ⊎ (n ≤ 67108864)
 long_or_short n true h = inl (ltb-true 67108864 n h)
@@ -58,15 +43,14 @@ counted_at_most alone s t iri n counted others is address = by (bytes_eq iri add
     by false e = let there : t.faults address ≡ s.faults address = others is address (λ same. let yes : bytes_eq iri address ≡ true = (bytes_eq-Decides iri address).1 (sym same) in cc) in omega (arith, there)
 
 module _ (alone : Bool) (es : List EndpointParts) (p : Parts) (at : ℕ) (e : EndpointParts) (found : slice_get es at ≡ Some e) (known : IsBatch p) where
-  member_text : (text : List ℕ) → text_of p ≡ Some text → member_sent es p.unit p.rows at ≡ record { at = e; request = request_of e text } ∷ []
-  member_text text h = ap (to_endpoint p.unit p.rows) found ∙ texts_by e p.unit (places p) text h
+  member_text : (text : Option (List ℕ)) → text_for e p ≡ text → member_sent es p.unit p.rows at ≡ text_sent e text
+  member_text text h = ap (to_endpoint p.unit p.rows) found ∙ ap (text_sent e) h
 
   -- ---- a batch without a text
 
-  pub asked_nothing : (s : Seen) → text_of p ≡ None → AskedMember alone s s es p at (Ok [])
+  pub asked_nothing : (s : Seen) → text_for e p ≡ None → AskedMember alone s s es p at (Ok [])
   asked_nothing s none =
-      let empty : places p ≡ [] = no_places p.unit (places p) none in
-      let silent : member_sent es p.unit p.rows at ≡ [] = ap (to_endpoint p.unit p.rows) found ∙ ap (text_sent e p.unit) empty in
+      let silent : member_sent es p.unit p.rows at ≡ [] = member_text None none in
       record {
         exchanges = [];
         failed = 0;
@@ -81,17 +65,17 @@ module _ (alone : Bool) (es : List EndpointParts) (p : Parts) (at : ℕ) (e : En
         whole = refl;
         short = All-from_recursion IsShort [] tt;
         faultless = All-from_recursion (IsReadFor p) [] tt;
-        read = λ g told. nothing_read p g known empty;
+        read = λ g told. nothing_told e p g none;
         named = tt;
         cause = tt;
       }
 
-  module _ (s t : Seen) (text : List ℕ) (is : text_of p ≡ Some text) (accepted : Accepted text (query_of p)) where
+  module _ (s t : Seen) (text : List ℕ) (is : text_for e p ≡ Some text) (accepted : Accepted text (query_for e p)) where
     abbrev wanted : Sent
     wanted = record { at = e; request = request_of e text }
 
     sent_by : (xs : List Exchange) (left : List Sent) → Sends (wanted ∷ []) left xs → Sends (member_sent es p.unit p.rows at) left xs
-    sent_by xs left h = subst (λ (v : List Sent). Sends v left xs) (sym (member_text text is)) h
+    sent_by xs left h = subst (λ (v : List Sent). Sends v left xs) (sym (member_text (Some text) is)) h
 
     -- ---- one that lacked memory
 
@@ -125,20 +109,14 @@ module _ (alone : Bool) (es : List EndpointParts) (p : Parts) (at : ℕ) (e : En
       told_honest g told short =
           (subst (λ (o : Option (List Triple)). IfSome o (λ graph. IsGraph graph × (length bytes ≤ 67108864 → IsHonest graph request bytes))) told (recursion_from_All (IsHonestAt s.graph) (x ∷ []) passed.honest).0).1 short
 
-      long_by : (bad : BadReply) → IsBadReplyTo p request bytes bad → (g : List Triple) → s.graph e.iri ≡ Some g → (b : Bool) → ltb 67108864 (length bytes) ≡ b → (bad.why ≡ Http TooLong) × (67108864 < length bad.reply)
+      long_by : (bad : BadReply) → IsBadReplyTo (carried_for e p) request bytes bad → (g : List Triple) → s.graph e.iri ≡ Some g → (b : Bool) → ltb 67108864 (length bytes) ≡ b → (bad.why ≡ Http TooLong) × (67108864 < length bad.reply)
       long_by bad h g told b test = pick (long_or_short (length bytes) b test)
         where
           pick : (67108864 < length bytes) ⊎ (length bytes ≤ 67108864) → (bad.why ≡ Http TooLong) × (67108864 < length bad.reply)
-          pick (inl long) = (long_fault p bytes bad.why long h.fault, subst (λ (v : List ℕ). 67108864 < length v) (sym h.replied) long)
-          pick (inr short) = absurd (refuted (told_honest g told short))
-            where
-              refuted : IsHonest g request bytes → ⊥
-              refuted honest =
-                  let y = honest text (query_of p) posts.whole posts.short accepted (no_services p) in
-                  let results : HasResults bytes y.denotes.told = record { body = y.body; replied = (short, y.replied); read = y.denotes.read } in
-                  faultless p g bytes y.denotes.told bad.why known (told_answered p g request bytes text y.denotes.told known honest posts.whole posts.short accepted results) results h.fault
+          pick (inl long) = (only_long e p bytes bad.why long h.fault, subst (λ (v : List ℕ). 67108864 < length v) (sym h.replied) long)
+          pick (inr short) = absurd (honest_faultless e p g request bytes text known (told_honest g told short) posts.whole posts.short accepted bad.why short h.fault)
 
-      replied : (result : Result (List Found) FlowError) → FoundIn p at request bytes result → AskedMember alone s t es p at result
+      replied : (result : Result (List Found) FlowError) → FoundIn (carried_for e p) p at request bytes result → AskedMember alone s t es p at result
       replied result h = record {
         exchanges = x ∷ [];
         failed = 0;
@@ -166,26 +144,26 @@ module _ (alone : Bool) (es : List EndpointParts) (p : Parts) (at : ℕ) (e : En
           unfailed (Ok founds) = refl
           unfailed (Err why) = tt
 
-          numbered : (r : Result (List Found) FlowError) → FoundIn p at request bytes r → IfOk r (λ founds. All (λ f. Contains (numbers p) f.branch) founds)
+          numbered : (r : Result (List Found) FlowError) → FoundIn (carried_for e p) p at request bytes r → IfOk r (λ founds. All (λ f. Contains (numbers p) f.branch) founds)
           numbered (Ok founds) k = k.1
           numbered (Err why) k = tt
 
-          faultless : (r : Result (List Found) FlowError) → FoundIn p at request bytes r → IfOk r (λ _. All (IsReadFor p) (x ∷ []))
+          faultless : (r : Result (List Found) FlowError) → FoundIn (carried_for e p) p at request bytes r → IfOk r (λ _. All (IsReadFor p) (x ∷ []))
           faultless (Ok founds) k = All-from_recursion (IsReadFor p) (x ∷ []) (record { text = text; of_batch = is; posts = posts.exact; founds = founds; tells = k.0 }, tt)
           faultless (Err why) k = tt
 
-          read : (r : Result (List Found) FlowError) → FoundIn p at request bytes r → IfOk r (λ founds. (g : List Triple) → s.graph e.iri ≡ Some g → IsRead g p founds)
-          read (Ok founds) k = λ g told. found_read p g request bytes text founds known (told_honest g told k.0.results.replied.0) posts.whole posts.short accepted k.0
+          read : (r : Result (List Found) FlowError) → FoundIn (carried_for e p) p at request bytes r → IfOk r (λ founds. (g : List Triple) → s.graph e.iri ≡ Some g → IsToldBy g p founds)
+          read (Ok founds) k = λ g told. found_told e p g request bytes text known (told_honest g told k.0.results.replied.0) posts.whole posts.short accepted founds k.0
           read (Err why) k = tt
 
-          named : (r : Result (List Found) FlowError) → FoundIn p at request bytes r → IfErr r (Names at)
+          named : (r : Result (List Found) FlowError) → FoundIn (carried_for e p) p at request bytes r → IfErr r (Names at)
           named (Ok founds) k = tt
           named (Err (flow.BadReply it bad)) k = k.0
           named (Err flow.Memory) k = tt
           named (Err (flow.Member it)) k = absurd k
           named (Err (flow.RequestTooLong it size)) k = absurd k
 
-          cause : (r : Result (List Found) FlowError) → FoundIn p at request bytes r → IfErr r (IsBatchCause s t e p (x ∷ []))
+          cause : (r : Result (List Found) FlowError) → FoundIn (carried_for e p) p at request bytes r → IfErr r (IsBatchCause s t e p (x ∷ []))
           cause (Ok founds) k = tt
           cause (Err (flow.BadReply it bad)) k = record {
             of_kind = k.1.of_kind;
@@ -193,14 +171,14 @@ module _ (alone : Bool) (es : List EndpointParts) (p : Parts) (at : ℕ) (e : En
             of_batch = is;
             posts = k.1.requested ∙ posts.exact;
             exchanged_so = contains_from (x ∷ []) (exchanged e bad.request bad.reply) (inl (λ i. exchanged e (sym k.1.requested i) (sym k.1.replied i)));
-            fault = subst (λ (v : List ℕ). HasFault (a_batch p) v bad.why) (sym k.1.replied) k.1.fault;
+            fault = subst (λ (v : List ℕ). HasFault (carried_for e p) v bad.why) (sym k.1.replied) k.1.fault;
             long = λ g told. long_by bad k.1 g told (ltb 67108864 (length bytes)) refl;
           }
           cause (Err flow.Memory) k = tt
           cause (Err (flow.Member it)) k = absurd k
           cause (Err (flow.RequestTooLong it size)) k = absurd k
 
-    pub asked_member : (r : Posted) (result : Result (List Found) FlowError) → IsPosted e text r → Passed alone (failures_of r) s t (exchanges_of e r) → t.faults e.iri ≡ s.faults e.iri + failures_of r → FoundBy p at r result → AskedMember alone s t es p at result
+    pub asked_member : (r : Posted) (result : Result (List Found) FlowError) → IsPosted e text r → Passed alone (failures_of r) s t (exchanges_of e r) → t.faults e.iri ≡ s.faults e.iri + failures_of r → FoundBy (carried_for e p) p at r result → AskedMember alone s t es p at result
     asked_member (posted.Replied request bytes) result posts passed counted h = replied request bytes posts passed result h
     asked_member posted.Failed result posts passed counted h = subst (AskedMember alone s t es p at) (sym h) (record {
       exchanges = [];

@@ -9,14 +9,14 @@ use Rattle.fx_terms.proofs.SetLemmas.{Among, among_from, contains_from}
 use Rattle.fx_algebra.proofs.MemberLemmas.{among_left, among_right}
 use Rattle.fx_outside.specs.Endpoints.{EndpointParts}
 use Rattle.fx_algebra.specs.Units.{graph_of}
-use Rattle.fx_bound.specs.Answers.{AreReadOf, IsRead, numbers}
+use Rattle.fx_bound.specs.Answers.{numbers}
 use Rattle.fx_bound.specs.Parts.{Parts}
 use Rattle.fx_founds.specs.declared.founds.Found.{Found}
 use Rattle.fx_traffic.specs.Batches.{member_sent}
 use Rattle.fx_traffic.specs.Sent.{Sent, Sends}
 use Rattle.fx_traffic.proofs.SentLemmas.{sent_laws}
 use Rattle.fx_wire.specs.Exchanges.{Exchange, Seen, exchanged}
-use Rattle.fx_flows.specs.Flows.{AreTold, AskedMember, AskedMembers, HasMemberCause, IsBatchCause, IsMemberCause, IsReadFor, IsShort, Passed}
+use Rattle.fx_flows.specs.Flows.{AreTold, AreToldOf, AskedMember, AskedMembers, HasMemberCause, IsBatchCause, IsMemberCause, IsReadFor, IsShort, IsToldBy, Passed}
 use Rattle.fx_pool.specs.Posting.{AreHonest, IsHonestAt}
 use Rattle.fx_flows.specs.declared.flows.FlowError.{FlowError}
 use Rattle.fx_flows.specs.declared.flows.FlowError.TheVariants as flow
@@ -80,7 +80,7 @@ cause_behind s t u e p xs ys flow.Memory alone m h k = tt
 pub same_told : (before after : List ℕ → Option (List Triple)) → ((address : List ℕ) → after address ≡ before address) → (es : List EndpointParts) (graphs : List (List Triple)) (Of : ℕ → Type 0) → AreTold before es graphs Of → AreTold after es graphs Of
 same_told before after same es graphs Of h = λ at e of found. same e.iri ∙ h at e of found
 
-read_more : (graphs : List (List Triple)) (p : Parts) (members : List ℕ) (lists : List (List Found)) (at : ℕ) (founds : List Found) → AreReadOf graphs p members lists → IsRead (graph_of graphs at) p founds → AreReadOf graphs p (members ++ at ∷ []) (lists ++ founds ∷ [])
+read_more : (graphs : List (List Triple)) (p : Parts) (members : List ℕ) (lists : List (List Found)) (at : ℕ) (founds : List Found) → AreToldOf graphs p members lists → IsToldBy (graph_of graphs at) p founds → AreToldOf graphs p (members ++ at ∷ []) (lists ++ founds ∷ [])
 read_more graphs p [] [] at founds h k = (k, tt)
 read_more graphs p [] (l ∷ lists) at founds h k = absurd h
 read_more graphs p (m ∷ members) [] at founds h k = absurd h

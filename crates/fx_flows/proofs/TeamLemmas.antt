@@ -16,7 +16,7 @@ use Rattle.fx_algebra.specs.Graphs.{union}
 use Rattle.fx_algebra.specs.Units.{graph_of, step}
 use Rattle.fx_algebra.specs.declared.units.Row.{Row}
 use Rattle.fx_spelling.specs.Units.{IsSound}
-use Rattle.fx_bound.specs.Answers.{AreReadOf, numbers}
+use Rattle.fx_bound.specs.Answers.{numbers}
 use Rattle.fx_bound.specs.Parts.{Parts}
 use Rattle.fx_founds.specs.declared.founds.Found.{Found}
 use Rattle.fx_traffic.specs.Batches.{member_sent, unit_sent}
@@ -25,7 +25,7 @@ use Rattle.fx_traffic.specs.Sent.{Sent, Sends}
 use Rattle.fx_traffic.proofs.GainLemmas.{gain_laws}
 use Rattle.fx_traffic.proofs.SentLemmas.{sent_laws}
 use Rattle.fx_wire.specs.Exchanges.{Exchange, Seen}
-use Rattle.fx_flows.specs.Flows.{AreTold, AskedBatch, AskedMembers, IsBatchCause, IsCause, IsMemberCause, HasMemberCause, IsReadFor, IsShort, lists_in, rows_in}
+use Rattle.fx_flows.specs.Flows.{AreTold, AreToldOf, AskedBatch, AskedMembers, IsBatchCause, IsCause, IsMemberCause, HasMemberCause, IsReadFor, IsShort, lists_in, rows_in}
 use Rattle.fx_flows.specs.Teams.{AreListsOfBoth, BatchAsked, HasAskedCause, IsAskedCause, MembersAsked, OverOneWire}
 use Rattle.fx_flows.specs.declared.flows.FlowError.{FlowError}
 use Rattle.fx_flows.specs.declared.flows.FlowError.TheVariants as flow
@@ -120,8 +120,8 @@ module _ (tells alone : Bool) (w t : Seen) (others : List Seen) (es : List Endpo
     cause = cause r h.cause;
   }
     where
-      read : (o : Result (List (List Found)) FlowError) → IfOk o (λ lists. (graphs : List (List Triple)) → AreTold w.graph es graphs (Contains members) → AreReadOf graphs p members lists)
-          → IfOk o (λ lists. (graphs : List (List Triple)) → TellOf (w ∷ others) es graphs (Contains members) → AreReadOf graphs p members lists)
+      read : (o : Result (List (List Found)) FlowError) → IfOk o (λ lists. (graphs : List (List Triple)) → AreTold w.graph es graphs (Contains members) → AreToldOf graphs p members lists)
+          → IfOk o (λ lists. (graphs : List (List Triple)) → TellOf (w ∷ others) es graphs (Contains members) → AreToldOf graphs p members lists)
       read (Ok lists) k = λ graphs told. k graphs (first_told graphs told)
       read (Err why) k = tt
 
@@ -138,7 +138,7 @@ first_asked see tells alone (w ∷ others) x new es p members r same some h = fi
 
 -- ---- two halves of the wires and of the members
 
-read_both : (graphs : List (List Triple)) (p : Parts) (members more : List ℕ) (lists others : List (List Found)) → AreReadOf graphs p members lists → AreReadOf graphs p more others → AreReadOf graphs p (members ++ more) (lists ++ others)
+read_both : (graphs : List (List Triple)) (p : Parts) (members more : List ℕ) (lists others : List (List Found)) → AreToldOf graphs p members lists → AreToldOf graphs p more others → AreToldOf graphs p (members ++ more) (lists ++ others)
 read_both graphs p [] more [] others h k = k
 read_both graphs p [] more (l ∷ lists) others h k = absurd h
 read_both graphs p (m ∷ members) more [] others h k = absurd h
@@ -148,7 +148,7 @@ abbrev AreNumbered : Parts → List (List Found) → Type 0
 AreNumbered p lists = All (λ list. All (λ (f : Found). Contains (numbers p) f.branch) list) lists
 
 abbrev AreRead : List EndpointParts → Parts → List Seen → List ℕ → List (List Found) → Type 0
-AreRead es p wires members lists = (graphs : List (List Triple)) → TellOf wires es graphs (Contains members) → AreReadOf graphs p members lists
+AreRead es p wires members lists = (graphs : List (List Triple)) → TellOf wires es graphs (Contains members) → AreToldOf graphs p members lists
 
 abbrev Lists : Type 0
 Lists = Vec (List Found) Global
@@ -229,7 +229,7 @@ module _ (tells alone : Bool) (es : List EndpointParts) (p : Parts) (s t u v : L
 
       read : (a b o : Result Lists FlowError) → AreListsOfBoth a b o → IfOk (lists_in a) (AreRead es p s here) → IfOk (lists_in b) (AreRead es p u there) → IfOk (lists_in o) (AreRead es p (s ++ u) (here ++ there))
       read (Ok x) (Ok y) (Ok all) is e f = λ graphs told.
-          subst (AreReadOf graphs p (here ++ there)) (sym is) (read_both graphs p here there x.items y.items (e graphs (told_here graphs told)) (f graphs (told_there graphs told)))
+          subst (AreToldOf graphs p (here ++ there)) (sym is) (read_both graphs p here there x.items y.items (e graphs (told_here graphs told)) (f graphs (told_there graphs told)))
       read (Ok x) (Ok y) (Err why) is e f = tt
       read (Ok x) (Err why) o is e f = subst (λ (r : Result Lists FlowError). IfOk (lists_in r) (AreRead es p (s ++ u) (here ++ there))) (sym is) tt
       read (Err why) b o is e f = subst (λ (r : Result Lists FlowError). IfOk (lists_in r) (AreRead es p (s ++ u) (here ++ there))) (sym is) tt
@@ -275,7 +275,7 @@ module _ (tells alone : Bool) (s t : List Seen) (es : List EndpointParts) (p : P
   }
 
   pub batch_given : (lists : List (List Found)) (result : Result (Vec Row Global) FlowError) → MembersAsked tells alone s t es p p.unit.members (Ok lists)
-      → ((graphs : List (List Triple)) → IsSound graphs p.unit → AreReadOf graphs p p.unit.members lists → IfOk result (λ rows. IsPermutation rows.items (step (union graphs) p.unit p.rows)))
+      → ((graphs : List (List Triple)) → IsSound graphs p.unit → AreToldOf graphs p p.unit.members lists → IfOk result (λ rows. IsPermutation rows.items (step (union graphs) p.unit p.rows)))
       → IfErr result (λ e. e ≡ flow.Memory) → BatchAsked tells alone s t es p (rows_in result)
   batch_given lists (Ok rows) h f m = record {
     exchanges = h.exchanges;

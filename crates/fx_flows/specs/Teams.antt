@@ -10,14 +10,14 @@ use Rattle.fx_algebra.specs.Units.{step}
 use Rattle.fx_algebra.specs.declared.units.Row.{Row}
 use Rattle.fx_algebra.specs.declared.units.Unit as unit
 use Rattle.fx_spelling.specs.Units.{IsSound}
-use Rattle.fx_bound.specs.Answers.{AreReadOf, numbers}
+use Rattle.fx_bound.specs.Answers.{numbers}
 use Rattle.fx_bound.specs.Parts.{Parts}
 use Rattle.fx_founds.specs.declared.founds.Found.{Found}
 use Rattle.fx_traffic.specs.Batches.{batches_sent, joined, member_sent, unit_sent}
 use Rattle.fx_traffic.specs.Gains.{AreAfter, HaveGained, Tell, TellOf, WiresSeen, faults_at}
 use Rattle.fx_traffic.specs.Sent.{Sent, Sends}
 use Rattle.fx_wire.specs.Exchanges.{Exchange, Seen}
-use Rattle.fx_flows.specs.Flows.{AskedBatch, IsBatchRead, IsCause, IsReadFor, IsShort, Names}
+use Rattle.fx_flows.specs.Flows.{AreToldOf, AskedBatch, IsBatchRead, IsCause, IsReadFor, IsShort, Names}
 use Rattle.fx_flows.specs.InPart.{AreSentInPart}
 use Rattle.fx_flows.specs.RunLaws.{AllTell}
 use Rattle.fx_pool.specs.Runs.{IsHonestOver}
@@ -58,7 +58,7 @@ pub record MembersAsked (tells alone : Bool) (before after : List Seen) (endpoin
   pub whole : IfOk result (λ _. left ≡ [])
   pub short : All IsShort exchanges
   pub faultless : IfOk result (λ _. All (IsReadFor p) exchanges)
-  pub read : IfOk result (λ lists. (graphs : List (List Triple)) → TellOf before endpoints graphs (Contains members) → AreReadOf graphs p members lists)
+  pub read : IfOk result (λ lists. (graphs : List (List Triple)) → TellOf before endpoints graphs (Contains members) → AreToldOf graphs p members lists)
   pub cause : IfErr result (HasAskedCause before after endpoints p members exchanges)
 
 abbrev pub MembersAskedOver : WiresSeen → List EndpointParts → Parts → List ℕ → Result (List (List Found)) FlowError → Type 0

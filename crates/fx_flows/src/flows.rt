@@ -6,11 +6,12 @@ ghost use Rattle.fx_algebra.specs.Graphs.{union};
 ghost use Rattle.fx_algebra.specs.Units.{step};
 ghost use Rattle.fx_algebra.specs.declared.units.Row.{Row as RowParts};
 ghost use Rattle.fx_spelling.specs.Units.{IsFit, IsSound};
-ghost use Rattle.fx_bound.specs.Answers.{AreReadOf, numbers};
+ghost use Rattle.fx_bound.specs.Answers.{numbers};
 ghost use Rattle.fx_outside.specs.Endpoints.{is_sendable};
 ghost use Rattle.fx_flows.specs.Flows.{AskedBatch, AskedMember, AskedMembers, lists_in, rows_in};
 ghost use Rattle.fx_flows.specs.Flows as spec;
 ghost use Rattle.fx_flows.specs.Lines.{hand};
+ghost use Rattle.fx_pool.specs.Reading.{a_batch};
 ghost use Rattle.fx_flows.specs.Followed.{CanFollow};
 ghost use Rattle.fx_flows.specs.RunFlows.{RunFlowedOver};
 ghost use Rattle.fx_steps.specs.Steps.{numbered};
@@ -302,10 +303,11 @@ pub(crate) fn united(
     lists: &[Items<Found>],
 ) -> Result<Vec<Row>, FlowError>
     requires { All (λ list. All (λ f. Contains (numbers batch.now) f.branch) list) lists.now }
-    ensures step { (graphs : List (List TripleParts)) → IsSound graphs batch.now.unit → AreReadOf graphs batch.now batch.now.unit.members lists.now
+    ensures step { (graphs : List (List TripleParts)) → IsSound graphs batch.now.unit → spec.AreToldOf graphs batch.now batch.now.unit.members lists.now
         → IfOk result (λ rows. IsPermutation rows.items (step (union graphs) batch.now.unit batch.now.rows)) }
     ensures memory { IfErr result (λ e. e ≡ FlowError.Memory) }
 {
+    let _branches = batch.branches();
     match unite(alloc, batch, lists) {
         Ok(rows) => Ok(rows),
         Err(Memory) => Err(FlowError::Memory),
@@ -368,7 +370,7 @@ fn found_by(
     at: u32,
     posted: Posted,
 ) -> Result<Items<Found>, FlowError>
-    ensures { spec.FoundBy batch.now at posted result }
+    ensures { spec.FoundBy (a_batch batch.now) batch.now at posted result }
 {
     match posted {
         Posted::Failed => Err(FlowError::Member { at }),
@@ -384,7 +386,7 @@ fn found_in(
     request: Items<u8>,
     reply: Items<u8>,
 ) -> Result<Items<Found>, FlowError>
-    ensures { spec.FoundIn batch.now at request reply result }
+    ensures { spec.FoundIn (a_batch batch.now) batch.now at request reply result }
 {
     match read_found(alloc, reply.as_slice(), batch) {
         Ok(founds) => Ok(founds),

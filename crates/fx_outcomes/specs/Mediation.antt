@@ -82,7 +82,7 @@ pub record HasLongBatch (endpoints : List EndpointParts) (q : Query) (calls : Li
   pub batch : List Row
   pub asked : IsBatchFor endpoints q calls block e unit batch
   pub allowed : (x : Sent) → Contains (unit_sent endpoints unit batch) x → Contains texts x
-  pub is_long : IsLongBatch (record { unit = unit; rows = batch }) size
+  pub is_long : IsLongBatch e (record { unit = unit; rows = batch }) size
 
 abbrev pub HasLongAsk : List EndpointParts → Query → List Entry → EndpointParts → ℕ → Type 0
 HasLongAsk endpoints q entries e size = (p : Probe) × IsMissing endpoints q entries e p × IsLongAsk p size

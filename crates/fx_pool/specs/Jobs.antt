@@ -31,16 +31,20 @@ text_of (work.Ask text) = text
 text_of (work.Batch b) = or_nothing (batch.text_of b)
 text_of (work.Service text columns) = text
 
-abbrev pub kind_of : Work → JobKind
-kind_of (work.Ask text) = kind.Ask
-kind_of (work.Batch b) = kind.Batch
-kind_of (work.Service text columns) = kind.Service
-
 -- what the request carries
 abbrev pub carried_by : Work → Carried
 carried_by (work.Ask text) = an_ask
 carried_by (work.Batch b) = a_batch b
 carried_by (work.Service text columns) = a_service columns
+
+-- and by that its kind
+abbrev pub kind_by : Carried → JobKind
+kind_by an_ask = kind.Ask
+kind_by (a_batch b) = kind.Batch
+kind_by (a_service columns) = kind.Service
+
+abbrev pub kind_of : Work → JobKind
+kind_of w = kind_by (carried_by w)
 
 -- ---- what a reply tells
 
@@ -53,7 +57,7 @@ pub record IsBadReply (w : Work) (request bytes : List ℕ) (bad : BadReply) : T
 
 abbrev pub Tells : Work → List ℕ → List ℕ → JobReply → Type 0
 Tells (work.Ask text) request bytes (reply.Truth truth) = HasResults bytes (answer.Truth truth)
-Tells (work.Batch b) request bytes (reply.Found founds) = HasFound bytes b founds
+Tells (work.Batch b) request bytes (reply.Found founds) = HasFound (a_batch b) bytes founds
 Tells (work.Service text columns) request bytes (reply.Table rows) = HasTable bytes columns rows
 Tells w request bytes (reply.Bad bad) = IsBadReply w request bytes bad
 Tells w request bytes r = ⊥

@@ -1,6 +1,7 @@
 -- What a reply tells of what its request carries, or its first fault.
 use Rattle.std.specs.Prelude.{◌≡◌, ℕ, Bool, not, List, Some, None, Result, Ok, Err, position}
 use Rattle.std.specs.List.{list_any}
+use Rattle.fx_outside.specs.Endpoints.{EndpointParts}
 use Rattle.fx_algebra.specs.Scopes.{is_among}
 use Rattle.fx_algebra.specs.Solutions.{Bindings}
 use Rattle.fx_algebra.specs.declared.answers.Answer.{Answer}
@@ -24,6 +25,10 @@ pub data Carried : Type 0 where
   an_ask : Carried
   a_batch : Parts → Carried
   a_service : List (List ℕ) → Carried
+
+-- Of a batch it is what the endpoint is asked for. Each endpoint takes the same form.
+abbrev pub carried_for : EndpointParts → Parts → Carried
+carried_for e p = a_batch p
 
 -- ---- results
 
@@ -80,11 +85,17 @@ HasFault carried reply why = HasUnfit carried reply why
 
 -- ---- what reading gives
 
+-- what the results tell of the branches of a batch
+abbrev pub IsFoundIn : Carried → Answer → List Found → Type 0
+IsFoundIn an_ask told founds = ⊥
+IsFoundIn (a_batch parts) told founds = read_answer parts told ≡ Ok founds
+IsFoundIn (a_service columns) told founds = ⊥
+
 -- what is found for the branches of a batch
-pub record HasFound (reply : List ℕ) (parts : Parts) (founds : List Found) : Type 0 where
+pub record HasFound (carried : Carried) (reply : List ℕ) (founds : List Found) : Type 0 where
   pub told : Answer
   pub results : HasResults reply told
-  pub read : read_answer parts told ≡ Ok founds
+  pub read : IsFoundIn carried told founds
 
 -- the rows of a table that binds the columns alone
 pub record HasTable (reply : List ℕ) (columns : List (List ℕ)) (rows : List Bindings) : Type 0 where
@@ -106,7 +117,7 @@ GivesTruth reply (Err (Bad why)) = HasFault an_ask reply why
 GivesTruth reply (Err Memory) = Unit {0}
 
 abbrev pub GivesFound : List ℕ → Parts → Result (List Found) ReadError → Type 0
-GivesFound reply parts (Ok founds) = HasFound reply parts founds
+GivesFound reply parts (Ok founds) = HasFound (a_batch parts) reply founds
 GivesFound reply parts (Err (Bad why)) = HasFault (a_batch parts) reply why
 GivesFound reply parts (Err Memory) = Unit {0}
 

@@ -17,7 +17,7 @@ GivesTruthReply bytes (Err (Bad why)) = HasFault an_ask bytes why
 GivesTruthReply bytes (Err Memory) = Unit {0}
 
 abbrev pub GivesFoundReply : List ℕ → Parts → Result JobReply ReadError → Type 0
-GivesFoundReply bytes parts (Ok (reply.Found founds)) = HasFound bytes parts founds
+GivesFoundReply bytes parts (Ok (reply.Found founds)) = HasFound (a_batch parts) bytes founds
 GivesFoundReply bytes parts (Ok r) = ⊥
 GivesFoundReply bytes parts (Err (Bad why)) = HasFault (a_batch parts) bytes why
 GivesFoundReply bytes parts (Err Memory) = Unit {0}

@@ -27,17 +27,13 @@ use Rattle.fx_services.specs.declared.noted.DownCause.TheVariants as cause
 use Rattle.fx_outcomes.specs.declared.federated.FedError.{FedError}
 use Rattle.fx_outcomes.specs.declared.federated.FedError.TheVariants as fed
 use Rattle.fx_terms.proofs.SetLemmas.{Among, among_from, contains_from}
-use Rattle.fx_algebra.specs.Printed.{printed_query}
 use Rattle.fx_algebra.specs.declared.units.Row.{Row}
 use Rattle.fx_algebra.specs.declared.units.Unit as unit
 use Rattle.fx_algebra.proofs.MemberLemmas.{among_flat_map}
 use Rattle.fx_http.specs.Requests.{request_of}
-use Rattle.fx_bound.specs.Batches.{batch_query}
-use Rattle.fx_bound.specs.Parts.{printed_by, text_of}
-use Rattle.fx_founds.specs.Uniting.{Place, branches}
 use Rattle.fx_sources.specs.Probes.{Entry, missing}
 use Rattle.fx_sources.specs.Sources.{ask_text}
-use Rattle.fx_traffic.specs.Batches.{member_sent, text_sent, to_endpoint, unit_sent}
+use Rattle.fx_traffic.specs.Batches.{member_sent, text_for, text_sent, to_endpoint, unit_sent}
 use Rattle.fx_traffic.specs.Gains.{HaveGained}
 use Rattle.fx_traffic.specs.Sent.{Sent}
 use Rattle.fx_wire.specs.Exchanges.{Exchange, exchanged}
@@ -171,23 +167,18 @@ no_long_ask es asked p size short among long =
     let more : 67108864 < size = long.1 in
     omega (arith, fits, same, more)
 
--- the text of a batch is what is sent for it
-text_is_sent : (e : EndpointParts) (u : unit.Unit) (bs : List Place) (text : List ℕ) → printed_by (batch_query u bs) bs ≡ Some text → text_sent e u bs ≡ record { at = e; request = request_of e text } ∷ []
-text_is_sent e u [] text h = cc
-text_is_sent e u (b ∷ bs) text h = let same : printed_query (batch_query u (b ∷ bs)) ≡ text = cc in ap (λ (t : List ℕ). record { at = e; request = request_of e t } ∷ []) same
-
--- and is among what is sent to all members of the unit
-sent_among : (es : List EndpointParts) (u : unit.Unit) (rows : List Row) (at : ℕ) (e : EndpointParts) (text : List ℕ) → Contains u.members at → slice_get es at ≡ Some e → text_of (record { unit = u; rows = rows }) ≡ Some text
+-- the text by which an endpoint is asked for a batch is among what is sent to all members of the unit
+sent_among : (es : List EndpointParts) (u : unit.Unit) (rows : List Row) (at : ℕ) (e : EndpointParts) (text : List ℕ) → Contains u.members at → slice_get es at ≡ Some e → text_for e (record { unit = u; rows = rows }) ≡ Some text
     → Contains (unit_sent es u rows) (record { at = e; request = request_of e text })
 sent_among es u rows at e text member found is =
     let sent : Sent = record { at = e; request = request_of e text } in
-    let all : member_sent es u rows at ≡ sent ∷ [] = ap (to_endpoint u rows) found ∙ text_is_sent e u (branches u rows) text is in
+    let all : member_sent es u rows at ≡ sent ∷ [] = ap (to_endpoint u rows) found ∙ ap (text_sent e) is in
     contains_from (unit_sent es u rows) sent (among_flat_map (member_sent es u rows) at sent u.members (among_from u.members at member) (subst (λ (l : List Sent). Among sent l) (sym all) (inl refl)))
 
 -- a batch whose text is longer than it may be isn't one of the query's
 no_long_batch : (es : List EndpointParts) (texts : List Sent) (u : unit.Unit) (rows : List Row) (at : ℕ) (e : EndpointParts) (size : ℕ)
     → All IsShort texts
-    → Contains u.members at → slice_get es at ≡ Some e → ((x : Sent) → Contains (unit_sent es u rows) x → Contains texts x) → IsLongBatch (record { unit = u; rows = rows }) size → ⊥
+    → Contains u.members at → slice_get es at ≡ Some e → ((x : Sent) → Contains (unit_sent es u rows) x → Contains texts x) → IsLongBatch e (record { unit = u; rows = rows }) size → ⊥
 no_long_batch es texts u rows at e size short member found allowed long =
     let x : Sent = record { at = e; request = request_of e long.text } in
     let among = allowed x (sent_among es u rows at e long.text member found long.of_batch) in

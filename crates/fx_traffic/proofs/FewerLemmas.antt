@@ -22,18 +22,19 @@ use Rattle.fx_algebra.specs.Units.{row_of, sources, step}
 use Rattle.fx_algebra.specs.declared.queries.Element.TheVariants as element
 use Rattle.fx_algebra.specs.declared.queries.Form.TheVariants as form
 use Rattle.fx_algebra.specs.declared.queries.Group.{Group, roll-Group}
+use Rattle.fx_algebra.specs.declared.queries.Query.{Query}
 use Rattle.fx_algebra.specs.declared.units.Row.{Row}
 use Rattle.fx_algebra.specs.declared.units.Unit as unit
 use Rattle.fx_algebra.proofs.JoinLemmas.{same_join}
 use Rattle.fx_algebra.proofs.OperatorLemmas.{filtered_moves}
 use Rattle.fx_plan.specs.Plans.{plan}
-use Rattle.fx_http.specs.Requests.{request_of}
 use Rattle.fx_bound.specs.Batches.{batch_query, branch_group}
+use Rattle.fx_bound.specs.Parts.{printed_by}
 use Rattle.fx_bound.specs.Reading.{all_columns, columns_of}
 use Rattle.fx_founds.specs.Uniting.{Place, branches, is_worth_asking, places_from}
 use Rattle.fx_steps.specs.Steps.{numbered, solutions_of}
 use Rattle.fx_steps.proofs.StepLemmas.{numbered_solutions, step_solutions}
-use Rattle.fx_traffic.specs.Batches.{IsRunSent, IsSized, IsStepSent, batches_sent, joined, text_sent, to_endpoint, unit_sent}
+use Rattle.fx_traffic.specs.Batches.{IsRunSent, IsSized, IsStepSent, batches_sent, joined, text_for, text_sent, to_endpoint, unit_sent}
 use Rattle.fx_traffic.specs.Fewer.{FewerLaws, NumbersAreFree, PlanOfMore, RunOfMore, StationOfMore}
 use Rattle.fx_traffic.specs.Sent.{Sent}
 use Rattle.fx_traffic.specs.Traffic.{SentUnless}
@@ -133,17 +134,21 @@ bare_query u bs =
     let groups = bare_groups u bs in
     λ i. record { form = form.Select false (columns i); group = roll-Group (record { elements = element.Union (groups i) ∷ [] }); order = []; offset = 0; limit = None; inline = None }
 
-bare_text : (e : EndpointParts) (u : unit.Unit) (bs : List Place) → text_sent e u (map bare_place bs) ≡ text_sent e u bs
-bare_text e u [] = refl
-bare_text e u (b ∷ bs) = let same = bare_query u (b ∷ bs) in λ i. record { at = e; request = request_of e (printed_query (same i)) } ∷ []
+bare_printed : (u : unit.Unit) (bs : List Place) → printed_by (batch_query u (map bare_place bs)) (map bare_place bs) ≡ printed_by (batch_query u bs) bs
+bare_printed u [] = refl
+bare_printed u (b ∷ bs) = ap (λ (q : Query). Some (printed_query q)) (bare_query u (b ∷ bs))
+
+-- in whatever form an endpoint takes it
+bare_text : (e : EndpointParts) (u : unit.Unit) (batch : List Row) → text_for e (record { unit = u; rows = bare (solutions_of batch) }) ≡ text_for e (record { unit = u; rows = batch })
+bare_text e u batch =
+    ap (λ (bs : List Place). printed_by (batch_query u (filter (is_worth_asking u) bs)) (filter (is_worth_asking u) bs)) (bare_places 0 batch)
+    ∙ ap (λ (bs : List Place). printed_by (batch_query u bs) bs) (worth_asking u (places_from 0 batch))
+    ∙ bare_printed u (branches u batch)
 
 module _ (endpoints : List EndpointParts) (u : unit.Unit) where
   bare_member : (batch : List Row) (o : Option EndpointParts) → to_endpoint u (bare (solutions_of batch)) o ≡ to_endpoint u batch o
   bare_member batch None = refl
-  bare_member batch (Some e) =
-      ap (λ (bs : List Place). text_sent e u (filter (is_worth_asking u) bs)) (bare_places 0 batch)
-      ∙ ap (text_sent e u) (worth_asking u (places_from 0 batch))
-      ∙ bare_text e u (branches u batch)
+  bare_member batch (Some e) = ap (text_sent e) (bare_text e u batch)
 
   bare_unit : (batch : List Row) → unit_sent endpoints u (bare (solutions_of batch)) ≡ unit_sent endpoints u batch
   bare_unit batch = ap (λ (f : ℕ → List Sent). flat_map f u.members) (λ i at. bare_member batch (slice_get endpoints at) i)

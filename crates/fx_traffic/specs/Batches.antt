@@ -4,13 +4,11 @@ use Rattle.std.specs.Prelude.{◌≡◌, Option, None, ℕ, ◌+◌, ◌*◌, �
 use Rattle.std.specs.List.{flat_map}
 use Rattle.fx_terms.specs.declared.triples.Triple.{Triple}
 use Rattle.fx_outside.specs.Endpoints.{EndpointParts}
-use Rattle.fx_algebra.specs.Printed.{printed_query}
 use Rattle.fx_algebra.specs.Units.{step}
 use Rattle.fx_algebra.specs.declared.units.Row.{Row}
 use Rattle.fx_algebra.specs.declared.units.Unit as unit
 use Rattle.fx_http.specs.Requests.{request_of}
-use Rattle.fx_bound.specs.Batches.{batch_query}
-use Rattle.fx_founds.specs.Uniting.{Place, branches}
+use Rattle.fx_bound.specs.Parts.{Parts, text_of}
 use Rattle.fx_traffic.specs.Sent.{Sent}
 
 -- ---- batches of rows
@@ -37,13 +35,17 @@ pub record AreCut (rows : List Row) (block : ℕ) (batches : List (List Row)) : 
 
 -- ---- what they send
 
--- the text that asks for these branches, where there is one
-abbrev pub text_sent : EndpointParts → unit.Unit → List Place → List Sent
-text_sent e u [] = []
-text_sent e u (b ∷ bs) = record { at = e; request = request_of e (printed_query (batch_query u (b ∷ bs))) } ∷ []
+-- The text by which an endpoint is asked for a batch, where a branch is left. Each endpoint takes the same form.
+abbrev pub text_for : EndpointParts → Parts → Option (List ℕ)
+text_for e p = text_of p
+
+-- a text to an endpoint, where there is one
+abbrev pub text_sent : EndpointParts → Option (List ℕ) → List Sent
+text_sent e None = []
+text_sent e (Some text) = record { at = e; request = request_of e text } ∷ []
 
 abbrev pub batch_sent : EndpointParts → unit.Unit → List Row → List Sent
-batch_sent e u batch = text_sent e u (branches u batch)
+batch_sent e u batch = text_sent e (text_for e (record { unit = u; rows = batch }))
 
 abbrev pub to_endpoint : unit.Unit → List Row → Option EndpointParts → List Sent
 to_endpoint u batch None = []

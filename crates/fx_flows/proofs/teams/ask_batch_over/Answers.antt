@@ -6,9 +6,10 @@ use Rattle.fx_algebra.specs.Graphs.{union}
 use Rattle.fx_algebra.specs.Units.{step}
 use Rattle.fx_algebra.specs.declared.units.Row.{Row}
 use Rattle.fx_spelling.specs.Units.{IsSound}
-use Rattle.fx_bound.specs.Answers.{AreReadOf, numbers}
+use Rattle.fx_bound.specs.Answers.{numbers}
 use Rattle.fx_bound.specs.Parts.{Parts}
 use Rattle.fx_founds.specs.declared.founds.Found.{Found}
+use Rattle.fx_flows.specs.Flows.{AreToldOf}
 use Rattle.fx_flows.specs.Teams.{MembersAsked}
 use Rattle.fx_flows.specs.declared.flows.FlowError.{FlowError}
 use Rattle.fx_flows.proofs.TeamLemmas.{batch_given, batch_unasked}
@@ -23,7 +24,7 @@ united-requires g c =
 
 -- what uniting gives, by the parts of the batch and the lists
 abbrev Unites : Result (Vec Row Global) FlowError → Parts → List (List Found) → Type 0
-Unites result p lists = (graphs : List (List Triple)) → IsSound graphs p.unit → AreReadOf graphs p p.unit.members lists → IfOk result (λ rows. IsPermutation rows.items (step (union graphs) p.unit p.rows))
+Unites result p lists = (graphs : List (List Triple)) → IsSound graphs p.unit → AreToldOf graphs p p.unit.members lists → IfOk result (λ rows. IsPermutation rows.items (step (union graphs) p.unit p.rows))
 
 pub returns : goal.returns
 returns g c =
