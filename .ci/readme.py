@@ -1,4 +1,4 @@
-"""Runs the commands that README.md and docs/TUTORIAL.md show and compares what they print and how they end.
+"""Runs the commands that README.md, docs/TUTORIAL.md and docs/COMPARING.md show and compares what they print and how they end.
 
 A block that begins with ```console has lines "$ COMMAND", each with what the command prints on standard output and standard
 error below it, and perhaps "[status N]" as its last line; without that the status is 0. A command that ends with "&" goes on
@@ -86,7 +86,7 @@ def main():
     if subprocess.run(["tools/build"], cwd=top).returncode:
         return 1
     os.environ["FEDX_PROVED"] = "1"
-    return 0 if all([is_right(page) for page in ("README.md", "docs/TUTORIAL.md")]) else 1
+    return 0 if all([is_right(page) for page in ("README.md", "docs/TUTORIAL.md", "docs/COMPARING.md")]) else 1
 
 
 sys.exit(main())
