@@ -13,7 +13,7 @@ import time
 
 top = os.path.join(os.path.dirname(os.path.abspath(__file__)), "..")
 # The programs that aren't on every machine, by the first word of a command that calls them.
-OPTIONAL = {"examples/ask.sh": "curl", "jq": "jq"}
+OPTIONAL = {"examples/ask.sh": "curl", "jq": "jq", "examples/import": "rapper"}
 
 
 def steps(text):
