@@ -1,5 +1,5 @@
 -- What asking over several wires leaves of them: nothing asked for, one call after the other, and what is given or lost in the end.
-use Rattle.std.proofs.Common.{◌≡◌, sym, subst, refl, ℕ, ◌+◌, ◌<◌, ◌≤◌, Bool, List, [], ◌++◌, All, IfErr, IfOk, Result, Ok, Err, Contains, IsPermutation, arith}
+use Rattle.std.proofs.Common.{ap, ◌∙◌, ◌≡◌, sym, subst, refl, ℕ, ◌+◌, ◌<◌, ◌≤◌, Bool, List, [], ◌++◌, All, IfErr, IfOk, Result, Ok, Err, Contains, IsPermutation, arith}
 use Rattle.std.proofs.lemmas.List.Elements.{All-append, All-nil, All-weaker}
 use Rattle.std.proofs.lemmas.List.Sorted.{All-permutation, Contains-permutation, IsPermutation-refl}
 use Rattle.std.specs.declared.alloc.Global.{Global}
@@ -65,6 +65,10 @@ read_of_more Of Of_also more xs h = All-weaker (IsBatchRead Of) (IsBatchRead Of_
 so_if_refused : (P : Type 0) (e : RowsError) → P → IfRefused e P
 so_if_refused P (rows_error.Flow e) p = tt
 so_if_refused P rows_error.Refused p = p
+
+-- no text
+abbrev no_texts : List Sent
+no_texts = []
 
 -- ---- the cause of a refusal is one of all that was done before it, too
 
@@ -132,6 +136,7 @@ module _ (tells alone : Bool) (endpoints : List EndpointParts) (tasks : List Tas
     wanted = [];
     left = [];
     sent = IsPermutation-refl [];
+    whole = refl;
     of_batches = All-nil (IsBatchText endpoints block (Contains (units_in tasks)));
     faultless = All-nil (IsBatchRead (Contains (units_in tasks)));
     known = λ graphs told. f graphs;
@@ -149,6 +154,7 @@ module _ (tells alone : Bool) (endpoints : List EndpointParts) (tasks : List Tas
     wanted = [];
     left = [];
     sent = IsPermutation-refl [];
+    whole = so_if_refused (no_texts ≡ []) e refl;
     of_batches = All-nil (IsBatchText endpoints block (Contains (units_in tasks)));
     faultless = so_if_refused (All (IsBatchRead (Contains (units_in tasks))) []) e (All-nil (IsBatchRead (Contains (units_in tasks))));
     known = λ graphs told. f graphs;
@@ -171,6 +177,7 @@ module _ (tells alone : Bool) (endpoints : List EndpointParts) (tasks : List Tas
       wanted = h.wanted;
       left = h.left;
       sent = h.sent;
+      whole = h.whole;
       of_batches = h.of_batches;
       faultless = h.faultless;
       known = λ graphs told. f graphs h.wanted (h.known graphs told);
@@ -188,6 +195,7 @@ module _ (tells alone : Bool) (endpoints : List EndpointParts) (tasks : List Tas
       wanted = h.wanted;
       left = h.left;
       sent = h.sent;
+      whole = tt;
       of_batches = h.of_batches;
       faultless = tt;
       known = λ graphs told. f graphs h.wanted (h.known graphs told);
@@ -205,6 +213,7 @@ module _ (tells alone : Bool) (endpoints : List EndpointParts) (tasks : List Tas
       wanted = h.wanted;
       left = h.left;
       sent = h.sent;
+      whole = h.whole;
       of_batches = h.of_batches;
       faultless = h.faultless;
       known = λ graphs told. f graphs h.wanted (h.known graphs told);
@@ -230,12 +239,21 @@ module _ (tells alone : Bool) (endpoints : List EndpointParts) (tasks : List Tas
           wanted = h.wanted ++ k.wanted;
           left = h.left ++ k.left;
           sent = sent_laws.any_order (h.wanted ++ k.wanted) (h.left ++ k.left) (h.exchanges ++ k.exchanges) both.all both.same (sent_laws.together h.wanted h.left k.wanted k.left h.exchanges k.exchanges h.sent k.sent);
+          whole = whole r k.whole;
           of_batches = All-append (IsBatchText endpoints block (Contains (units_in tasks))) h.wanted k.wanted h.of_batches k.of_batches;
           faultless = faultless both.all both.same r k.faultless;
           known = λ graphs told. known r graphs (h.known graphs told) (k.known graphs (still_tell_of before between none.after_all endpoints graphs (IsMemberIn (units_in tasks)) told));
           cause = cause both.all both.same r k.cause;
         }
       where
+        none_left : k.left ≡ [] → h.left ++ k.left ≡ []
+        none_left none = ap (λ (v : List Sent). v ++ k.left) h.whole ∙ none
+
+        whole : (o : Result Y RowsError) → IfGiven o (k.left ≡ []) → IfGiven o (h.left ++ k.left ≡ [])
+        whole (Ok y) none = none_left none
+        whole (Err (rows_error.Flow e)) none = tt
+        whole (Err rows_error.Refused) none = none_left none
+
         both_read : (all : List Exchange) → IsPermutation (h.exchanges ++ k.exchanges) all → All (IsBatchRead (Contains (units_in tasks))) k.exchanges → All (IsBatchRead (Contains (units_in tasks))) all
         both_read all same g = All-permutation (IsBatchRead (Contains (units_in tasks))) (h.exchanges ++ k.exchanges) all same (All-append (IsBatchRead (Contains (units_in tasks))) h.exchanges k.exchanges h.faultless g)
 

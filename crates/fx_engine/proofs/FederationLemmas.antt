@@ -1,5 +1,5 @@
 -- A query was asked over wires: its answer, or the cause of a refusal.
-use Rattle.std.proofs.Common.{◌≡◌, ◌∙◌, ap, sym, subst, refl, inl, inr, ◌⊎◌, ℕ, ◌+◌, ◌<◌, ◌≤◌, Bool, List, [], ◌∷◌, ◌++◌, length, map, None, Ok, Err, IfErr, IfOk, IsTrue, Result, append-nil, append_assoc, arith}
+use Rattle.std.proofs.Common.{◌≡◌, ◌∙◌, ap, sym, subst, refl, inl, inr, ◌⊎◌, ℕ, ◌+◌, ◌<◌, ◌≤◌, Bool, List, [], ◌∷◌, ◌++◌, length, map, None, Ok, Err, IfErr, IfOk, IsTrue, Result, true, replicate, append-nil, append_assoc, arith}
 use Rattle.std.specs.Prelude.{All, Contains, IsPermutation}
 use Rattle.std.specs.List.{zip}
 use Rattle.std.proofs.lemmas.List.Elements.{All-append, All-nil, All-weaker, Contains-append_left, Contains-append_right}
@@ -13,6 +13,7 @@ use Rattle.fx_algebra.specs.Solutions.{Bindings}
 use Rattle.fx_algebra.specs.Units.{sources}
 use Rattle.fx_algebra.specs.declared.queries.Query.{Query}
 use Rattle.fx_algebra.proofs.CutLemmas.{seeds_for_each}
+use Rattle.fx_algebra.proofs.KeptLemmas.{all_kept}
 use Rattle.fx_plan.specs.declared.parts.Part.{Part}
 use Rattle.fx_flows.specs.Flows.{IsBatchRead}
 use Rattle.fx_flows.specs.declared.flows.FlowError.{FlowError}
@@ -21,8 +22,9 @@ use Rattle.fx_pool.proofs.WireLemmas.{after_itself}
 use Rattle.fx_keys.specs.declared.probes.Probe.{Probe}
 use Rattle.fx_sources.specs.Probes.{Entry, chosen, learned, missing, told}
 use Rattle.fx_sources.specs.Sources as source
+use Rattle.fx_sources.proofs.KeptLemmas.{replicate_kept}
 use Rattle.fx_traffic.specs.Batches.{IsBatchText}
-use Rattle.fx_traffic.specs.Gains.{AreAfter, TellAll, faults_at}
+use Rattle.fx_traffic.specs.Gains.{AreAfter, faults_at}
 use Rattle.fx_traffic.specs.Sent.{Sent, Sends}
 use Rattle.fx_traffic.specs.Traffic.{AreAsked, IsServiceSent, IsTraffic}
 use Rattle.fx_traffic.proofs.GainLemmas.{gain_laws}
@@ -36,7 +38,7 @@ use Rattle.fx_services.specs.Noted.{places}
 use Rattle.fx_walks.specs.GroupsAsked.{units_in}
 use Rattle.fx_engine.specs.RowsAsked.{CanBeAsked}
 use Rattle.fx_outcomes.specs.Order.{AreAnswered, AreGiven}
-use Rattle.fx_outcomes.specs.Outcomes.{HasBatchRefusal, HasOutcomeCause, HasRefusal, Outcomed}
+use Rattle.fx_outcomes.specs.Outcomes.{HasBatchRefusal, HasOutcomeCause, HasRefusal, IsPlannedOver, Outcomed}
 use Rattle.fx_walks.specs.RunsSent.{AreRunsSent}
 use Rattle.fx_walks.specs.Sections.{parts_by, parts_with, sections}
 use Rattle.fx_walks.specs.Tasks.{tasks_with}
@@ -126,6 +128,7 @@ federated_unasked tells alone wires es q old block e known cause = record {
   of_runs = λ graphs known services serve down agrees. no_run_sent es graphs block (stations q) (seeds q (union graphs) services down) (seeds_for_each q (union graphs) services down);
   left = [];
   sent = IsPermutation-refl [];
+  whole = tt;
   faultless = tt;
   traffic = λ graphs known services serve down agrees.
       traffic_of es graphs block services down q old wires [] [] [] [] (occurrences q) [] [] [] (none_asked es q old) (no_run_sent es graphs block (stations q) (seeds q (union graphs) services down) (seeds_for_each q (union graphs) services down)) (IsPermutation-refl []) refl refl (IsPermutation-refl []);
@@ -230,6 +233,7 @@ module _ (tells alone : Bool) (s t : List Seen) (es : List EndpointParts) (q : Q
         of_runs = λ graphs known services serve down agrees. no_run_sent es graphs block (stations q) (seeds q (union graphs) services down) (seeds_for_each q (union graphs) services down);
         left = h.left;
         sent = sent;
+        whole = tt;
         faultless = tt;
         traffic = λ graphs known services serve down agrees.
             traffic_of es graphs block services down q old s h.wanted [] h.left [] (occurrences q) h.exchanges [] h.exchanges asked (no_run_sent es graphs block (stations q) (seeds q (union graphs) services down) (seeds_for_each q (union graphs) services down)) sent refl refl
@@ -251,16 +255,29 @@ module _ (tells alone : Bool) (s t : List Seen) (es : List EndpointParts) (q : Q
     by_graphs : (graphs : List (List Triple)) → AreKnown s es old graphs → parts ≡ parts_with (sources graphs) q
     by_graphs graphs known = are ∙ parts_are_by_graphs s es q old graphs truths known.told known.entries_are h.many (h.told graphs known.told)
 
+    -- each member is kept
+    over_all : (graphs : List (List Triple)) → AreKnown s es old graphs → (services : List ℕ → List Triple) → Serve services es graphs → IsPlannedOver t es q parts graphs services
+    over_all graphs known services serve =
+        let every = replicate (length graphs) true in
+        record {
+          all = graphs;
+          told = still_tell_all s t h.after_all es graphs known.told;
+          served = serve;
+          kept = every;
+          those_kept = sym (all_kept every graphs (replicate_kept (length graphs)));
+          plan_is = by_graphs graphs known;
+        }
+
     runs_sent : (graphs : List (List Triple)) → AreKnown s es old graphs → (services : List ℕ → List Triple) → Serve services es graphs → (down : List ℕ) → AgreesWith down k.calls → AreRunsSent es graphs block (stations q) (seeds q (union graphs) services down) k.texts
-    runs_sent graphs known services serve down agrees = k.runs graphs (still_tell_all s t h.after_all es graphs known.told) (by_graphs graphs known) services serve down agrees
+    runs_sent graphs known services serve down agrees = k.runs graphs services (over_all graphs known services serve) down agrees
 
     abbrev Answered : Result Outcome FedError → Type 0
     Answered o = IfOk o (λ outcome. (graphs : List (List Triple)) → AreKnown s es old graphs → (services : List ℕ → List Triple) → Serve services es graphs → outcome.answer ≡ answer_of q (union graphs) services (places outcome.down))
 
     pub is_answered : (outcome : Outcome) → r ≡ Ok outcome → Answered (Ok outcome)
     is_answered outcome same = λ graphs known services serve.
-        subst (λ (o : Result Outcome FedError). IfOk o (λ (c : Outcome). (graphs : List (List Triple)) → TellAll t es graphs → parts ≡ parts_with (sources graphs) q → (services : List ℕ → List Triple) → Serve services es graphs → c.answer ≡ answer_of q (union graphs) services (places c.down))) same k.answer graphs
-        (still_tell_all s t h.after_all es graphs known.told) (by_graphs graphs known) services serve
+        subst (λ (o : Result Outcome FedError). IfOk o (λ (c : Outcome). (graphs : List (List Triple)) (services : List ℕ → List Triple) → IsPlannedOver t es q parts graphs services → c.answer ≡ answer_of q (union graphs) services (places c.down))) same k.answer graphs services
+        (over_all graphs known services serve)
 
     counted_so : ((address : List ℕ) → faults_at u address ≡ faults_at t address + failures_at address k.calls) → IsTrue alone → (address : List ℕ) → faults_at u address ≡ faults_at s address + failures_at address k.calls
     counted_so f is address =
@@ -289,6 +306,14 @@ module _ (tells alone : Bool) (s t : List Seen) (es : List EndpointParts) (q : Q
         let its = has_learned es q old h.exchanges all among truths h.many h.answered (learned old probes truths) refl in
         record { truths = its.truths; many = its.many; answered = its.answered }
 
+    -- nothing is left of what was wanted
+    none_left : k.left ≡ [] → h.left ++ k.left ≡ []
+    none_left none = ap (λ (v : List Sent). v ++ k.left) h.whole ∙ none
+
+    whole : (o : Result Outcome FedError) → IfOk o (λ _. k.left ≡ []) → IfOk o (λ _. h.left ++ k.left ≡ [])
+    whole (Ok outcome) none = none_left none
+    whole (Err e) none = tt
+
     own_failure : (o : Result Outcome FedError) → IfErr o (FailedBeside t u es q k.calls) → IfErr o (λ e. FailedAtAsk s u es q old k.calls (h.left ++ k.left) e ⊎ FailedBeside s u es q k.calls e)
     own_failure (Ok outcome) f = tt
     own_failure (Err e) f = inr (beside_behind s t u h.after_all es q k.calls e f)
@@ -296,9 +321,9 @@ module _ (tells alone : Bool) (s t : List Seen) (es : List EndpointParts) (q : Q
     pub federated : (o : Result Outcome FedError) (new : List Entry) → IfOk o (λ _. map (λ c. c.of) k.calls ≡ occurrences q) → IfOk o (λ _. All IsPassed k.calls) → IfOk o (λ outcome. outcome.down ≡ down_in k.calls)
         → (IsTrue alone → IfOk o (λ _. (address : List ℕ) → faults_at u address ≡ faults_at t address + failures_at address k.calls)) → Answered o
         → ((all : List Exchange) → Among k.of_runs all → IfErr o (HasFedCause s u es q old k.calls k.calls k.texts all block)) → IfErr o (FailedBeside t u es q k.calls) → ((all : List Exchange) → Among h.exchanges all → HoldsBehind es q old new all o)
-        → ((all : List Exchange) → Among k.of_runs all → IfErr o (λ e. HasFedCause s u es q old k.calls [] k.texts all block e ⊎ AreGiven alone s u k.calls (IsRead es q old) (h.exchanges ++ k.of_runs)))
-        → All (IsBatchText es block (IsUnitBefore q k.calls)) k.texts → IfOk o (λ _. All (IsBatchRead (IsUnitOf q)) k.of_runs) → KnowsServices es q o → StaysTrue new → Federated tells alone s u es q old new block o
-    federated o new all_called passed down exact answer cause beside held in_turn of_batches read knows still =
+        → ((all : List Exchange) → Among k.of_runs all → IfErr o (λ e. HasFedCause s u es q old k.calls [] k.texts all block e ⊎ AreGiven alone s u k.calls (IsRead es q old) (h.left ++ k.left) (h.exchanges ++ k.of_runs)))
+        → All (IsBatchText es block (IsUnitBefore q k.calls)) k.texts → IfOk o (λ _. k.left ≡ []) → IfOk o (λ _. All (IsBatchRead (IsUnitOf q)) k.of_runs) → KnowsServices es q o → StaysTrue new → Federated tells alone s u es q old new block o
+    federated o new all_called passed down exact answer cause beside held in_turn of_batches none read knows still =
         let both = gained_both tells s t u h.exchanges k.exchanges h.gained k.gained in
         let asked : AreAsked es q old h.wanted = record { probes = h.asked; unasked = h.unasked; lacked = h.split; texts = h.texts } in
         let sent : Sends (h.wanted ++ k.texts) (h.left ++ k.left) (h.exchanges ++ k.of_runs) = sent_laws.together h.wanted h.left k.texts k.left h.exchanges k.of_runs h.sent k.sent in
@@ -331,6 +356,7 @@ module _ (tells alone : Bool) (s t : List Seen) (es : List EndpointParts) (q : Q
           of_runs = runs_sent;
           left = h.left ++ k.left;
           sent = sent;
+          whole = whole o none;
           faultless = faultless o read;
           traffic = λ graphs known services serve down agrees.
               traffic_of es graphs block services down q old s h.wanted k.texts (h.left ++ k.left) k.calls (first_of k.calls (occurrences q) k.called).others (h.exchanges ++ k.of_runs) k.of_calls both.all asked (runs_sent graphs known services serve down agrees) sent (first_of k.calls (occurrences q) k.called).are called parted;
@@ -372,10 +398,10 @@ module _ (tells alone : Bool) (s t : List Seen) (es : List EndpointParts) (q : Q
       refusal_known fed.Memory c = tt
 
       -- a refusal is of a batch, or all batches were given
-      in_turn_so : (e : FedError) → HasBatchRefusal t u es parts k.found block k.texts k.of_runs e ⊎ AreGiven alone t u k.calls (IsBatchRead (Contains (units_in tasks))) k.of_runs → (all : List Exchange) → Among k.of_runs all
-          → HasFedCause s u es q old k.calls [] k.texts all block e ⊎ AreGiven alone s u k.calls (IsRead es q old) (h.exchanges ++ k.of_runs)
+      in_turn_so : (e : FedError) → HasBatchRefusal t u es parts k.found block k.texts k.of_runs e ⊎ AreGiven alone t u k.calls (IsBatchRead (Contains (units_in tasks))) k.left k.of_runs → (all : List Exchange) → Among k.of_runs all
+          → HasFedCause s u es q old k.calls [] k.texts all block e ⊎ AreGiven alone s u k.calls (IsRead es q old) (h.left ++ k.left) (h.exchanges ++ k.of_runs)
       in_turn_so e (inl c) all among = inl (batch_cause_behind es q old (length es) entries k.found tasks tasks_are (can k.found) block s t u h.after_all k.of_runs all among k.calls [] k.behind k.texts c.0 e c.1 c.2)
-      in_turn_so e (inr g) all among = inr (record { read = each_read (read_of_query es q (length es) entries k.found tasks tasks_are (can k.found) k.of_runs g.read); exact = λ is. counted_so (g.exact is) is })
+      in_turn_so e (inr g) all among = inr (record { whole = none_left g.whole; read = each_read (read_of_query es q (length es) entries k.found tasks tasks_are (can k.found) k.of_runs g.read); exact = λ is. counted_so (g.exact is) is })
 
       knows_so : (e : FedError) → HasOutcomeCause t u es parts k.found block k.calls k.texts k.of_runs e → KnowsServices {X = Outcome} es q (Err e)
       knows_so e (inl c) = known_named Outcome es q c.0 e c.2 known
@@ -386,17 +412,17 @@ module _ (tells alone : Bool) (s t : List Seen) (es : List EndpointParts) (q : Q
           let why = subst (λ (o : Result Outcome FedError). IfErr o (HasOutcomeCause t u es parts k.found block k.calls k.texts k.of_runs)) same k.cause in
           let beside = subst (λ (o : Result Outcome FedError). IfErr o (FailedBeside t u es q k.calls)) same k.own_failure in
           let turn =
-          subst (λ (o : Result Outcome FedError). IfErr o (λ (x : FedError). HasBatchRefusal t u es parts k.found block k.texts k.of_runs x ⊎ AreGiven alone t u k.calls (IsBatchRead (Contains (units_in tasks))) k.of_runs)) same k.in_turn in
-          federated (Err e) old tt tt tt (λ is. tt) tt (cause_so e why) beside (λ all among. stays Outcome es q old all e) (in_turn_so e turn) its_texts tt (knows_so e why) (λ graphs is. is.entries_are)
+          subst (λ (o : Result Outcome FedError). IfErr o (λ (x : FedError). HasBatchRefusal t u es parts k.found block k.texts k.of_runs x ⊎ AreGiven alone t u k.calls (IsBatchRead (Contains (units_in tasks))) k.left k.of_runs)) same k.in_turn in
+          federated (Err e) old tt tt tt (λ is. tt) tt (cause_so e why) beside (λ all among. stays Outcome es q old all e) (in_turn_so e turn) its_texts tt tt (knows_so e why) (λ graphs is. is.entries_are)
 
       pub federated_lost : (new : List Entry) → All (λ (x : Entry). Contains old x ⊎ Contains (zip probes truths) x) new → Federated tells alone s u es q old new block (Err fed.Memory)
       federated_lost new kept =
-          federated (Err fed.Memory) new tt tt tt (λ is. tt) tt (λ all among. tt) tt (λ all among. has_kept es q old h.exchanges all among truths h.answered new kept) (λ all among. inl tt) its_texts tt tt (kept_true tells alone s t es q old known truths h new kept)
+          federated (Err fed.Memory) new tt tt tt (λ is. tt) tt (λ all among. tt) tt (λ all among. has_kept es q old h.exchanges all among truths h.answered new kept) (λ all among. inl tt) its_texts tt tt tt (kept_true tells alone s t es q old known truths h new kept)
 
       pub federated_given : (outcome : Outcome) → r ≡ Ok outcome → (new : List Entry) → new ≡ learned old probes truths → Federated tells alone s u es q old new block (Ok outcome)
       federated_given outcome same new so =
           let of_ok : (P : Outcome → Type 0) → IfOk r P → P outcome = λ P p. subst (λ (o : Result Outcome FedError). IfOk o P) same p in
           federated (Ok outcome) new (of_ok (λ c. map (λ c. c.of) k.calls ≡ occurrences q) k.all_called) (of_ok (λ c. All IsPassed k.calls) k.passed) (of_ok (λ c. c.down ≡ down_in k.calls) k.down)
           (λ is. of_ok (λ c. (address : List ℕ) → faults_at u address ≡ faults_at t address + failures_at address k.calls) (k.exact is)) (is_answered outcome same) (λ all among. tt) tt
-          (λ all among. has_learned es q old h.exchanges all among truths h.many h.answered new so) (λ all among. tt) its_texts
+          (λ all among. has_learned es q old h.exchanges all among truths h.many h.answered new so) (λ all among. tt) its_texts (of_ok (λ c. k.left ≡ []) k.whole)
           (read_of_query es q (length es) entries k.found tasks tasks_are (can k.found) k.of_runs (of_ok (λ c. All (IsBatchRead (Contains (units_in tasks))) k.of_runs) k.faultless)) known (learned_true tells alone s t es q old known truths h new so)

@@ -1,6 +1,7 @@
 pub mod AskedLemmas
 pub mod ServiceElementLemmas
 pub mod HandLemmas
+pub mod KeptLemmas
 pub mod OutcomeLemmas
 pub mod RefusalLemmas
 pub mod RunAskedLemmas

@@ -18,8 +18,8 @@ use Rattle.fx_algebra.specs.declared.queries.Query.{Query}
 use Rattle.fx_grammar.specs.Accepted.{Accepted}
 use Rattle.fx_plan.specs.declared.parts.Part.{Part}
 use Rattle.fx_flows.specs.Flows.{IsBatchRead}
-use Rattle.fx_traffic.specs.Gains.{IsMemberIn, TellAll, faults_at}
-use Rattle.fx_traffic.proofs.GainLemmas.{gain_laws, told_of}
+use Rattle.fx_traffic.specs.Gains.{faults_at}
+use Rattle.fx_traffic.proofs.GainLemmas.{gain_laws}
 use Rattle.fx_traffic.proofs.NumberLemmas.{stations_have_the_numbers}
 use Rattle.fx_wire.specs.Exchanges.{Exchange, Seen}
 use Rattle.fx_walks.specs.AnswersAsked.{AnswerDue, AnswerGiven}
@@ -29,12 +29,12 @@ use Rattle.fx_services.specs.Beside.{Occurrence}
 use Rattle.fx_walks.specs.GroupsAsked.{HasRows, all_planned, units_in}
 use Rattle.fx_walks.specs.Served.{Served}
 use Rattle.fx_outcomes.specs.Invocations.{Calling}
-use Rattle.fx_outcomes.specs.Mediation.{FailedBeside, Serve}
+use Rattle.fx_outcomes.specs.Mediation.{FailedBeside}
 use Rattle.fx_services.specs.Noted.{places}
 use Rattle.fx_outcomes.specs.Order.{AreGiven}
-use Rattle.fx_outcomes.specs.Outcomes.{HasBatchRefusal, HasOutcomeCause, Outcomed}
+use Rattle.fx_outcomes.specs.Outcomes.{HasBatchRefusal, HasOutcomeCause, IsPlannedOver, Outcomed}
 use Rattle.fx_walks.specs.RunsSent.{AreRunsSent}
-use Rattle.fx_walks.specs.Sections.{part_with, parts_with, section_of}
+use Rattle.fx_walks.specs.Sections.{part_with, section_of}
 use Rattle.fx_walks.specs.Tasks.{tasks_with}
 use Rattle.fx_services.specs.declared.noted.DownCause.{DownCause}
 use Rattle.fx_outcomes.specs.declared.federated.FedError.{FedError}
@@ -44,6 +44,7 @@ use Rattle.fx_walks.specs.declared.tasks.Task.{Task}
 use Rattle.fx_outcomes.proofs.CallLemmas.{AreFirst, first_of}
 use Rattle.fx_outcomes.proofs.DownLemmas.{down_at, has_gone}
 use Rattle.fx_engine.proofs.HandLemmas.{Fits, at_hand, calls_fit}
+use Rattle.fx_engine.proofs.KeptLemmas.{told_over}
 use Rattle.fx_outcomes.proofs.TaskLemmas.{AreAtHand, tasks_are_planned}
 use Rattle.fx_pool.proofs.WiresLemmas.{AllTell, all_after, gained_both, still_tell_all}
 
@@ -89,7 +90,7 @@ module _ (tells alone : Bool) (s t u : List Seen) (a : AllTell tells s) (b : All
 
   -- ---- how SERVICE is served
 
-  module _ (graphs : List (List Triple)) (tell : TellAll s es graphs) (plan_is : plan ≡ parts_with (sources graphs) q) (its : List ℕ → List Triple) (serve : Serve its es graphs) (down : List ℕ) (agrees : AgreesWith down calls) where
+  module _ (graphs : List (List Triple)) (its : List ℕ → List Triple) (over : IsPlannedOver s es q plan graphs its) (down : List ℕ) (agrees : AgreesWith down calls) where
     abbrev served : Served
     served = record { graphs = its; down = down; rows = λ i. slice_get found i }
 
@@ -98,7 +99,7 @@ module _ (tells alone : Bool) (s t u : List Seen) (a : AllTell tells s) (b : All
       where
         by : (xs ys : List Call) (all : List Exchange) → AllByRecursion IsPassed xs → AreCalls s es (xs ++ ys) all → AllByRecursion (Fits its) xs
         by [] ys all p h = tt
-        by (x ∷ xs) ys all p h = ((calls_fit s es graphs its tell serve (x ∷ []) h.0 (p.0, tt) (h.0, [], sym (append-nil h.0), h.3, h.4, refl)).0, by xs ys h.1 p.1 h.5)
+        by (x ∷ xs) ys all p h = ((calls_fit s es over.all its over.told over.served (x ∷ []) h.0 (p.0, tt) (h.0, [], sym (append-nil h.0), h.3, h.4, refl)).0, by xs ys h.1 p.1 h.5)
 
     down_so : (i : ℕ) (d : Call) → slice_get front i ≡ Some d → is_down down (0 + i) ≡ has_gone d.of.silent d.came
     down_so i d is =
@@ -121,7 +122,7 @@ module _ (tells alone : Bool) (s t u : List Seen) (a : AllTell tells s) (b : All
 
     tasks_are : tasks ≡ all_planned served graphs (stations q)
     tasks_are =
-        ap (λ (v : List Part). tasks_with v found) plan_is
+        ap (λ (v : List Part). tasks_with v found) over.plan_is
         ∙ ap (λ (v : List (List Bindings)). tasks_with (map (part_with (sources graphs)) (map section_of (stations q))) v) rows_are
         ∙ tasks_are_planned served graphs (stations q) (map rows_of front) hands.0
 
@@ -131,24 +132,23 @@ module _ (tells alone : Bool) (s t u : List Seen) (a : AllTell tells s) (b : All
   -- ---- with what was asked for
 
   module _ (r : Result Answer RowsError) (k : Asked tells alone t u es tasks block (AnswerGiven es block tasks q) (AnswerDue es block tasks q) r) where
-    behind_them : (graphs : List (List Triple)) → TellAll s es graphs → Knows (AnswerGiven es block tasks q) (AnswerDue es block tasks q) graphs k.wanted r
-    behind_them graphs tell = k.known graphs (told_of t es graphs (IsMemberIn (units_in tasks)) (still_tell_all s t c.after_all es graphs tell))
+    behind_them : (graphs : List (List Triple)) (its : List ℕ → List Triple) → IsPlannedOver s es q plan graphs its → Knows (AnswerGiven es block tasks q) (AnswerDue es block tasks q) graphs k.wanted r
+    behind_them graphs its over = k.known graphs (told_over t es q plan graphs found over.all (still_tell_all s t c.after_all es over.all over.told) over.kept over.those_kept over.plan_is)
 
-    runs_for : (o : Result Answer RowsError) (graphs : List (List Triple)) (tell : TellAll s es graphs) (is : plan ≡ parts_with (sources graphs) q) (its : List ℕ → List Triple) (serve : Serve its es graphs) (down : List ℕ) (agrees : AgreesWith down calls)
+    runs_for : (o : Result Answer RowsError) (graphs : List (List Triple)) (its : List ℕ → List Triple) (over : IsPlannedOver s es q plan graphs its) (down : List ℕ) (agrees : AgreesWith down calls)
         → Knows (AnswerGiven es block tasks q) (AnswerDue es block tasks q) graphs k.wanted o → AreRunsSent es graphs block (stations q) (seeds q (union graphs) its down) k.wanted
-    runs_for (Ok answer) graphs tell is its serve down agrees known = (known (served graphs tell is its serve down agrees) (tasks_are graphs tell is its serve down agrees) (rows_right graphs tell is its serve down agrees)).0
-    runs_for (Err why) graphs tell is its serve down agrees known = known (served graphs tell is its serve down agrees) (tasks_are graphs tell is its serve down agrees) (rows_right graphs tell is its serve down agrees)
+    runs_for (Ok answer) graphs its over down agrees known = (known (served graphs its over down agrees) (tasks_are graphs its over down agrees) (rows_right graphs its over down agrees)).0
+    runs_for (Err why) graphs its over down agrees known = known (served graphs its over down agrees) (tasks_are graphs its over down agrees) (rows_right graphs its over down agrees)
 
     -- what is down of them agrees with itself
     itself : AgreesWith (places (down_in calls)) calls
     itself i d there passes before = refl
 
-    pub its_answer : (answer : Answer) → r ≡ Ok answer → (graphs : List (List Triple)) (tell : TellAll s es graphs) (is : plan ≡ parts_with (sources graphs) q) (its : List ℕ → List Triple) (serve : Serve its es graphs)
-        → answer ≡ answer_of q (union graphs) its (places (down_in calls))
-    its_answer answer same graphs tell is its serve =
-        let known = subst (Knows (AnswerGiven es block tasks q) (AnswerDue es block tasks q) graphs k.wanted) same (behind_them graphs tell) in
+    pub its_answer : (answer : Answer) → r ≡ Ok answer → (graphs : List (List Triple)) (its : List ℕ → List Triple) → IsPlannedOver s es q plan graphs its → answer ≡ answer_of q (union graphs) its (places (down_in calls))
+    its_answer answer same graphs its over =
+        let known = subst (Knows (AnswerGiven es block tasks q) (AnswerDue es block tasks q) graphs k.wanted) same (behind_them graphs its over) in
         let gone = places (down_in calls) in
-        (known (served graphs tell is its serve gone itself) (tasks_are graphs tell is its serve gone itself) (rows_right graphs tell is its serve gone itself)).1
+        (known (served graphs its over gone itself) (tasks_are graphs its over gone itself) (rows_right graphs its over gone itself)).1
 
     -- no faults were counted at the occurrences but theirs
     abbrev AreCounted : Type 0
@@ -174,12 +174,13 @@ module _ (tells alone : Bool) (s t u : List Seen) (a : AllTell tells s) (b : All
         omega (arith, many, behind)
 
     pub outcomed : (o : Result Outcome FedError) → IfOk o (λ _. k.failed ≡ 0) → IfOk o (λ _. AreCounted) → IfOk o (λ _. map (λ c. c.of) calls ≡ occurrences q) → IfOk o (λ _. All IsPassed calls) → IfOk o (λ outcome. outcome.down ≡ down_in calls)
-        → IfOk o (λ outcome. (graphs : List (List Triple)) → TellAll s es graphs → plan ≡ parts_with (sources graphs) q → (its : List ℕ → List Triple) → Serve its es graphs → outcome.answer ≡ answer_of q (union graphs) its (places outcome.down))
+        → IfOk o (λ outcome. (graphs : List (List Triple)) (its : List ℕ → List Triple) → IsPlannedOver s es q plan graphs its → outcome.answer ≡ answer_of q (union graphs) its (places outcome.down))
+        → IfOk o (λ _. k.left ≡ [])
         → IfOk o (λ _. All (IsBatchRead (Contains (units_in tasks))) k.exchanges)
         → IfErr o (HasOutcomeCause s u es plan found block calls k.wanted k.exchanges) → IfErr o (FailedBeside s u es q calls)
-        → IfErr o (λ e. HasBatchRefusal s u es plan found block k.wanted k.exchanges e ⊎ AreGiven alone s u calls (IsBatchRead (Contains (units_in tasks))) k.exchanges)
+        → IfErr o (λ e. HasBatchRefusal s u es plan found block k.wanted k.exchanges e ⊎ AreGiven alone s u calls (IsBatchRead (Contains (units_in tasks))) k.left k.exchanges)
         → Outcomed tells alone s u es q plan block o
-    outcomed o none counted all_called all_passed down answer read cause own_failure in_turn =
+    outcomed o none counted all_called all_passed down answer whole read cause own_failure in_turn =
         let both = gained_both tells s t u c.exchanges k.exchanges c.gained k.went.gained in
         record {
           found = found;
@@ -207,8 +208,9 @@ module _ (tells alone : Bool) (s t u : List Seen) (a : AllTell tells s) (b : All
           of_batches = k.of_batches;
           left = k.left;
           sent = k.sent;
+          whole = whole;
           faultless = read;
-          runs = λ graphs tell is its serve down agrees. runs_for r graphs tell is its serve down agrees (behind_them graphs tell);
+          runs = λ graphs its over down agrees. runs_for r graphs its over down agrees (behind_them graphs its over);
           answer = answer;
           cause = cause;
           own_failure = own_failure;

@@ -101,17 +101,17 @@ module _ (tells alone : Bool) (s t u : List Seen) (a : AllTell tells s) (b : All
     all_given outcome answer k same gone =
         let is_down : outcome.down ≡ down_in calls = gone ∙ i.down_are ∙ ap down_in (sym same_calls) in
         outcomed tells alone s t u a b es q text accepted plan block found i.calls [] i.passed i.rows_are its_calling (inr are_all) (Ok answer) k (Ok outcome) k.unfailed exactly are_all (subst (All IsPassed) (sym same_calls) i.passed) is_down
-        (λ graphs tell is its serve.
+        (λ graphs its over.
         same
-        ∙ its_answer tells alone s t u a b es q text accepted plan block found i.calls [] i.passed i.rows_are its_calling (inr are_all) (Ok answer) k answer refl graphs tell is its serve
-        ∙ ap (λ (v : List Down). answer_of q (union graphs) its (places v)) (sym is_down)) k.faultless tt tt tt
+        ∙ its_answer tells alone s t u a b es q text accepted plan block found i.calls [] i.passed i.rows_are its_calling (inr are_all) (Ok answer) k answer refl graphs its over
+        ∙ ap (λ (v : List Down). answer_of q (union graphs) its (places v)) (sym is_down)) k.whole k.faultless tt tt tt
 
     pub all_refused : (why : FlowError) (e : FedError) (k : Came (Err (rows_error.Flow why))) → IsNamed es why e → Outcomed tells alone s u es q plan block (Err e)
     all_refused why e k n =
         let refused : HasBatchRefusal s u es plan found block k.wanted k.exchanges e =
         (why, flow_cause_behind s t u i.calling.after_all k.exchanges k.exchanges (λ x m. m) es (units_in (tasks_with plan found)) block [] k.wanted why k.cause, n) in
         let known : AreAllKnown calls (occurrences q) = record { are = are_all; known = passed_known calls (subst (All IsPassed) (sym same_calls) i.passed) } in
-        outcomed tells alone s t u a b es q text accepted plan block found i.calls [] i.passed i.rows_are its_calling (inr are_all) (Err (rows_error.Flow why)) k (Err e) tt tt tt tt tt tt tt (inl refused)
+        outcomed tells alone s t u a b es q text accepted plan block found i.calls [] i.passed i.rows_are its_calling (inr are_all) (Err (rows_error.Flow why)) k (Err e) tt tt tt tt tt tt tt tt (inl refused)
         (failed_beside s t u es q block (units_in (tasks_with plan found)) k.wanted k.exchanges calls its_calling.counted known why e k.cause n) (inl refused)
 
   -- ---- one was refused
@@ -191,24 +191,24 @@ module _ (tells alone : Bool) (s t u : List Seen) (a : AllTell tells s) (b : All
     told_beside w (fed.UnknownService iri) told = tt
     told_beside w fed.Memory told = tt
 
-    told_refused : (v : Result Answer RowsError) (k : Came v) → k.failed ≡ 0 → All (IsBatchRead (Contains (units_in (tasks_with plan found)))) k.exchanges → (fe : FedError) → IsTold es e fe → Outcomed tells alone s u es q plan block (Err fe)
-    told_refused v k none read fe told =
-        outcomed tells alone s t u a b es q text accepted plan block found h.front (h.refused ∷ h.behind) h.passed h.rows_are h.calling (inr h.are) v k (Err fe) tt tt tt tt tt tt tt
+    told_refused : (v : Result Answer RowsError) (k : Came v) → k.failed ≡ 0 → k.left ≡ [] → All (IsBatchRead (Contains (units_in (tasks_with plan found)))) k.exchanges → (fe : FedError) → IsTold es e fe → Outcomed tells alone s u es q plan block (Err fe)
+    told_refused v k none whole read fe told =
+        outcomed tells alone s t u a b es q text accepted plan block found h.front (h.refused ∷ h.behind) h.passed h.rows_are h.calling (inr h.are) v k (Err fe) tt tt tt tt tt tt tt tt
         (inr (refusal_so e fe (λ address. gain_laws.never_fall t u address k.went.after_all) refl told)) (told_beside e fe told)
-        (inr (record { read = read; exact = λ is. none_but_theirs tells alone s t u a b es q text accepted plan block found h.front (h.refused ∷ h.behind) h.passed h.rows_are h.calling (inr h.are) v k none h.exact is }))
+        (inr (record { whole = whole; read = read; exact = λ is. none_but_theirs tells alone s t u a b es q text accepted plan block found h.front (h.refused ∷ h.behind) h.passed h.rows_are h.calling (inr h.are) v k none h.exact is }))
 
     -- it was come to behind the runs before it, or these were all of them
     pub told_behind : (k : Came (Err rows_error.Refused)) (fe : FedError) → IsTold es e fe → Outcomed tells alone s u es q plan block (Err fe)
-    told_behind k fe told = told_refused (Err rows_error.Refused) k k.unfailed k.faultless fe told
+    told_behind k fe told = told_refused (Err rows_error.Refused) k k.unfailed k.whole k.faultless fe told
 
     pub told_at_the_end : (answer : Answer) (k : Came (Ok answer)) (fe : FedError) → IsTold es e fe → Outcomed tells alone s u es q plan block (Err fe)
-    told_at_the_end answer k fe told = told_refused (Ok answer) k k.unfailed k.faultless fe told
+    told_at_the_end answer k fe told = told_refused (Ok answer) k k.unfailed k.whole k.faultless fe told
 
     pub run_refused : (why : FlowError) (fe : FedError) (k : Came (Err (rows_error.Flow why))) → IsNamed es why fe → Outcomed tells alone s u es q plan block (Err fe)
     run_refused why fe k n =
         let refused : HasBatchRefusal s u es plan found block k.wanted k.exchanges fe =
         (why, flow_cause_behind s t u h.calling.after_all k.exchanges k.exchanges (λ x m. m) es (units_in (tasks_with plan found)) block [] k.wanted why k.cause, n) in
-        outcomed tells alone s t u a b es q text accepted plan block found h.front (h.refused ∷ h.behind) h.passed h.rows_are h.calling (inr h.are) (Err (rows_error.Flow why)) k (Err fe) tt tt tt tt tt tt tt (inl refused)
+        outcomed tells alone s t u a b es q text accepted plan block found h.front (h.refused ∷ h.behind) h.passed h.rows_are h.calling (inr h.are) (Err (rows_error.Flow why)) k (Err fe) tt tt tt tt tt tt tt tt (inl refused)
         (failed_beside s t u es q block (units_in (tasks_with plan found)) k.wanted k.exchanges their_calls h.calling.counted known_all why fe k.cause n) (inl refused)
 
 -- ---- memory ran out while they were invoked
@@ -220,7 +220,7 @@ lost_outcomed tells alone s t a b es q text accepted plan block h =
     let k : Asked tells alone t t es tasks block (AnswerGiven es block tasks q) (AnswerDue es block tasks q) (Err (rows_error.Flow flow.Memory)) =
     unasked tells alone es tasks block (AnswerGiven es block tasks q) (AnswerDue es block tasks q) t
     (λ graphs served is right. no_run_sent es graphs block (stations q) (seeds q (union graphs) served.graphs served.down) (seeds_for_each q (union graphs) served.graphs served.down)) in
-    outcomed tells alone s t t a b es q text accepted plan block [] [] h.calls (All-nil IsPassed) refl h.calling h.called (Err (rows_error.Flow flow.Memory)) k (Err fed.Memory) tt tt tt tt tt tt tt (inr tt) tt (inl (flow.Memory, tt, tt))
+    outcomed tells alone s t t a b es q text accepted plan block [] [] h.calls (All-nil IsPassed) refl h.calling h.called (Err (rows_error.Flow flow.Memory)) k (Err fed.Memory) tt tt tt tt tt tt tt tt (inr tt) tt (inl (flow.Memory, tt, tt))
 
 -- ---- the number in a reason
 

@@ -113,6 +113,7 @@ module _ (tells alone : Bool) (before after : List Seen) (endpoints : List Endpo
         wanted = h.wanted;
         left = h.left;
         sent = h.sent;
+        whole = h.whole;
         of_batches = texts_of_more endpoints block (Contains units) (Contains (units_in tasks)) of_plan h.wanted h.of_batches;
         faultless = read_of_more (Contains units) (Contains (units_in tasks)) of_plan h.exchanges h.faultless;
         known = λ graphs told ps filters known gone defined rest moved is.
@@ -137,6 +138,7 @@ module _ (tells alone : Bool) (before after : List Seen) (endpoints : List Endpo
         wanted = h.wanted;
         left = h.left;
         sent = h.sent;
+        whole = tt;
         of_batches = texts_of_more endpoints block (Contains units) (Contains (units_in tasks)) of_plan h.wanted h.of_batches;
         faultless = tt;
         known = λ graphs told ps filters known gone defined rest moved is.

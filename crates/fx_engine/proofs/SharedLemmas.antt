@@ -1,5 +1,5 @@
 -- Runs that were asked for side by side: what was asked for, from the share that each of them has in it.
-use Rattle.std.proofs.Common.{◌≡◌, sym, subst, refl, ℕ, ◌+◌, Bool, List, [], ◌∷◌, ◌++◌, length, All, Contains, Result, Ok, Err, IsPermutation, arith}
+use Rattle.std.proofs.Common.{ap, ◌∙◌, ◌≡◌, sym, subst, refl, ℕ, ◌+◌, Bool, List, [], ◌∷◌, ◌++◌, length, All, Contains, Result, Ok, Err, IsPermutation, arith}
 use Rattle.std.specs.List.{AllByRecursion, flat_map, sum_by}
 use Rattle.std.proofs.lemmas.List.Elements.{All-append, All-nil, recursion_from_All}
 use Rattle.std.proofs.lemmas.List.Sums.{sum_by-cons}
@@ -139,6 +139,7 @@ module _ (before after : List Seen) (endpoints : List EndpointParts) (block : �
   record Whole (its : List Task) (shares : List Share) (founds : List (List Row)) : Type 0 where
     given : (graphs : List (List Triple)) → Told graphs → TasksGiven endpoints block its graphs (wanted_of shares) founds
     unfailed : failed_of shares ≡ 0
+    sent_all : left_of shares ≡ []
     read : All (IsBatchRead (Contains (units_in all))) (exchanges_of shares)
 
   -- or one was refused
@@ -158,6 +159,7 @@ module _ (before after : List Seen) (endpoints : List EndpointParts) (block : �
   with_none t none its shares (Ok founds) h = record {
     given = λ graphs told. ([], wanted_of shares, refl, none_given graphs t none, h.given graphs told);
     unfailed = h.unfailed;
+    sent_all = h.sent_all;
     read = h.read;
   }
   with_none t none its shares (Err e) h = h
@@ -171,6 +173,7 @@ module _ (before after : List Seen) (endpoints : List EndpointParts) (block : �
         let others : failed_of shares ≡ 0 = h.unfailed in
         let whole : failed_of (s ∷ shares) ≡ s.failed + failed_of shares = sum_by-cons (λ (x : Share). x.failed) s shares in
         omega (arith, mine, others, whole);
+    sent_all = ap (λ (v : List Sent). v ++ left_of shares) k.whole ∙ h.sent_all;
     read = All-append (IsBatchRead (Contains (units_in all))) s.exchanges (exchanges_of shares) (read_of_more (Contains units) (Contains (units_in all)) (of_task units front) s.exchanges k.faultless) h.read;
   }
   with_one units fit front s found k its shares (Err e) h = record {
@@ -183,7 +186,7 @@ module _ (before after : List Seen) (endpoints : List EndpointParts) (block : �
   }
 
   came : (its : List Task) → AllByRecursion (CanBeAsked (length endpoints)) its → AllByRecursion Front its → (shares : List Share) (results : List (Result (List Row) FlowError)) → Its its shares results → Came its shares (founds_by its results)
-  came [] can front [] [] h = record { given = λ graphs told. refl; unfailed = refl; read = All-nil (IsBatchRead (Contains (units_in all))) }
+  came [] can front [] [] h = record { given = λ graphs told. refl; unfailed = refl; sent_all = refl; read = All-nil (IsBatchRead (Contains (units_in all))) }
   came [] can front [] (r ∷ results) h = absurd h
   came [] can front (s ∷ shares) results h = absurd h
   came (task.Run units ∷ its) can front [] results h = absurd h
@@ -248,6 +251,7 @@ module _ (tells alone : Bool) (before after : List Seen) (endpoints : List Endpo
     wanted = wanted_of h.shares;
     left = left_of h.shares;
     sent = what_was_sent;
+    whole = k.sent_all;
     of_batches = texts;
     faultless = All-permutation (IsBatchRead (Contains (units_in all))) (exchanges_of h.shares) h.exchanges h.parted k.read;
     known = λ graphs told. k.given graphs told;
@@ -263,6 +267,7 @@ module _ (tells alone : Bool) (before after : List Seen) (endpoints : List Endpo
     wanted = wanted_of h.shares;
     left = left_of h.shares;
     sent = what_was_sent;
+    whole = tt;
     of_batches = texts;
     faultless = tt;
     known = λ graphs told. what_is_due graphs told;

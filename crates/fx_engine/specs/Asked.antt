@@ -1,5 +1,5 @@
 -- What asking over several wires leaves of them, whatever was asked for.
-use Rattle.std.specs.Prelude.{◌≡◌, ℕ, Bool, List, IfErr, All, Contains, Result, Ok, Err}
+use Rattle.std.specs.Prelude.{◌≡◌, ℕ, Bool, List, [], IfErr, All, Contains, Result, Ok, Err}
 use Rattle.fx_terms.specs.declared.triples.Triple.{Triple}
 use Rattle.fx_outside.specs.Endpoints.{EndpointParts}
 use Rattle.fx_traffic.specs.Batches.{IsBatchText}
@@ -35,7 +35,7 @@ HasRowsCause before after endpoints tasks block wanted xs (rows_error.Flow e) = 
 HasRowsCause before after endpoints tasks block wanted xs rows_error.Refused = Contains tasks task.Refused
 
 -- Something was asked for, by units of these tasks: what was exchanged, what was wanted of it, which is texts of batches of no more rows than so many,
--- and what is known of that and of the result where the graphs of the members of these units are told. Where no batch was refused each reply was read, without a fault.
+-- and what is known of that and of the result where the graphs of the members of these units are told. Where no batch was refused each text was sent, and each reply read, without a fault.
 -- At each address no more faults were counted, together, than exchanges failed, and none did where no batch was refused.
 pub record Asked {X : Type 0} (tells alone : Bool) (before after : List Seen) (endpoints : List EndpointParts) (tasks : List Task) (block : ℕ) (Given : List (List Triple) → List Sent → X → Type 0) (Due : List (List Triple) → List Sent → Type 0) (result : Result X RowsError) : Type 0 where
   pub exchanges : List Exchange
@@ -45,6 +45,7 @@ pub record Asked {X : Type 0} (tells alone : Bool) (before after : List Seen) (e
   pub wanted : List Sent
   pub left : List Sent
   pub sent : Sends wanted left exchanges
+  pub whole : IfGiven result (left ≡ [])
   pub of_batches : All (IsBatchText endpoints block (Contains (units_in tasks))) wanted
   pub faultless : IfGiven result (All (IsBatchRead (Contains (units_in tasks))) exchanges)
   pub known : (graphs : List (List Triple)) → TellOf before endpoints graphs (IsMemberIn (units_in tasks)) → Knows Given Due graphs wanted result

@@ -48,6 +48,7 @@ module _ (tells alone : Bool) (es : List EndpointParts) where
     left = [];
     texts = refl;
     sent = IsPermutation-refl [];
+    whole = tt;
     many = tt;
     faultless = tt;
     answered = tt;
@@ -70,6 +71,7 @@ module _ (tells alone : Bool) (es : List EndpointParts) where
     left = [];
     texts = refl;
     sent = IsPermutation-refl [];
+    whole = refl;
     many = refl;
     faultless = All-from_recursion (IsAskRead []) [] tt;
     answered = All-from_recursion (IsAnsweredBy es []) [] tt;
@@ -96,6 +98,7 @@ module _ (tells alone : Bool) (es : List EndpointParts) where
       left = h.of_jobs.left;
       texts = asks_sent es ps h.of_jobs.wanted h.of_jobs.of_jobs;
       sent = h.of_jobs.sent;
+      whole = tt;
       many = tt;
       faultless = tt;
       answered = tt;
@@ -118,6 +121,7 @@ module _ (tells alone : Bool) (es : List EndpointParts) where
       left = parts.left;
       texts = parts.texts;
       sent = sent_laws.any_order parts.wanted parts.left ordered h.exchanges h.done.2 parts.sent;
+      whole = whole r k;
       many = many r k;
       faultless = faultless r k;
       answered = answered r k;
@@ -146,6 +150,10 @@ module _ (tells alone : Bool) (es : List EndpointParts) where
 
         done : (truths : List Bool) → rs ≡ map (λ truth. reply.Truth truth) truths → AreDone es (map job_of ps) (map (λ truth. reply.Truth truth) truths) ordered
         done truths are = subst (λ (v : List JobReply). AreDone es (map job_of ps) v ordered) are h.done.1
+
+        whole : (o : Result (List Bool) FlowError) → AreTruthsOf ps rs o → IfOk o (λ _. parts.left ≡ [])
+        whole (Ok truths) are = parts.none_left truths are
+        whole (Err e) are = tt
 
         many : (o : Result (List Bool) FlowError) → AreTruthsOf ps rs o → IfOk o (λ truths. length truths ≡ length ps)
         many (Ok truths) are = sym (length-map truths (λ truth. reply.Truth truth)) ∙ ap length (sym are) ∙ as_many es ps rs ordered h.done.1
@@ -230,6 +238,7 @@ module _ (tells alone : Bool) (es : List EndpointParts) where
     left = h.left;
     texts = h.texts;
     sent = h.sent;
+    whole = tt;
     many = tt;
     faultless = tt;
     answered = tt;

@@ -44,6 +44,7 @@ truths_lost tells alone s t es ps truths h = record {
   left = h.left;
   texts = h.texts;
   sent = h.sent;
+  whole = tt;
   many = tt;
   faultless = tt;
   answered = tt;

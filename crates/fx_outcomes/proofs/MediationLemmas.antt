@@ -57,6 +57,7 @@ planned_unasked tells alone wires es q old e known cause = record {
   asked = record { probes = []; unasked = missing q (length es) old; lacked = IsPermutation-refl (missing q (length es) old); texts = refl };
   left = [];
   sent = IsPermutation-refl [];
+  whole = tt;
   faultless = tt;
   parts = tt;
   by_answers = tt;
@@ -90,6 +91,7 @@ module _ (tells alone : Bool) (s t : List Seen) (es : List EndpointParts) (q : Q
     asked = record { probes = h.asked; unasked = h.unasked; lacked = h.split; texts = h.texts };
     left = h.left;
     sent = h.sent;
+    whole = tt;
     faultless = tt;
     parts = tt;
     by_answers = tt;
@@ -119,6 +121,7 @@ module _ (tells alone : Bool) (s t : List Seen) (es : List EndpointParts) (q : Q
           asked = record { probes = h.asked; unasked = h.unasked; lacked = h.split; texts = h.texts };
           left = h.left;
           sent = h.sent;
+          whole = h.whole;
           faultless = h.faultless;
           parts = λ graphs known. are ∙ parts_are_by_graphs s es q old graphs truths known.told known.entries_are h.many (h.told graphs known.told);
           by_answers = record { answers = learns; parts_are = are };
@@ -139,6 +142,7 @@ module _ (tells alone : Bool) (s t : List Seen) (es : List EndpointParts) (q : Q
       asked = record { probes = h.asked; unasked = h.unasked; lacked = h.split; texts = h.texts };
       left = h.left;
       sent = h.sent;
+      whole = tt;
       faultless = tt;
       parts = tt;
       by_answers = tt;

@@ -192,13 +192,21 @@ module _ (es : List EndpointParts) where
     left : List Sent
     sent : Sends (ask_for e p ∷ []) left own
     unsent : r ≡ reply.Failed → Contains left (ask_for e p)
+    none_left : (truth : Bool) → r ≡ reply.Truth truth → left ≡ []
 
-  nothing_sent : (e : EndpointParts) (p : Probe) (r : JobReply) (own : List Exchange) → own ≡ [] → SplitOne e p r own
-  nothing_sent e p r own none = record {
+  nothing_sent : (e : EndpointParts) (p : Probe) (r : JobReply) (own : List Exchange) → own ≡ [] → ((truth : Bool) → r ≡ reply.Truth truth → ⊥) → SplitOne e p r own
+  nothing_sent e p r own none untold = record {
     left = ask_for e p ∷ [];
     sent = subst (Sends (ask_for e p ∷ []) (ask_for e p ∷ [])) (sym none) (IsPermutation-refl (ask_for e p ∷ []));
     unsent = λ is. contains_from (ask_for e p ∷ []) (ask_for e p) (inl refl);
+    none_left = λ truth is. absurd (untold truth is);
   }
+
+  no_failure : (truth : Bool) → reply.Failed ≡ reply.Truth truth → ⊥
+  no_failure truth e = cc
+
+  never_long : (size : ℕ) (truth : Bool) → reply.TooLong size ≡ reply.Truth truth → ⊥
+  never_long size truth e = cc
 
   split_one : (e : EndpointParts) (p : Probe) (r : JobReply) (own : List Exchange) (by : Posted) → IsPosted e (ask_text p.key.pattern) by → IsReplyTo (job_of p).work by r → own ≡ exchanges_of e by → SplitOne e p r own
   split_one e p r own (posted.Replied request bytes) sent told is = record {
@@ -207,9 +215,10 @@ module _ (es : List EndpointParts) where
         subst (λ (v : List Exchange). Sends (ask_for e p ∷ []) [] v) (sym is)
         (subst (λ (v : List ℕ). IsPermutation (record { at = e; request = v } ∷ []) (ask_for e p ∷ [])) (sym sent.exact) (IsPermutation-refl (ask_for e p ∷ [])));
     unsent = λ same. absurd (subst (IsReplyTo (job_of p).work (posted.Replied request bytes)) same told);
+    none_left = λ truth is. refl;
   }
-  split_one e p r own posted.Failed sent told is = nothing_sent e p r own is
-  split_one e p r own (posted.TooLong size) sent told is = nothing_sent e p r own is
+  split_one e p r own posted.Failed sent told is = nothing_sent e p r own is (λ truth truly. no_failure truth (sym told ∙ truly))
+  split_one e p r own (posted.TooLong size) sent told is = nothing_sent e p r own is (λ truth truly. never_long size truth (sym told ∙ truly))
 
   pub record SplitAsks (ps : List Probe) (rs : List JobReply) (xs : List Exchange) : Type 0 where
     pub wanted : List Sent
@@ -217,10 +226,11 @@ module _ (es : List EndpointParts) where
     pub texts : AreAsksSent es ps wanted
     pub sent : Sends wanted left xs
     pub unsent : (p : Probe) (e : EndpointParts) → Among (p, reply.Failed) (zip ps rs) → slice_get es p.at ≡ Some e → Contains left (ask_for e p)
+    pub none_left : (truths : List Bool) → rs ≡ truths_of truths → left ≡ []
 
-  -- the ASK of each probe whose exchange failed is left
+  -- the ASK of each probe whose exchange failed is left, and none where all replies are truth values
   pub split_asks : (ps : List Probe) (rs : List JobReply) (xs : List Exchange) → AreDone es (map job_of ps) rs xs → SplitAsks ps rs xs
-  split_asks [] [] xs h = record { wanted = []; left = []; texts = refl; sent = subst (Sends [] []) (sym h) (IsPermutation-refl []); unsent = λ p e m found. absurd m }
+  split_asks [] [] xs h = record { wanted = []; left = []; texts = refl; sent = subst (Sends [] []) (sym h) (IsPermutation-refl []); unsent = λ p e m found. absurd m; none_left = λ truths is. refl }
   split_asks [] (r ∷ rs) xs h = absurd h
   split_asks (p ∷ ps) [] xs h = absurd h
   split_asks (p ∷ ps) (r ∷ rs) xs h =
@@ -234,8 +244,16 @@ module _ (es : List EndpointParts) where
         texts = (record { member = d.found; posted = refl }, rest.texts);
         sent = subst (Sends (ask_for d.endpoint p ∷ rest.wanted) all) (sym h.2) (sent_laws.together (ask_for d.endpoint p ∷ []) one.left rest.wanted rest.left h.0 h.1 one.sent rest.sent);
         unsent = λ q e m found. left_of q e m found d one rest.left rest.unsent;
+        none_left = λ truths is. none truths is one.left rest.left one.none_left rest.none_left;
       }
     where
+      none : (truths : List Bool) → r ∷ rs ≡ truths_of truths → (own more : List Sent) → ((truth : Bool) → r ≡ reply.Truth truth → own ≡ []) → ((others : List Bool) → rs ≡ truths_of others → more ≡ []) → own ++ more ≡ []
+      none [] is own more one others = absurd (cc)
+      none (truth ∷ truths) is own more one others =
+          let first : r ≡ reply.Truth truth = cc in
+          let behind : rs ≡ truths_of truths = cc in
+          ap (λ (v : List Sent). v ++ more) (one truth first) ∙ others truths behind
+
       left_of : (q : Probe) (e : EndpointParts) → Among (q, reply.Failed) (zip (p ∷ ps) (r ∷ rs)) → slice_get es q.at ≡ Some e → (d : IsDone es (job_of p) r h.0) (one : SplitOne d.endpoint p r h.0) (more : List Sent)
           → ((q : Probe) (e : EndpointParts) → Among (q, reply.Failed) (zip ps rs) → slice_get es q.at ≡ Some e → Contains more (ask_for e q)) → Contains (one.left ++ more) (ask_for e q)
       left_of q e (inl same) found d one more behind =

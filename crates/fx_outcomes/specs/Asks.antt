@@ -1,5 +1,5 @@
 -- The ASKs of a query, over several wires.
-use Rattle.std.specs.Prelude.{◌≡◌, ◌<◌, ℕ, Bool, List, IfOk, IfErr, IsTrue, All, Contains, IsPermutation, Some, Result, length, slice_get, ◌++◌}
+use Rattle.std.specs.Prelude.{[], ◌≡◌, ◌<◌, ℕ, Bool, List, IfOk, IfErr, IsTrue, All, Contains, IsPermutation, Some, Result, length, slice_get, ◌++◌}
 use Rattle.std.specs.List.{zip}
 use Rattle.fx_terms.specs.declared.triples.Triple.{Triple}
 use Rattle.fx_outside.specs.Endpoints.{EndpointParts}
@@ -87,7 +87,7 @@ HasFailedAsk before after endpoints probes left (flow.RequestTooLong at size) = 
 HasFailedAsk before after endpoints probes left flow.Memory = Unit {0}
 
 -- Probes were asked for over wires: what was exchanged, which of the probes' ASKs that is, each once, and their answers, which tell whether the
--- keys fit where the graphs of the endpoints are told. Where an exchange failed the ASK is left.
+-- keys fit where the graphs of the endpoints are told. Where an exchange failed the ASK is left, and where each has its answer none is.
 pub record AskedAll (tells alone : Bool) (before after : List Seen) (endpoints : List EndpointParts) (probes : List Probe) (result : Result (List Bool) FlowError) : Type 0 where
   pub exchanges : List Exchange
   pub gained : IsTrue tells → HaveGained before after exchanges
@@ -100,6 +100,7 @@ pub record AskedAll (tells alone : Bool) (before after : List Seen) (endpoints :
   pub left : List Sent
   pub texts : AreAsksSent endpoints asked wanted
   pub sent : Sends wanted left exchanges
+  pub whole : IfOk result (λ _. left ≡ [])
   pub many : IfOk result (λ truths. length truths ≡ length probes)
   pub faultless : IfOk result (λ _. All (IsAskRead probes) exchanges)
   pub answered : IfOk result (λ truths. All (IsAnsweredBy endpoints exchanges) (zip probes truths))

@@ -196,7 +196,7 @@ Serve services (e ∷ endpoints) (graph ∷ graphs) = (services e.iri ≡ graph)
 
 -- A query was asked over wires, in batches of so many rows at most: what was exchanged, one wire's part behind the other's. Of that the one part is for the
 -- occurrences of SERVICE, which were all invoked, each once, or none of them: what each came to, by its own exchanges. The other is ASKs and texts of batches
--- that were wanted of the query, which where graphs are told are those of its runs; with an answer, each reply there was read without a fault. Together they are the
+-- that were wanted of the query, which where graphs are told are those of its runs; with an answer, each of them was sent, and each reply there was read without a fault. Together they are the
 -- query's traffic, whichever are down of the occurrences that didn't pass, or stand behind one that didn't. With an answer: all occurrences were invoked, those that have no
 -- rows are silent, and are down; and the answer is that over the union of the graphs. Else the cause, which of occurrences is that of the first in text order that was refused, and of an endpoint is in
 -- the part that isn't for occurrences; one is named as failed for an ASK that is left, or since more exchanges failed there than those with occurrences. ASKs come first: nothing else was asked for before each had its answer. Batches are wanted of runs before each occurrence that was refused alone, so a batch
@@ -225,6 +225,7 @@ pub record Federated (tells alone : Bool) (before after : List Seen) (endpoints 
       → (down : List ℕ) → AgreesWith down calls → AreRunsSent endpoints graphs block (stations q) (seeds q (union graphs) services down) texts
   pub left : List Sent
   pub sent : Sends (asks ++ texts) left of_others
+  pub whole : IfOk result (λ _. left ≡ [])
   pub faultless : IfOk result (λ _. All (IsRead endpoints q old) of_others)
   pub traffic : (graphs : List (List Triple)) → AreKnown before endpoints old graphs → (services : List ℕ → List Triple) → Serve services endpoints graphs
       → (down : List ℕ) → AgreesWith down calls → (unsent : List Sent) × IsTraffic endpoints graphs block services down q old unsent exchanges
@@ -234,7 +235,7 @@ pub record Federated (tells alone : Bool) (before after : List Seen) (endpoints 
   pub cause : IfErr result (HasFedCause before after endpoints q old calls calls texts of_others block)
   pub own_failure : IfErr result (λ e. FailedAtAsk before after endpoints q old calls left e ⊎ FailedBeside before after endpoints q calls e)
   pub asks_first : AsksComeFirst endpoints (missing q (length endpoints) old) calls texts exchanges
-  pub in_turn : IfErr result (λ e. HasFedCause before after endpoints q old calls [] texts of_others block e ⊎ AreGiven alone before after calls (IsRead endpoints q old) of_others)
+  pub in_turn : IfErr result (λ e. HasFedCause before after endpoints q old calls [] texts of_others block e ⊎ AreGiven alone before after calls (IsRead endpoints q old) left of_others)
   pub held : HoldsBehind endpoints q old new exchanges result
   pub stays_true : (graphs : List (List Triple)) → AreKnown before endpoints old graphs → All (source.Tells graphs) new
 
@@ -254,6 +255,7 @@ pub record Planned (tells alone : Bool) (before after : List Seen) (endpoints : 
   pub asked : AreAsked endpoints q old asks
   pub left : List Sent
   pub sent : Sends asks left exchanges
+  pub whole : IfOk result (λ _. left ≡ [])
   pub faultless : IfOk result (λ _. All (IsAskRead (missing q (length endpoints) old)) exchanges)
   pub parts : IfOk result (λ parts. (graphs : List (List Triple)) → AreKnown before endpoints old graphs → parts ≡ parts_with (sources graphs) q)
   pub by_answers : IfOk result (IsPlannedBy endpoints q old new exchanges)

@@ -23,9 +23,10 @@ pub record AreAnswered (endpoints : List EndpointParts) (probes : List Probe) (x
 abbrev pub AsksComeFirst : List EndpointParts → List Probe → List Call → List Sent → List Exchange → Type 0
 AsksComeFirst endpoints probes calls texts xs = ((calls ≡ []) × (texts ≡ [])) ⊎ AreAnswered endpoints probes xs
 
--- What was asked for beside the occurrences of SERVICE was given, so no run was refused: each reply was read, without a fault, and by wires that count each address
--- alone no faults were counted but those of the occurrences.
-pub record AreGiven (alone : Bool) (before after : List Seen) (calls : List Call) (IsRead : Exchange → Type 0) (others : List Exchange) : Type 0 where
+-- What was asked for beside the occurrences of SERVICE was given, so no run was refused: no text is left, each reply was read, without a fault, and by wires that count each
+-- address alone no faults were counted but those of the occurrences.
+pub record AreGiven (alone : Bool) (before after : List Seen) (calls : List Call) (IsRead : Exchange → Type 0) (left : List Sent) (others : List Exchange) : Type 0 where
+  pub whole : left ≡ []
   pub read : All IsRead others
   pub exact : IsTrue alone → (address : List ℕ) → faults_at after address ≡ faults_at before address + failures_at address calls
 

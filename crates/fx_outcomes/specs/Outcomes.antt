@@ -1,5 +1,5 @@
 -- The answer of a query by its plan, with its occurrences of SERVICE, or why there is none.
-use Rattle.std.specs.Prelude.{◌≡◌, ◌<◌, ◌≤◌, ◌+◌, ◌⊎◌, ◌++◌, ℕ, Bool, List, IfOk, IfErr, IsTrue, IsPermutation, All, Contains, Some, Result, length, map, slice_get}
+use Rattle.std.specs.Prelude.{◌≡◌, ◌<◌, ◌≤◌, ◌+◌, ◌⊎◌, ◌++◌, ℕ, Bool, List, [], IfOk, IfErr, IsTrue, IsPermutation, All, Contains, Some, Result, length, map, slice_get}
 use Rattle.std.specs.List.{AllByRecursion}
 use Rattle.fx_terms.specs.declared.patterns.Pattern.{Pattern}
 use Rattle.fx_terms.specs.declared.triples.Triple.{Triple}
@@ -8,7 +8,7 @@ use Rattle.fx_algebra.specs.Answers.{answer}
 use Rattle.fx_algebra.specs.Cuts.{seeds, stations}
 use Rattle.fx_algebra.specs.Graphs.{union}
 use Rattle.fx_algebra.specs.Solutions.{Bindings}
-use Rattle.fx_algebra.specs.Units.{sources}
+use Rattle.fx_algebra.specs.Units.{of_kept, sources}
 use Rattle.fx_algebra.specs.declared.queries.Query.{Query}
 use Rattle.fx_plan.specs.declared.parts.Part.{Part}
 use Rattle.fx_flows.specs.Flows.{IsBatchRead}
@@ -80,6 +80,16 @@ IsTold endpoints why e = ⊥
 
 -- ---- an outcome
 
+-- The graph of each endpoint is told, and is that of the IRI which is its address. These are the graphs of those that are kept, with an empty one in the place of each other, and
+-- the plan is by the sources that patterns have there: so it asks none that isn't kept.
+pub record IsPlannedOver (before : List Seen) (endpoints : List EndpointParts) (q : Query) (plan : List Part) (graphs : List (List Triple)) (services : List ℕ → List Triple) : Type 0 where
+  pub all : List (List Triple)
+  pub told : TellAll before endpoints all
+  pub served : Serve services endpoints all
+  pub kept : List Bool
+  pub those_kept : graphs ≡ of_kept kept all
+  pub plan_is : plan ≡ parts_with (sources graphs) q
+
 -- The occurrences of SERVICE of a query were invoked over wires, and then its runs were asked for by a plan, from the rows that the occurrences gave: what was
 -- exchanged for the one and for the other, and what is known of both.
 pub record Outcomed (tells alone : Bool) (before after : List Seen) (endpoints : List EndpointParts) (q : Query) (plan : List Part) (block : ℕ) (result : Result Outcome FedError) : Type 0 where
@@ -103,11 +113,12 @@ pub record Outcomed (tells alone : Bool) (before after : List Seen) (endpoints :
   pub of_batches : All (IsBatchText endpoints block (Contains (units_in (tasks_with plan found)))) texts
   pub left : List Sent
   pub sent : Sends texts left of_runs
+  pub whole : IfOk result (λ _. left ≡ [])
   pub faultless : IfOk result (λ _. All (IsBatchRead (Contains (units_in (tasks_with plan found)))) of_runs)
-  pub runs : (graphs : List (List Triple)) → TellAll before endpoints graphs → plan ≡ parts_with (sources graphs) q → (services : List ℕ → List Triple) → Serve services endpoints graphs
+  pub runs : (graphs : List (List Triple)) (services : List ℕ → List Triple) → IsPlannedOver before endpoints q plan graphs services
       → (down : List ℕ) → AgreesWith down calls → AreRunsSent endpoints graphs block (stations q) (seeds q (union graphs) services down) texts
-  pub answer : IfOk result (λ outcome. (graphs : List (List Triple)) → TellAll before endpoints graphs → plan ≡ parts_with (sources graphs) q → (services : List ℕ → List Triple) → Serve services endpoints graphs
+  pub answer : IfOk result (λ outcome. (graphs : List (List Triple)) (services : List ℕ → List Triple) → IsPlannedOver before endpoints q plan graphs services
       → outcome.answer ≡ answer q (union graphs) services (places outcome.down))
   pub cause : IfErr result (HasOutcomeCause before after endpoints plan found block calls texts of_runs)
   pub own_failure : IfErr result (FailedBeside before after endpoints q calls)
-  pub in_turn : IfErr result (λ e. HasBatchRefusal before after endpoints plan found block texts of_runs e ⊎ AreGiven alone before after calls (IsBatchRead (Contains (units_in (tasks_with plan found)))) of_runs)
+  pub in_turn : IfErr result (λ e. HasBatchRefusal before after endpoints plan found block texts of_runs e ⊎ AreGiven alone before after calls (IsBatchRead (Contains (units_in (tasks_with plan found)))) left of_runs)
