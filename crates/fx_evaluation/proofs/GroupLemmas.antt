@@ -11,7 +11,7 @@ use Rattle.fx_terms.specs.declared.patterns.Pattern.{Pattern}
 use Rattle.fx_terms.specs.declared.patterns.PatternTerm.{PatternTerm}
 use Rattle.fx_algebra.specs.BasicGraphPatterns.{parts_of, forced, bgp}
 use Rattle.fx_algebra.specs.Evaluation.{extended}
-use Rattle.fx_algebra.specs.Operators.{join, merges, filtered, minus, left_join, extend, inline_rows}
+use Rattle.fx_algebra.specs.Operators.{join, merges, left_join, extend, inline_rows}
 use Rattle.fx_algebra.specs.Solutions.{Bindings, rises}
 use Rattle.fx_algebra.specs.Groups.{Part, pattern, condition, operator, Step, run, apply, Meaning, meaning, element_meaning, group_meaning, with_pattern, with_part, steps_of, after, conditions_of, part_services, parts_services, groups_services, one_empty, group_rows, alternatives, is_down, service_rows}
 use Rattle.fx_algebra.specs.declared.expressions.Expr.{Expr}

@@ -6,7 +6,7 @@ use Rattle.fx_algebra.specs.Answers.{answer_alone}
 use Rattle.fx_algebra.specs.Occurrences.{Occurrence, services}
 use Rattle.fx_algebra.specs.declared.answers.Answer.{Answer}
 use Rattle.fx_algebra.specs.declared.queries.Query.{Query}
-use Rattle.fx_http.specs.Requests.{Asks, IsRequest, status_of, request_error_name}
+use Rattle.fx_http.specs.Requests.{Asks, status_of, request_error_name}
 use Rattle.fx_http.specs.Replies.{IsReply}
 use Rattle.fx_http.specs.WrittenReplies.{reply_of}
 use Rattle.fx_http.specs.Answers.{GivesAsked}
