@@ -1,11 +1,11 @@
 -- Elements that are held back: each joins the rows before it with a table, and these may be taken in any order, among the patterns of a run too.
-use Rattle.std.proofs.Common.{◌≡◌, ◌∙◌, ap, sym, subst, refl, ℕ, zero, suc, ◌+◌, ◌<◌, ◌≤◌, true, List, [], ◌∷◌, ◌++◌, length, take, drop, get_or, remove, IsTrue, IsPermutation, arith, append-nil, append_assoc}
+use Rattle.std.proofs.Common.{◌≡◌, ◌∙◌, ap, sym, subst, refl, ℕ, zero, suc, ◌+◌, ◌<◌, ◌≤◌, true, List, [], ◌∷◌, ◌++◌, length, take, drop, get_or, remove, reverse, IsTrue, IsPermutation, arith, append-nil, append_assoc}
 use Rattle.std.specs.Prelude.{All}
 use Rattle.std.specs.List.{AllByRecursion}
-use Rattle.std.proofs.lemmas.Grind.{flat_map-append}
-use Rattle.std.proofs.lemmas.List.{drop_all, drop_more}
+use Rattle.std.proofs.lemmas.Grind.{flat_map-append, reverse_onto}
+use Rattle.std.proofs.lemmas.List.{drop_all, drop_more, reverse-append}
 use Rattle.std.proofs.lemmas.List.Elements.{All-from_recursion, recursion_from_All}
-use Rattle.std.proofs.lemmas.List.Sorted.{IsPermutation-refl, IsPermutation-trans}
+use Rattle.std.proofs.lemmas.List.Sorted.{IsPermutation-refl, IsPermutation-sym, IsPermutation-trans}
 use Rattle.fx_terms.specs.declared.patterns.Pattern.{Pattern}
 use Rattle.fx_terms.specs.declared.triples.Triple.{Triple}
 use Rattle.fx_algebra.specs.BasicGraphPatterns.{bgp}
@@ -58,6 +58,15 @@ pub one_table_more : (rows : List Bindings) (tables : List (List Bindings)) (t :
 one_table_more rows [] t = refl
 one_table_more rows (u ∷ us) t = one_table_more (join rows u) us t
 
+-- the tables the other way round
+tables_turned : (rows : List Bindings) (tables : List (List Bindings)) → Rising rows → IsPermutation (with_tables rows (reverse tables)) (with_tables rows tables)
+tables_turned rows [] up = IsPermutation-refl rows
+tables_turned rows (t ∷ ts) up =
+    subst (λ (v : List Bindings). IsPermutation v (with_tables (join rows t) ts)) (sym (ap (with_tables rows) (reverse_onto ts t []) ∙ one_table_more rows (reverse ts) t))
+    (IsPermutation-trans (join (with_tables rows (reverse ts)) t) (join (with_tables rows ts) t) (with_tables (join rows t) ts)
+    (same_join (with_tables rows (reverse ts)) (with_tables rows ts) t t (tables_turned rows ts up) (IsPermutation-refl t))
+    (IsPermutation-sym (with_tables (join rows t) ts) (join (with_tables rows ts) t) (table_past rows t ts up)))
+
 fewer_tables : (conditions : List Expr) (found rows : List Bindings) (tables : List (List Bindings)) → AreFewer conditions found rows → AreFewer conditions (with_tables found tables) (with_tables rows tables)
 fewer_tables conditions found rows [] h = h
 fewer_tables conditions found rows (t ∷ ts) h = fewer_tables conditions (join found t) (join rows t) ts (fewer_on_the_left conditions found rows t h)
@@ -71,6 +80,15 @@ module _ (graphs : List ℕ → List Triple) (down : List ℕ) (graph : List Tri
   tables_more [] (u ∷ us) e t h its = absurd h
   tables_more (x ∷ xs) [] e t h its = absurd h
   tables_more (x ∷ xs) (u ∷ us) e t h its = (h.0, tables_more xs us e t h.1 its)
+
+  are_turned : (elements : List Element) (tables : List (List Bindings)) → AreTables graphs down graph elements tables → AreTables graphs down graph (reverse elements) (reverse tables)
+  are_turned [] [] h = h
+  are_turned [] (u ∷ us) h = absurd h
+  are_turned (x ∷ xs) [] h = absurd h
+  are_turned (x ∷ xs) (u ∷ us) h =
+      subst (λ (v : List Element). AreTables graphs down graph v (reverse (u ∷ us))) (sym (reverse_onto xs x []))
+      (subst (λ (v : List (List Bindings)). AreTables graphs down graph (reverse xs ++ x ∷ []) v) (sym (reverse_onto us u []))
+      (tables_more (reverse xs) (reverse us) x u (are_turned xs us h.1) h.0))
 
   -- that of one of the elements, and those of the others
   record TakenTable (e : Element) (rest : List Element) (tables : List (List Bindings)) : Type 0 where
@@ -122,6 +140,21 @@ module _ (all : List Element) where
   removed : (places : List ℕ) (i : ℕ) → elements_at all (remove places i) ≡ elements_at all (take i places) ++ elements_at all (drop (suc i) places)
   removed places i = flat_map-append (λ place. take 1 (drop place all)) (take i places) (drop (suc i) places)
 
+  one_or_none : (xs : List Element) → reverse (take 1 xs) ≡ take 1 xs
+  one_or_none [] = refl
+  one_or_none (x ∷ xs) = refl
+
+  places_turned : (places : List ℕ) → elements_at all (reverse places) ≡ reverse (elements_at all places)
+  places_turned [] = refl
+  places_turned (k ∷ ks) =
+      let one = take 1 (drop k all) in
+      let others = elements_at all ks in
+      ap (elements_at all) (reverse_onto ks k [])
+      ∙ flat_map-append (λ place. take 1 (drop place all)) (reverse ks) (k ∷ [])
+      ∙ ap (λ (v : List Element). elements_at all (reverse ks) ++ v) (append-nil one)
+      ∙ ap (λ (v : List Element). v ++ one) (places_turned ks)
+      ∙ sym (reverse-append one others ∙ ap (λ (v : List Element). reverse others ++ v) (one_or_none (drop k all)))
+
 -- ---- elements are taken one by one
 
 -- what the elements that are left make of the rows so far, all make of those before
@@ -140,6 +173,19 @@ module _ (conditions : List Expr) (graph : List Triple) (all : List Element) (be
   leads_fewer left rows kept so fewer found h = so found (record {
     same = λ graphs down tables are.
         fewer_laws.in_turn conditions found (with_tables kept tables) (with_tables rows tables) (h.same graphs down tables are) (fewer_tables conditions kept rows tables fewer);
+  })
+
+  -- the elements are taken the other way round
+  pub leads_turned : (elements : List Element) (places others : List ℕ) (rows : List Bindings) (ps : List Pattern) → others ≡ reverse places → All (λ s. IsTrue (rises s)) rows
+      → LeadsTo conditions graph all before (elements_at elements places) (rows_from graph rows ps) → LeadsTo conditions graph all before (elements_at elements others) (rows_from graph rows ps)
+  leads_turned elements places others rows ps turned up so found h = so found (record {
+    same = λ graphs down tables are.
+        let run = rows_from graph rows ps in
+        let rising = rise_run graph rows ps (recursion_from_All (λ s. IsTrue (rises s)) rows up) in
+        let held : elements_at elements others ≡ reverse (elements_at elements places) = ap (elements_at elements) turned ∙ places_turned elements places in
+        let those = subst (λ (v : List Element). AreTables graphs down graph v (reverse tables)) (sym held) (are_turned graphs down graph (elements_at elements places) tables are) in
+        fewer_laws.in_turn conditions found (with_tables run (reverse tables)) (with_tables run tables) (h.same graphs down (reverse tables) those)
+        (fewer_laws.none conditions (with_tables run (reverse tables)) (with_tables run tables) (tables_turned run tables rising));
   })
 
   -- one of the elements goes before what is left of the run

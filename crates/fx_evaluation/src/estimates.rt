@@ -248,8 +248,8 @@ pub(crate) fn is_small(
     Ok(one.saturating_mul(count) < all)
 }
 
-/// Which of the elements that are held back is joined next: of their places, where that stands of the one that has the fewest triples, or rows of its own. Nothing
-/// where it has more than the pattern of the run that has the fewest: then one of these is looked up before.
+/// Which of the elements that are held back is joined next: of their places, of which the last comes first in the text, where that stands of the one that has the fewest triples, or rows
+/// of its own. Nothing where it has more than the pattern of the run that has the fewest: then one of these is looked up before.
 pub(crate) fn held_next(
     alloc: Global,
     store: &Store,
@@ -263,7 +263,7 @@ pub(crate) fn held_next(
     ensures { IfOk result (λ next. spec.IsHeldNext (length held.now) (length run.now) next) }
 {
     let Some(row) = rows.first() else {
-        return Ok(Some(0));
+        return Ok(Some(held.len() - 1));
     };
     let row = with_known(alloc, row, conditions)?;
     let known = iris_of(alloc, &row, &[])?;
@@ -274,16 +274,18 @@ pub(crate) fn held_next(
     }
 }
 
-// Of the first places of elements the one whose element has the fewest triples under a row.
+// Of the last places of elements the one whose element has the fewest triples under a row, the later of equal ones.
 fn lightest(store: &Store, elements: &[Element], held: &[usize], row: &Solution) -> Outlook
     requires { 0 < length held.now }
     ensures { result.place < length held.now }
 {
+    let last = held.len() - 1;
     let mut best = Outlook {
-        place: 0,
-        rows: triples_at(store, elements, held[0], row),
+        place: last,
+        rows: triples_at(store, elements, held[last], row),
     };
-    for place in 1..held.len().min(MOST_COMPARED) {
+    for back in 1..held.len().min(MOST_COMPARED) {
+        let place = last - back;
         let rows = triples_at(store, elements, held[place], row);
         if rows < best.rows {
             best = Outlook { place, rows };

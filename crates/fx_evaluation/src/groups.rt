@@ -103,7 +103,10 @@ fn with_held(
     ensures { IfOk result (λ rows. spec.AreHeldRows conditions.now elements.now held.items store.now run rows.items) }
 {
     let known = with_known(alloc, run.rows, run.left.as_slice(), conditions)?;
+    known_to_rise(known.as_slice());
+    // The first of the text stand last, since what is taken from the end of a list moves few others.
     let mut left = held;
+    left.reverse();
     let mut more = Run {
         rows: known,
         left: run.left,

@@ -11,7 +11,7 @@ use Rattle.fx_algebra.specs.Evaluation.{rows_from}
 use Rattle.fx_steps.specs.Fewer.{AreFewer}
 use Rattle.std.specs.Prelude.{IfOk}
 use Rattle.fx_evaluation.proofs.GroupLemmas.{after_service, alternatives_next}
-use Rattle.fx_evaluation.proofs.HeldLemmas.{held_joined, held_nowhere, leads_first, leads_fewer, one_place_more}
+use Rattle.fx_evaluation.proofs.HeldLemmas.{held_joined, held_nowhere, leads_first, leads_fewer, leads_turned, one_place_more}
 use Rattle.fx_evaluation.proofs.OutsideLemmas.{nothing_known, said_known}
 use Rattle.fx_evaluation.proofs.WalkLemmas.{known_minus, known_optional, known_union, row_more, row_none, rows_filtered, near_first, after_is_near, union_is_near, held_end, held_filter, held_other, held_triple, held_union, held_values}
 use Rattle.fx_evaluation.proofs.groups.+rows.Goals as goal
@@ -151,8 +151,13 @@ with_held-loop-more-init t c =
     let conditions = c.args.conditions.now in
     let rows = c.args.run.rows.items in
     let known = c.in_ok-known.known.items in
-    leads_first conditions graph (elements_at c.args.elements.now c.args.held.items) (rows_from graph rows c.args.run.left.items) (rows_from graph known c.args.run.left.items)
-    (subst (λ (ps : List Pattern). AreFewer conditions (rows_from graph known ps) (rows_from graph rows ps)) c.as_slice.ensures.value (c.in_ok-known.ensures.same graph))
+    let elements = c.args.elements.now in
+    let held = c.args.held.items in
+    let all = elements_at elements held in
+    let left = c.args.run.left.items in
+    let before = rows_from graph rows left in
+    leads_turned conditions graph all before elements held c.reverse.new.self.items known left c.reverse.ensures.items (rw c.as_slice-2.ensures.value at c.known_to_rise.ensures)
+    (leads_first conditions graph all before (rows_from graph known left) (subst (λ (ps : List Pattern). AreFewer conditions (rows_from graph known ps) (rows_from graph rows ps)) c.as_slice.ensures.value (c.in_ok-known.ensures.same graph)))
 
 pub with_held-loop-more-preserved-in-None : goal.with_held-loop-more-preserved-in-None
 with_held-loop-more-preserved-in-None t c =
@@ -175,7 +180,7 @@ with_held-loop-more-preserved-in-Some-get t c =
     (subst (λ (o : Option ℕ). IsHeldNext (length c.as_slice-in-loop-more-2.result.now) (length c.as_slice-in-loop-more-3.result.now) o) c.in-Some.is c.in_ok-held_next.ensures) in
     held_joined c.args.conditions.now graph (elements_at elements c.args.held.items) (rows_from graph c.args.run.rows.items c.args.run.left.items) elements left c.remove.new.self.items before.rows.items c.in_ok-rows-in-Some.rows.items
     before.left.items c.in-Some-get.element.now at c.remove.result c.loop-more.invariant b c.remove.ensures.value c.remove.ensures.items c.in-Some-get.ensures.lookup.3.0 c.in-Some-get.ensures.lookup.1
-    (rw c.as_slice-in-loop-more.ensures.value at c.known_to_rise.ensures) (rw c.as_slice-in-Some-get.ensures.value at c.known_to_rise-in-Some-get.ensures) c.in_ok-rows-in-Some.ensures
+    (rw c.as_slice-in-loop-more.ensures.value at c.known_to_rise-in-loop-more.ensures) (rw c.as_slice-in-Some-get.ensures.value at c.known_to_rise-in-Some-get.ensures) c.in_ok-rows-in-Some.ensures
 
 pub with_held-loop-more-preserved : goal.with_held-loop-more-preserved
 with_held-loop-more-preserved t c =
