@@ -5,7 +5,7 @@ use Rattle.std.proofs.lemmas.List.Folds.{list_any-append}
 use Rattle.fx_algebra.specs.Groups.{is_down}
 use Rattle.fx_algebra.specs.Occurrences.{Occurrence, services}
 use Rattle.fx_algebra.specs.declared.queries.Query.{Query}
-use Rattle.fx_member.specs.FirstHere.{first_up, first_here}
+use Rattle.fx_evaluation.specs.FirstHere.{first_up, first_here}
 use Rattle.fx_local.specs.Services.{numbered, all_numbers}
 
 is_itself : (n : ℕ) → (n == n) ≡ true

@@ -19,7 +19,7 @@ use crate::refusals::Refusal;
 use crate::reports::write_refusal;
 use crate::statuses::Status;
 use fx_algebra::{Query, services};
-use fx_member::{MemberError, answer};
+use fx_evaluation::{MemberError, answer};
 use fx_outside::{Files, Sink};
 use fx_results::write;
 use fx_store::Store;

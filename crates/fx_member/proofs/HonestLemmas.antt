@@ -6,7 +6,7 @@ use Rattle.fx_algebra.specs.Answers.{answer_alone}
 use Rattle.fx_algebra.specs.Occurrences.{Occurrence, services}
 use Rattle.fx_algebra.specs.declared.answers.Answer.{Answer}
 use Rattle.fx_algebra.specs.declared.queries.Query.{Query}
-use Rattle.fx_http.specs.Requests.{Asks, IsRequest, status_of, request_error_name}
+use Rattle.fx_http.specs.Requests.{Asks, status_of, request_error_name}
 use Rattle.fx_http.specs.Replies.{IsReply}
 use Rattle.fx_http.specs.WrittenReplies.{reply_of}
 use Rattle.fx_http.specs.Answers.{GivesAsked}
@@ -17,7 +17,7 @@ use Rattle.fx_results.specs.Documents.{document}
 use Rattle.fx_results.specs.Meanings.{Denotes}
 use Rattle.fx_grammar.specs.Accepted.{Accepted}
 use Rattle.fx_wire.specs.Honest.{IsHonest, Replies}
-use Rattle.fx_member.specs.FirstHere.{first_up, first_here}
+use Rattle.fx_evaluation.specs.FirstHere.{first_up, first_here}
 use Rattle.fx_member.specs.GraphWires.{RepliesTo}
 use Rattle.fx_member.specs.Served.{Told, told, own_line, by_services, query_told, IsTextTold, IsTold, asked, refused, IsServed, IsLaidOut}
 

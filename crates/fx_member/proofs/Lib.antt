@@ -1,15 +1,2 @@
-pub mod GroupLemmas
-pub mod OptionalLemmas
-pub mod ConditionLemmas
-pub mod ConjunctLemmas
-pub mod RunLemmas
-pub mod KnownLemmas
-pub mod OutsideLemmas
-pub mod HeldLemmas
-pub mod WalkLemmas
-pub mod FirstRowLemmas
-pub mod CountLemmas
-pub mod PlaceLemmas
-pub mod FormLemmas
 pub mod AnswerLemmas
 pub mod HonestLemmas

@@ -1,10 +1,3 @@
-pub mod GroupRows
-pub mod Conditions
-pub mod Known
-pub mod Runs
-pub mod Optionals
-pub mod FirstRows
-pub mod FirstHere
 pub mod GraphWires
 pub mod FaultWires
 pub mod Served

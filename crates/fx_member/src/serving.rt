@@ -14,8 +14,8 @@ ghost use Rattle.fx_results.specs.Meanings.{binds_columns};
 ghost use Rattle.fx_grammar.specs.Accepted.{IsSpellable};
 ghost use Rattle.fx_wire.specs.Honest.{IsHonest, Replies};
 
-use crate::answering::{MemberError, answer};
 use fx_algebra::{Answer, Query};
+use fx_evaluation::{MemberError, answer};
 use fx_http::{RequestError, read_request, reply_bytes};
 use fx_outside::{Sink, Source, WriteFailed, write_all};
 use fx_results::write;

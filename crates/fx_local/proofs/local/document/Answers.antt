@@ -2,8 +2,8 @@ use Rattle.std.proofs.Common.{◌≡◌, ◌∙◌, ap, sym, subst, Some, None}
 use Rattle.std.specs.Prelude.{IfOk}
 use Rattle.fx_algebra.specs.Answers.{answer, no_graphs}
 use Rattle.fx_algebra.specs.declared.answers.Answer.{Answer}
-use Rattle.fx_member.specs.FirstHere.{first_here, IsCause}
-use Rattle.fx_member.specs.declared.answering.MemberError.TheVariants.{ServiceHere}
+use Rattle.fx_evaluation.specs.FirstHere.{first_here, IsCause}
+use Rattle.fx_evaluation.specs.declared.answering.MemberError.TheVariants.{ServiceHere}
 use Rattle.fx_results.specs.Documents.{document as document_of}
 use Rattle.fx_local.specs.Services.{all_numbers}
 use Rattle.fx_local.proofs.ServiceLemmas.{none_here}

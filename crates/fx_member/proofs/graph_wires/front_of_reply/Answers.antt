@@ -1,4 +1,4 @@
-use Rattle.std.proofs.Common.{◌≡◌, refl, sym, subst, List, ℕ}
+use Rattle.std.proofs.Common.{refl, sym, subst, List, ℕ}
 use Rattle.fx_wire.specs.Honest.{IsHonest}
 use Rattle.fx_member.specs.Served.{IsServed}
 use Rattle.fx_member.proofs.graph_wires.front_of_reply.Goals as goal

@@ -1,4 +1,4 @@
-use Rattle.std.proofs.Common.{◌≡◌, ◌∙◌, ap, sym, subst, ℕ, List}
+use Rattle.std.proofs.Common.{sym, subst, ℕ, List}
 use Rattle.fx_member.specs.Served.{IsTextTold}
 use Rattle.fx_member.specs.GraphWires.{RepliesTo}
 use Rattle.fx_member.proofs.HonestLemmas.{served_text, served_refusal, honest_text, honest_refusal, asks_refusal}

@@ -1,10 +1,10 @@
-use Rattle.std.proofs.Common.{◌≡◌, ◌∙◌, ap, sym, subst, true, ℕ, List, []}
+use Rattle.std.proofs.Common.{◌≡◌, ◌∙◌, ap, sym, subst, true, []}
 use Rattle.std.specs.Prelude.{IfOk}
 use Rattle.fx_algebra.specs.Answers.{no_graphs}
 use Rattle.fx_algebra.specs.declared.answers.Answer.{Answer}
 use Rattle.fx_results.specs.Documents.{document}
 use Rattle.fx_results.specs.Meanings.{binds_columns}
-use Rattle.fx_member.specs.Served.{Told, told, query_told, by_services, IsLaidOut}
+use Rattle.fx_member.specs.Served.{Told, told, query_told, IsLaidOut}
 use Rattle.fx_member.proofs.AnswerLemmas.{spelled_answer}
 use Rattle.fx_member.proofs.HonestLemmas.{answered, without_service}
 use Rattle.fx_member.proofs.serving.query_reply.Goals as goal

@@ -1,0 +1,13 @@
+pub mod GroupLemmas
+pub mod OptionalLemmas
+pub mod ConditionLemmas
+pub mod ConjunctLemmas
+pub mod RunLemmas
+pub mod KnownLemmas
+pub mod OutsideLemmas
+pub mod HeldLemmas
+pub mod WalkLemmas
+pub mod FirstRowLemmas
+pub mod CountLemmas
+pub mod PlaceLemmas
+pub mod FormLemmas

@@ -1,6 +1,0 @@
-use Rattle.std.proofs.Common.{take}
-use Rattle.fx_member.specs.Conditions.{AreAsStrict}
-use Rattle.fx_member.proofs.conditions.conjuncts.Given as goal
-
-abbrev pub invariant-loop-filter : goal.invariant-loop-filter
-invariant-loop-filter l = AreAsStrict l.parts.items (take l.filter-index l.filters)

@@ -1,6 +1,0 @@
-use Rattle.std.proofs.Common.{◌<◌, IfSome, length}
-use Rattle.fx_member.proofs.estimates.fewest.Given as goal
-
--- what was chosen so far is the place of a pattern
-abbrev pub invariant-loop-place : goal.invariant-loop-place
-invariant-loop-place l = IfSome l.best (λ outlook. outlook.place < length l.left)

@@ -1,6 +1,0 @@
-use Rattle.std.proofs.Common.{◌<◌, length}
-use Rattle.fx_member.proofs.estimates.lightest.Given as goal
-
--- what was chosen so far is the place of an element's place
-abbrev pub invariant-loop-place : goal.invariant-loop-place
-invariant-loop-place l = l.best.place < length l.held

@@ -1,6 +1,0 @@
-use Rattle.std.proofs.Common.{take, drop}
-use Rattle.fx_member.proofs.OptionalLemmas.{IsRunSoFar}
-use Rattle.fx_member.proofs.optionals.run_of.Given as goal
-
-abbrev pub invariant-loop-element : goal.invariant-loop-element
-invariant-loop-element l = IsRunSoFar l.element-items (take l.element-index l.element-items) (drop l.element-index l.element-items) l.patterns.items

@@ -1,7 +1,0 @@
-use Rattle.std.proofs.Common.{◌≡◌, drop}
-use Rattle.fx_member.specs.FirstHere.{first_false}
-use Rattle.fx_member.proofs.places.first_false.Given as goal
-
--- what is left decides
-abbrev pub invariant-loop-i : goal.invariant-loop-i
-invariant-loop-i l = first_false l.i (drop l.i l.marks) ≡ first_false 0 l.marks

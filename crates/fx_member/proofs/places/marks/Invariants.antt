@@ -1,6 +1,0 @@
-use Rattle.std.proofs.Common.{take}
-use Rattle.fx_member.specs.FirstHere.{AreMarks}
-use Rattle.fx_member.proofs.places.marks.Given as goal
-
-abbrev pub invariant-loop-number : goal.invariant-loop-number
-invariant-loop-number l = AreMarks (take l.number-index l.numbers) l.count l.marks.items
