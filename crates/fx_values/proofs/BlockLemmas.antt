@@ -269,12 +269,6 @@ abbrev pub BindsJust : List (List ℕ) → Bindings → Type 0
 BindsJust names row = (name : List ℕ) → is_some (term_of row name) ≡ is_among names name
 
 module _ (graph : List Triple) (u : unit.Unit) where
-  abbrev pub sent_patterns : List Pattern
-  sent_patterns = map (bound_pattern (renamed u) []) u.patterns
-
-  abbrev pub sent_filters : List Expr
-  sent_filters = map (bound_expr (renamed u) []) u.filters
-
   pub solution_binds : (t : Bindings) → Among t (bgp graph (map (bound_pattern (renamed u) []) u.patterns)) → BindsJust (map (renamed u) (unit_names u)) t
   solution_binds t m name =
       (solution_of graph (map (bound_pattern (renamed u) []) u.patterns) t (contains_from (bgp graph (map (bound_pattern (renamed u) []) u.patterns)) t m)).binds name

@@ -96,12 +96,6 @@ module _ (u : unit.Unit) (short : length (unit_names u) < 2 ^ 64) where
           apart.0 (subst (λ (v : List ℕ). Among v xs) (one_name u short n x (own n (inr m)) (own x (inl refl)) (name_from (renamed u n) (renamed u x) h)) m))
 
   module _ (b : Place) where
-    abbrev block_row : Bindings
-    block_row = inline_row (columns u) (cells u b)
-
-    abbrev start : Bindings
-    start = with_value [] number_name (Some (integer (pos b.number)))
-
     pub block_own : (n : List ℕ) → is_among (unit_names u) n ≡ true → term_of (inline_row (columns u) (cells u b)) (renamed u n) ≡ term_of b.row.solution n
     block_own n h =
         inside (unit_names u) (λ m k. test_from (unit_names u) m k) (names_once u) (with_value [] number_name (Some (integer (pos b.number)))) b.row.solution n (among_from_test (unit_names u) n h)
@@ -208,9 +202,6 @@ module _ (u : unit.Unit) (short : length (unit_names u) < 2 ^ 64) where
     -- ---- all solutions
 
     module _ (covered : AllByRecursion (λ e. is_covered u.patterns e ≡ true) u.filters) where
-      abbrev solutions : List Bindings
-      solutions = bgp graph (map (bound_pattern (renamed u) []) u.patterns)
-
       abbrev sent_es : List Expr
       sent_es = map (bound_expr (renamed u) []) u.filters
 

@@ -62,8 +62,11 @@ pub record IsValues (p : Parts) : Type 0 where
 abbrev pub columns_by : (List ℕ → List ℕ) → List (List ℕ) → Columns
 columns_by rename names = record { number = number_name; sent = map (λ n. (rename n, n)) names }
 
+abbrev pub columns_of : units.Unit → Columns
+columns_of u = columns_by (renamed u) (unit_names u)
+
 pub record IsMade (p : Parts) (names : List (List ℕ)) (columns : Columns) (text : Option (List ℕ)) : Type 0 where
   pub known : IsValues p
   pub names_are : names ≡ unit_names p.unit
-  pub columns_are : columns ≡ columns_by (renamed p.unit) (unit_names p.unit)
+  pub columns_are : columns ≡ columns_of p.unit
   pub text_is : text ≡ text_of p

@@ -42,7 +42,9 @@ is_own (Some own) bound = is_that own bound
 
 -- it has the number of a row that was sent, and under the other name of each variable the row's own term, where the row has one
 abbrev pub is_of : unit.Unit → Bindings → Place → Bool
-is_of u t b = is_that (integer (pos b.number)) (term_of t number_name) && list_all (λ name. is_own (term_of b.row.solution name) (term_of t (renamed u name))) (unit_names u)
+is_of u t b =
+    is_that (integer (pos b.number)) (term_of t number_name)
+    && list_all (λ name. is_own (term_of b.row.solution name) (term_of t (renamed u name))) (unit_names u)
 
 -- what it tells of that row: the row with the terms under the unit's own names
 abbrev pub located : unit.Unit → Bindings → Place → Located

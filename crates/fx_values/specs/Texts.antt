@@ -3,8 +3,10 @@ use Rattle.std.specs.Prelude.{◌≡◌, ◌<◌, ◌≤◌, ◌^◌, ℕ, List,
 use Rattle.std.specs.List.{flat_map}
 use Rattle.fx_terms.specs.Terms.{IsTerm}
 use Rattle.fx_terms.specs.declared.terms.Term.{Term}
+use Rattle.fx_terms.specs.declared.patterns.Pattern.{Pattern}
 use Rattle.fx_algebra.specs.Printed.{Word, fixed, variable, condition, in_brackets, pattern_words, printed, printed_query, query_words, row_words}
 use Rattle.fx_algebra.specs.Solutions.{Bindings}
+use Rattle.fx_algebra.specs.declared.expressions.Expr.{Expr}
 use Rattle.fx_algebra.specs.declared.units.Row.{Row}
 use Rattle.fx_algebra.specs.declared.units.Unit as unit
 use Rattle.fx_grammar.specs.Accepted.{Accepted}
@@ -33,16 +35,23 @@ abbrev pub block_words : List (List ℕ) → List (List (Option Term)) → List 
 block_words names rows = in_brackets (map (λ n. variable n) names) ++ (fixed (codes "{") ∷ (flat_map row_words rows ++ fixed (codes "}") ∷ []))
 
 -- the triples and the filters of a unit under the other names of its variables
+abbrev pub triple_words : List (List ℕ) → List Pattern → List Word
+triple_words names ps = flat_map (λ p. pattern_words (bound_pattern (named names) [] p)) ps
+
+abbrev pub filter_words : List (List ℕ) → Expr → List Word
+filter_words names e = fixed (codes "FILTER") ∷ condition (printed (bound_expr (named names) [] e))
+
 abbrev pub unit_words : List (List ℕ) → unit.Unit → List Word
-unit_words names u =
-    flat_map (λ p. pattern_words (bound_pattern (named names) [] p)) u.patterns
-    ++ flat_map (λ e. fixed (codes "FILTER") ∷ condition (printed (bound_expr (named names) [] e))) u.filters
+unit_words names u = triple_words names u.patterns ++ flat_map (filter_words names) u.filters
 
 abbrev pub values_words : unit.Unit → List Place → List Word
 values_words u bs =
     fixed (codes "SELECT")
     ∷ (map (λ n. variable n) (columns u)
-    ++ fixed (codes "WHERE") ∷ fixed (codes "{") ∷ fixed (codes "VALUES") ∷ (block_words (columns u) (map (cells u) bs) ++ (unit_words (unit_names u) u ++ fixed (codes "}") ∷ [])))
+    ++ fixed (codes "WHERE")
+    ∷ fixed (codes "{")
+    ∷ fixed (codes "VALUES")
+    ∷ (block_words (columns u) (map (cells u) bs) ++ (unit_words (unit_names u) u ++ fixed (codes "}") ∷ [])))
 
 -- the law: these are the words that the query is printed in
 abbrev pub ValuesHaveTheWords : Type 0

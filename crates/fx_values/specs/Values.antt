@@ -94,7 +94,8 @@ pub record ColumnsAreNames : Type 0 where
 -- the row of the block merges to these with the solutions of the unit, under the unit's filters
 abbrev pub rows_of : List Triple → unit.Unit → Place → List Bindings
 rows_of graph u b =
-    filtered (map (bound_expr (renamed u) []) u.filters) (merges (bgp graph (map (bound_pattern (renamed u) []) u.patterns)) (inline_row (columns u) (cells u b)))
+    filtered (map (bound_expr (renamed u) []) u.filters)
+    (merges (bgp graph (map (bound_pattern (renamed u) []) u.patterns)) (inline_row (columns u) (cells u b)))
 
 -- the answer over a graph is a table of these rows, in some order
 pub record HasTheRows (graph : List Triple) (u : unit.Unit) (bs : List Place) : Type 0 where

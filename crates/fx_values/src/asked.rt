@@ -1,5 +1,5 @@
 //! The rows that a block has.
-ghost use Rattle.std.specs.Prelude.{◌≡◌, ◌≤◌, ◌++◌, IfOk, length, map};
+ghost use Rattle.std.specs.Prelude.{◌≡◌, ◌≤◌, IfOk, length, map};
 ghost use Rattle.fx_renaming.specs.Branches.{bound_part, bound_pattern, is_hopeless as is_hopeless_list, is_literal as is_literal_part};
 ghost use Rattle.fx_founds.specs.Uniting.{branches};
 ghost use Rattle.fx_values.specs.Parts.{place_by};

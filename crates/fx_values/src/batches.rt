@@ -4,9 +4,10 @@ ghost use Rattle.fx_grammar.specs.Accepted.{Accepted};
 ghost use Rattle.fx_spelling.specs.Units.{IsFit};
 ghost use Rattle.fx_founds.specs.Uniting.{branches};
 ghost use Rattle.fx_values.specs.Parts as spec;
+ghost use Rattle.fx_values.specs.Parts.{printed_words};
 ghost use Rattle.fx_values.specs.Sent.{all_words};
 ghost use Rattle.fx_values.specs.Texts.{HasTerms};
-ghost use Rattle.fx_values.specs.Values.{renamed, unit_names};
+ghost use Rattle.fx_values.specs.Values.{unit_names};
 
 use crate::asked::asked_rows;
 use crate::columns::Columns;
@@ -75,7 +76,7 @@ impl ValuesBatch {
 
     /// Its columns.
     pub(crate) fn columns(&self) -> &Columns
-        ensures { result.now ≡ spec.columns_by (renamed self.now.unit) (unit_names self.now.unit) }
+        ensures { result.now ≡ spec.columns_of self.now.unit }
     {
         &self.columns
     }
@@ -113,7 +114,7 @@ fn text_of(
     columns: &Columns,
     rows: &[(u32, Row)],
 ) -> Result<Option<String>, Memory>
-    ensures { IfOk result (λ text. option_map (λ t. string_bytes t) text ≡ spec.printed_words (all_words unit.now names.now columns.now rows.now) rows.now) }
+    ensures { IfOk result (λ text. option_map (λ t. string_bytes t) text ≡ printed_words (all_words unit.now names.now columns.now rows.now) rows.now) }
 {
     if rows.is_empty() {
         Ok(None)

@@ -1,5 +1,5 @@
 //! The columns of a block.
-ghost use Rattle.std.specs.Prelude.{◌≡◌, ◌++◌, [], IfOk, map};
+ghost use Rattle.std.specs.Prelude.{◌≡◌, IfOk, map};
 ghost use Rattle.fx_values.specs.Parts as parts;
 ghost use Rattle.fx_values.specs.Values.{named};
 

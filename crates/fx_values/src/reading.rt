@@ -9,10 +9,9 @@ ghost use Rattle.fx_algebra.specs.Scopes.{is_among};
 ghost use Rattle.fx_algebra.specs.Solutions.{same_term};
 ghost use Rattle.fx_algebra.specs.Values.{integer};
 ghost use Rattle.fx_values.specs.Answers as spec;
-ghost use Rattle.fx_values.specs.Parts.{columns_by};
+ghost use Rattle.fx_values.specs.Parts.{columns_of};
 ghost use Rattle.fx_values.specs.Reading as reading;
 ghost use Rattle.fx_values.specs.Sent as block;
-ghost use Rattle.fx_values.specs.Values.{renamed, unit_names};
 
 use crate::batches::ValuesBatch;
 use crate::columns::Columns;
@@ -80,7 +79,7 @@ fn read_row(
 // The row of the block that a row is of, or what is wrong with the row.
 fn row_of<'b>(batch: &'b ValuesBatch, row: &Solution) -> Result<&'b (u32, Row), RowFault>
     ensures { MatchResult result
-        (λ r. reading.read_row batch.now.unit batch.now.places row.now ≡ Ok (block.located (columns_by (renamed batch.now.unit) (unit_names batch.now.unit)) row.now r.now))
+        (λ r. reading.read_row batch.now.unit batch.now.places row.now ≡ Ok (block.located (columns_of batch.now.unit) row.now r.now))
         (λ e. reading.read_row batch.now.unit batch.now.places row.now ≡ Err e) }
 {
     let columns = batch.columns();
@@ -242,7 +241,7 @@ fn located(
     sent: &(u32, Row),
     row: &Solution,
 ) -> Result<Located, Memory>
-    ensures { IfOk result (λ l. l ≡ block.located (columns_by (renamed batch.now.unit) (unit_names batch.now.unit)) row.now sent.now) }
+    ensures { IfOk result (λ l. l ≡ block.located (columns_of batch.now.unit) row.now sent.now) }
 {
     let columns = batch.columns();
     Ok(Located {

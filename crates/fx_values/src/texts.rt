@@ -2,12 +2,12 @@
 ghost use Rattle.std.specs.Prelude.{◌≡◌, ◌++◌, ◌∷◌, [], codes, IfOk, map, OnOk, pos, Some, string_bytes};
 ghost use Rattle.std.specs.List.{flat_map};
 ghost use Rattle.std.specs.Option.{option_copied};
-ghost use Rattle.fx_algebra.specs.Printed.{condition, fixed, in_brackets, joined, part_word, pattern_words, printed, row_words, spaced, spelling, value_word, variable};
+ghost use Rattle.fx_algebra.specs.Printed.{condition, fixed, joined, part_word, pattern_words, printed, row_words, spaced, spelling, value_word, variable};
 ghost use Rattle.fx_algebra.specs.Solutions.{term_of};
 ghost use Rattle.fx_algebra.specs.Values.{integer};
-ghost use Rattle.fx_renaming.specs.Branches.{bound_expr, bound_part, bound_pattern};
+ghost use Rattle.fx_renaming.specs.Branches.{bound_part, bound_pattern};
 ghost use Rattle.fx_values.specs.Sent as spec;
-ghost use Rattle.fx_values.specs.Texts.{unit_words};
+ghost use Rattle.fx_values.specs.Texts.{filter_words, triple_words, unit_words};
 ghost use Rattle.fx_values.specs.Values.{named, sent_name};
 
 use crate::columns::Columns;
@@ -168,7 +168,7 @@ fn push_unit(alloc: Global, text: &mut String, names: &Names, unit: &Unit) -> Re
 }
 
 fn push_patterns(text: &mut String, names: &Names, patterns: &[Pattern]) -> Result<(), Memory>
-    ensures { OnOk result (string_bytes text.new ≡ string_bytes text.old ++ spaced (flat_map (λ p. pattern_words (bound_pattern (named names.now) [] p)) patterns.now)) }
+    ensures { OnOk result (string_bytes text.new ≡ string_bytes text.old ++ spaced (triple_words names.now patterns.now)) }
 {
     for pattern in patterns {
         push_pattern(text, names, pattern)?;
@@ -208,7 +208,7 @@ fn push_filters(
     names: &Names,
     filters: &[Expr],
 ) -> Result<(), Memory>
-    ensures { OnOk result (string_bytes text.new ≡ string_bytes text.old ++ spaced (flat_map (λ e. fixed (codes "FILTER") ∷ condition (printed (bound_expr (named names.now) [] e))) filters.now)) }
+    ensures { OnOk result (string_bytes text.new ≡ string_bytes text.old ++ spaced (flat_map (filter_words names.now) filters.now)) }
 {
     for filter in filters {
         push_renamed(alloc, text, names, filter)?;
@@ -222,7 +222,7 @@ fn push_renamed(
     names: &Names,
     filter: &Expr,
 ) -> Result<(), Memory>
-    ensures { OnOk result (string_bytes text.new ≡ string_bytes text.old ++ spaced (fixed (codes "FILTER") ∷ condition (printed (bound_expr (named names.now) [] filter.now)))) }
+    ensures { OnOk result (string_bytes text.new ≡ string_bytes text.old ++ spaced (filter_words names.now filter.now)) }
 {
     let filter = renamed_filter(alloc, names, filter)?;
     push_filter(text, filter.get())
