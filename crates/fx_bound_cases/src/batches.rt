@@ -1,10 +1,11 @@
-//! The calls of `fx_bound`. A run is its triple patterns and filters as they stand in a group; rows, and answers that are tables, stand
+//! The calls of `fx_bound`, and by `values` those of `fx_values`. A run is its triple patterns and filters as they stand in a group; rows, and answers that are tables, stand
 //! as behind VALUES. The rows come under the numbers 10, 11 and so on.
 ghost use Rattle.std.specs.Prelude.{◌<◌, All, Contains, IfSome};
 ghost use Rattle.fx_spelling.specs.Units.{IsFit};
 ghost use Rattle.fx_bound.specs.Answers.{numbers};
 
 use crate::runs::unit_of;
+use crate::values;
 use fx_algebra::{Row, Solution, Unit};
 use fx_bound::{Batch, BatchError, Branch, Found, batch_text, read_batch, unite};
 use fx_notation::{fields, notation, shown};
@@ -18,6 +19,8 @@ pub fn answer(alloc: Global, call: &str, inputs: &[&str]) -> Option<String> {
         ("batch_text", [run, rows]) => batch_shown(alloc, run, rows),
         ("batch_text by blocks", [run, rows, block]) => blocks_shown(alloc, run, rows, block),
         ("read_batch", [run, rows, answer]) => read_shown(alloc, run, rows, answer),
+        ("values_text", [run, rows]) => values::text_shown(alloc, run, rows),
+        ("read_values", [run, rows, answer]) => values::read_shown(alloc, run, rows, answer),
         ("unite", [run, rows, answers @ ..]) => united_shown(alloc, run, rows, answers),
         _ => None,
     }
@@ -182,7 +185,7 @@ fn batch_by(alloc: Global, unit: &Unit, rows: &[Row]) -> Option<Boxed<Batch>>
     Boxed::new(alloc, batch_text(alloc, unit, rows).ok()?).ok()
 }
 
-fn rows_of(alloc: Global, field: &str) -> Option<Vec<Row>> {
+pub(crate) fn rows_of(alloc: Global, field: &str) -> Option<Vec<Row>> {
     let solutions = notation::solutions(alloc, field)?;
     let mut rows = Vec::new(alloc);
     let mut origin = 10u64;

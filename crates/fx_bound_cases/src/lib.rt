@@ -3,3 +3,4 @@
 
 pub mod batches;
 pub mod runs;
+mod values;

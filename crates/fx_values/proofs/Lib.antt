@@ -1,0 +1,13 @@
+pub mod NamingLemmas
+pub mod PlaceLemmas
+pub mod TextNames
+pub mod BlockLemmas
+pub mod TellingLemmas
+pub mod ReadingLemmas
+pub mod AcceptLemmas
+pub mod ExampleLemmas
+pub mod BlockTextLemmas
+pub mod SentLemmas
+pub mod AnswerLemmas
+pub mod NumberLemmas
+pub mod StepLemmas
