@@ -295,11 +295,7 @@ pub(crate) fn ask_batch<W: Wire>(
 }
 
 /// The batch of rows of a unit.
-pub(crate) fn boxed_batch(
-    alloc: Global,
-    unit: &Unit,
-    rows: &[Row],
-) -> Result<Boxed<Batch>, Memory>
+pub(crate) fn boxed_batch(alloc: Global, unit: &Unit, rows: &[Row]) -> Result<Boxed<Batch>, Memory>
     requires fit { IsFit unit.now }
     requires few { length rows.now ≤ 64 }
     ensures { IfOk result (λ batch. batch ≡ record { unit = unit.now; rows = rows.now }) }

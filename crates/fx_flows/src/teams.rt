@@ -196,7 +196,14 @@ pub(crate) fn ask_batch_over<R: Threads + Wait + Sync, W: Wire + Send>(
 {
     match boxed_batch(*alloc, unit, rows) {
         Err(Memory) => Err(FlowError::Memory),
-        Ok(batch) => ask_for_over(rt, alloc, endpoints, batch.get(), unit.members.as_slice(), wires),
+        Ok(batch) => ask_for_over(
+            rt,
+            alloc,
+            endpoints,
+            batch.get(),
+            unit.members.as_slice(),
+            wires,
+        ),
     }
 }
 

@@ -24,7 +24,7 @@ all_rows-found-requires-clause-run g c =
       fit = subst (All IsFit) (sym same) c.requires.fit;
       within = subst (All (λ (u : unit.Unit). All (λ at. at < length c.args.endpoints.now) u.members)) (sym same) c.requires.within;
     } in
-    λ κs. run
+    λ κs within. run
 
 pub returns : goal.returns
 returns g c = λ rows cut.
