@@ -68,3 +68,6 @@ returns g c =
     subst (λ (v : List Row). StepAsked tells alone (map g.W.Wire.seen c.args.wires.now) wires es u c.args.batches.now (Ok v)) (append-nil c.loop-left.made.items)
     (c.loop-left.invariant.so_far wires []
     (subst (λ (v : List (List Row)). StepAsked tells alone wires wires es u v (Ok [])) (sym none) (nothing_asked tells alone wires es u)))
+
+pub batches_apart-requires-clause-few : goal.batches_apart-requires-clause-few
+batches_apart-requires-clause-few g c = c.loop-left.invariant.few
