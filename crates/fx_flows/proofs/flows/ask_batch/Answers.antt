@@ -13,3 +13,6 @@ pub returns-in-Ok : goal.returns-in-Ok
 returns-in-Ok g c =
     let see = g.W.Wire.seen in
     subst (λ (p : Parts). AskedBatch g.W.Wire.counts_alone (see c.args.wire.now) (see c.ask_for.new.wire) c.args.endpoints.now p (rows_in c.ask_for.result)) (c.get.ensures ∙ c.in-Ok.ensures) c.ask_for.ensures
+
+pub ask_for-requires-clause-sendable : goal.ask_for-requires-clause-sendable
+ask_for-requires-clause-sendable g c = c.requires.sendable

@@ -32,3 +32,9 @@ returns-in-Ok g c =
     (subst (λ (ms : List ℕ). AskedMembers g.W.Wire.counts_alone s t es p ms (Ok lists)) c.requires.all c.in-Ok.ensures)
     (subst (λ (v : List (List Found)). (graphs : List (List Triple)) → IsSound graphs p.unit → AreToldOf graphs p p.unit.members v → IfOk c.united.result (λ rows. IsPermutation rows.items (step (union graphs) p.unit p.rows))) c.as_slice.ensures.value c.united.ensures.step)
     c.united.ensures.memory
+
+pub ask_members-requires-clause-sendable : goal.ask_members-requires-clause-sendable
+ask_members-requires-clause-sendable g c = c.requires.sendable
+
+pub ask_members-requires-clause-within : goal.ask_members-requires-clause-within
+ask_members-requires-clause-within g c = c.requires.within
