@@ -1,5 +1,5 @@
 -- What workers on one queue of parcels did, with several wires.
-use Rattle.std.proofs.Common.{◌≡◌, ◌∙◌, ap, sym, subst, refl, ℕ, zero, suc, ◌+◌, ◌-◌, ◌/◌, ◌<◌, ◌≤◌, Bool, List, [], ◌∷◌, ◌++◌, map, Option, Some, None, IfOk, IfErr, OnOk, IsTrue, Result, Ok, Err, All, Contains, length, get_or, slice_get, slice_set, sum_by, arith, append-nil, inl, inr, length-append, zero-le, IsPermutation}
+use Rattle.std.proofs.Common.{◌≡◌, ◌∙◌, ap, sym, subst, refl, ℕ, zero, suc, ◌+◌, ◌-◌, ◌/◌, ◌<◌, ◌≤◌, Bool, false, List, [], ◌∷◌, ◌++◌, map, Option, Some, None, IfOk, IfErr, OnOk, IsTrue, Result, Ok, Err, All, Contains, length, get_or, slice_get, slice_set, sum_by, arith, append-nil, inl, inr, length-append, zero-le, IsPermutation}
 use Rattle.std.specs.declared.alloc.Global.{Global}
 use Rattle.std.specs.declared.vec.Vec.{Vec}
 use Rattle.std.proofs.lemmas.Grind.{flat_map-append}
@@ -624,6 +624,13 @@ no_rows tells alone wires es us block rows none = record {
 pub on_ok : (from to : Hand) (r : Result RowList FlowError) → OnOk r (from.parts ≡ 16 → SameParcels to.put to.took) → from.parts ≡ 16 → IfOk r (λ _. SameParcels to.put to.took)
 on_ok from to (Ok found) h whole = h whole
 on_ok from to (Err e) h whole = tt
+
+-- the second of two calls found the queue empty
+pub emptied_by_both : (made : RowList) (b o : Result RowList FlowError) (from mid to : Hand) → AreOfBoth (Ok made) b o → OnOk b (false ≡ false → mid.parts ≡ 16 → SameParcels to.put to.took) → mid.parts ≡ from.parts
+    → OnOk o (from.parts ≡ 16 → SameParcels to.put to.took)
+emptied_by_both made (Ok x) (Ok all) from mid to both h same = λ whole. h refl (same ∙ whole)
+emptied_by_both made (Ok x) (Err why) from mid to both h same = tt
+emptied_by_both made (Err why) o from mid to both h same = subst (λ (v : Result RowList FlowError). OnOk v (from.parts ≡ 16 → SameParcels to.put to.took)) (sym both) tt
 
 -- the first parcels were put by the one pass that there is
 pub at_the_begin : (from to : Hand) (c : RunShape) (first : List (List Row)) (r : Result (Unit {0}) Memory) → from ≡ hand 16 None [] [] → r ≡ Ok tt → ArePut from to (parcels c 0 first) r

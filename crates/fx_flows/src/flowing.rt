@@ -34,59 +34,33 @@ pub(crate) fn flow<R: Threads + Wait + Sync, W: Wire + Send, U: Step + Sync>(
     if wires.len() < 2 {
         return work(rt, queue, me, true, run, &mut wires[0]);
     }
-    let (alloc, line, gate) = (&queue.alloc, queue.line, queue.gate);
-    let (endpoints, units, shape) = (run.endpoints, run.units, &run.shape);
-    let mut other = shared_out(line, me);
+    let mut other = shared_out(queue.line, me);
     let them = &mut other;
     let (left, right) = wires.split_at_mut(wires.len() - wires.len() / 2);
     let (ours, theirs) = join_mut(
         rt,
         &mut || -> Result<Vec<Row>, FlowError>
             requires sync { IsSync R.row × IsSync U.row }
-            requires pass { IsSegPassOf line.now me.now }
+            requires pass { IsSegPassOf queue.now.line.now me.now }
             requires wired { (0 < length left.now) × (length left.now ≤ me.now.me.view.client.parts) }
-            requires run { CanFollow endpoints.now (map U.unit units.now) shape.now }
-            requires shape { me.now.me.view.client.shape ≡ Some shape.now }
-            ensures pass { IsSegPassOf line.entry.now me.exit.now × IsSamePass me.entry.now.me.view.client me.exit.now.me.view.client }
+            requires run { CanFollow run.now.endpoints.now (map U.unit run.now.units.now) run.now.shape }
+            requires shape { me.now.me.view.client.shape ≡ Some run.now.shape }
+            ensures pass { IsSegPassOf queue.entry.now.line.now me.exit.now × IsSamePass me.entry.now.me.view.client me.exit.now.me.view.client }
             ensures flowed { HaveFlowedOver (seen W.Wire left.entry.now left.exit.now)
-                endpoints.entry.now (map U.unit units.entry.now) shape.entry.now me.entry.now.me.view.client me.exit.now.me.view.client result }
-        {
-            let queue = Queue {
-                alloc: *alloc,
-                line,
-                gate,
-            };
-            let run = Run {
-                endpoints,
-                units,
-                shape: *shape,
-            };
-            flow(rt, &queue, me, &run, left)
-        },
+                run.entry.now.endpoints.now (map U.unit run.entry.now.units.now) run.entry.now.shape me.entry.now.me.view.client me.exit.now.me.view.client result }
+        { flow(rt, queue, me, run, left) },
         &mut || -> Result<Vec<Row>, FlowError>
             requires sync { IsSync R.row × IsSync U.row }
-            requires pass { IsSegPassOf line.now them.now }
+            requires pass { IsSegPassOf queue.now.line.now them.now }
             requires wired { (0 < length right.now) × (length right.now ≤ them.now.me.view.client.parts) }
-            requires run { CanFollow endpoints.now (map U.unit units.now) shape.now }
-            requires shape { them.now.me.view.client.shape ≡ Some shape.now }
-            ensures pass { IsSegPassOf line.entry.now them.exit.now × IsSamePass them.entry.now.me.view.client them.exit.now.me.view.client }
+            requires run { CanFollow run.now.endpoints.now (map U.unit run.now.units.now) run.now.shape }
+            requires shape { them.now.me.view.client.shape ≡ Some run.now.shape }
+            ensures pass { IsSegPassOf queue.entry.now.line.now them.exit.now × IsSamePass them.entry.now.me.view.client them.exit.now.me.view.client }
             ensures flowed { HaveFlowedOver (seen W.Wire right.entry.now right.exit.now)
-                endpoints.entry.now (map U.unit units.entry.now) shape.entry.now them.entry.now.me.view.client them.exit.now.me.view.client result }
-        {
-            let queue = Queue {
-                alloc: *alloc,
-                line,
-                gate,
-            };
-            let run = Run {
-                endpoints,
-                units,
-                shape: *shape,
-            };
-            flow(rt, &queue, them, &run, right)
-        },
+                run.entry.now.endpoints.now (map U.unit run.entry.now.units.now) run.entry.now.shape them.entry.now.me.view.client them.exit.now.me.view.client result }
+        { flow(rt, queue, them, run, right) },
     );
-    taken_in(line, me, other);
+    taken_in(queue.line, me, other);
     both(ours, theirs)
 }
 

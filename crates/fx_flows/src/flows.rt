@@ -33,7 +33,7 @@ use fx_pool::faults::ReadError;
 use fx_pool::posting::{Posted, post};
 use fx_pool::reading::read_found;
 use fx_pool::{BadReply, JobKind};
-use fx_terms::{Items, Memory};
+use fx_terms::{Boxed, Items, Memory};
 use fx_wire::Wire;
 use std::alloc::Global;
 use std::slice::from_ref;
@@ -288,12 +288,37 @@ pub(crate) fn ask_batch<W: Wire>(
     requires within { All (λ at. at < length endpoints.now) unit.now.members }
     ensures { AskedBatch W.counts_alone (W.seen wire.old) (W.seen wire.new) endpoints.now (record { unit = unit.now; rows = rows.now }) (rows_in result) }
 {
-    match batch_text(alloc, unit, rows) {
+    match boxed_batch(alloc, unit, rows) {
         Err(Memory) => Err(FlowError::Memory),
-        Ok(batch) => match ask_members(alloc, wire, endpoints, &batch, unit.members.as_slice()) {
-            Err(error) => Err(error),
-            Ok(lists) => united(alloc, &batch, lists.as_slice()),
-        },
+        Ok(batch) => ask_for(alloc, wire, endpoints, batch.get(), unit.members.as_slice()),
+    }
+}
+
+/// The batch of rows of a unit.
+pub(crate) fn boxed_batch(alloc: Global, unit: &Unit, rows: &[Row]) -> Result<Boxed<Batch>, Memory>
+    requires fit { IsFit unit.now }
+    requires few { length rows.now ≤ 64 }
+    ensures { IfOk result (λ batch. batch ≡ record { unit = unit.now; rows = rows.now }) }
+{
+    Ok(Boxed::new(alloc, batch_text(alloc, unit, rows)?)?)
+}
+
+// What the members of a batch's unit have for it, united.
+fn ask_for<W: Wire>(
+    alloc: Global,
+    wire: &mut W,
+    endpoints: &[Endpoint],
+    batch: &Batch,
+    members: &[u32],
+) -> Result<Vec<Row>, FlowError>
+    requires sendable { All (λ e. is_sendable e ≡ true) endpoints.now }
+    requires within { All (λ at. at < length endpoints.now) members.now }
+    requires all { members.now ≡ batch.now.unit.members }
+    ensures { AskedBatch W.counts_alone (W.seen wire.old) (W.seen wire.new) endpoints.now batch.now (rows_in result) }
+{
+    match ask_members(alloc, wire, endpoints, batch, members) {
+        Err(error) => Err(error),
+        Ok(lists) => united(alloc, batch, lists.as_slice()),
     }
 }
 

@@ -9,9 +9,9 @@ ghost use Rattle.fx_flows.specs.Teams.{AreListsOfBoth, BatchAskedOver, MembersAs
 ghost use Rattle.fx_traffic.specs.Gains.{seen};
 
 use crate::flowing::both;
-use crate::flows::{FlowError, ask_members, is_none, united};
+use crate::flows::{FlowError, ask_members, boxed_batch, is_none, united};
 use fx_algebra::{Row, Unit};
-use fx_bound::{Batch, Found, batch_text};
+use fx_bound::{Batch, Found};
 use fx_outside::Endpoint;
 use fx_terms::{Items, Memory};
 use fx_wire::Wire;
@@ -194,12 +194,37 @@ pub(crate) fn ask_batch_over<R: Threads + Wait + Sync, W: Wire + Send>(
     ensures { BatchAskedOver (seen W.Wire wires.old wires.new)
         endpoints.now (record { unit = unit.now; rows = rows.now }) (rows_in result) }
 {
-    match batch_text(*alloc, unit, rows) {
+    match boxed_batch(*alloc, unit, rows) {
         Err(Memory) => Err(FlowError::Memory),
-        Ok(batch) => match ask_over(rt, alloc, endpoints, &batch, unit.members.as_slice(), wires) {
-            Err(error) => Err(error),
-            Ok(lists) => united(*alloc, &batch, lists.as_slice()),
-        },
+        Ok(batch) => ask_for_over(
+            rt,
+            alloc,
+            endpoints,
+            batch.get(),
+            unit.members.as_slice(),
+            wires,
+        ),
+    }
+}
+
+// What the members of a batch's unit have for it, united.
+fn ask_for_over<R: Threads + Wait + Sync, W: Wire + Send>(
+    rt: &R,
+    alloc: &Global,
+    endpoints: &[Endpoint],
+    batch: &Batch,
+    members: &[u32],
+    wires: &mut [W],
+) -> Result<Vec<Row>, FlowError>
+    requires wired { 0 < length wires.old }
+    requires sendable { All (λ e. is_sendable e ≡ true) endpoints.now }
+    requires within { All (λ at. at < length endpoints.now) members.now }
+    requires all { members.now ≡ batch.now.unit.members }
+    ensures { BatchAskedOver (seen W.Wire wires.old wires.new) endpoints.now batch.now (rows_in result) }
+{
+    match ask_over(rt, alloc, endpoints, batch, members, wires) {
+        Err(error) => Err(error),
+        Ok(lists) => united(*alloc, batch, lists.as_slice()),
     }
 }
 

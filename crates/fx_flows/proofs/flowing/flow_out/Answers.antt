@@ -1,5 +1,5 @@
-use Rattle.std.proofs.Common.{map, rules}
-use Rattle.fx_flows.proofs.FlowLemmas.{first_flowed, then_flowed}
+use Rattle.std.proofs.Common.{◌∙◌, map, rules}
+use Rattle.fx_flows.proofs.FlowLemmas.{emptied_by_both, first_flowed, then_flowed}
 use Rattle.fx_pool.proofs.WiresLemmas.{all_tell}
 use Rattle.fx_flows.proofs.flowing.flow_out.Goals as goal
 
@@ -16,3 +16,24 @@ returns-in-Ok-clause-flowed g c =
     (map see c.args.wires.now) (map see c.flow.new.wires) _ c.in-Ok.made c.work-rest.result c.both.result
     (all_tell see tells laws.told c.args.wires.now) (all_tell see tells laws.told c.flow.new.wires)
     c.in-Ok.ensures.flowed rest c.both.ensures
+
+pub work-rest-requires-clause-run : goal.work-rest-requires-clause-run
+work-rest-requires-clause-run g c = c.requires.run
+
+pub work-rest-requires-clause-shape : goal.work-rest-requires-clause-shape
+work-rest-requires-clause-shape g c = c.in-Ok.ensures.pass.1.1 ∙ c.requires.shape
+
+pub returns-in-Err-clause-pass : goal.returns-in-Err-clause-pass
+returns-in-Err-clause-pass g c = c.in-Err.ensures.pass
+
+pub returns-in-Err-clause-flowed : goal.returns-in-Err-clause-flowed
+returns-in-Err-clause-flowed g c = c.in-Err.ensures.flowed
+
+pub returns-in-Ok-clause-pass : goal.returns-in-Ok-clause-pass
+returns-in-Ok-clause-pass g c =
+    let first = c.in-Ok.ensures.pass.1 in
+    let then = c.work-rest.ensures.pass.1 in (c.work-rest.ensures.pass.0, (then.0 ∙ first.0, then.1 ∙ first.1))
+
+pub returns-in-Ok-clause-empty : goal.returns-in-Ok-clause-empty
+returns-in-Ok-clause-empty g c =
+    emptied_by_both c.in-Ok.made c.work-rest.result c.both.result c.args.me.now.me.view.client c.flow.new.me.me.view.client c.work-rest.new.me.me.view.client c.both.ensures c.work-rest.ensures.empty c.in-Ok.ensures.pass.1.0

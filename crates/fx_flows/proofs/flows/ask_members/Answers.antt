@@ -41,3 +41,9 @@ loop-at-preserved g c =
     subst (λ (v : List (List Found)). AskedMembers g.W.Wire.counts_alone (see c.args.wire.now) (see c.ask_member.new.wire) c.args.endpoints.now c.args.batch.now (take (k + 1) ms) (Ok v)) (sym pushed)
     (subst (λ (v : List ℕ). AskedMembers g.W.Wire.counts_alone (see c.args.wire.now) (see c.ask_member.new.wire) c.args.endpoints.now c.args.batch.now v (Ok (c.loop-at.lists.items ++ c.in-Ok.founds ∷ []))) (sym more)
     (one_more g.W.Wire.counts_alone (see c.args.wire.now) (see c.loop-at.wire) (see c.ask_member.new.wire) c.args.endpoints.now c.args.batch.now (take k ms) c.loop-at.lists.items m c.loop-at.invariant c.in-Ok.founds c.in-Ok.ensures))
+
+pub ask_member-requires-clause-sendable : goal.ask_member-requires-clause-sendable
+ask_member-requires-clause-sendable g c = c.requires.sendable
+
+pub ask_member-requires-clause-within : goal.ask_member-requires-clause-within
+ask_member-requires-clause-within g c = c.requires.within c.loop-at.at-index 0 c.loop-at-test.true

@@ -22,3 +22,15 @@ pub returns : goal.returns
 returns g c = λ rows cut.
     subst (λ (v : List unit.Unit). RunFlowed g.W.Wire.tells_log g.W.Wire.counts_alone (map g.W.Wire.seen c.args.wires.now) (map g.W.Wire.seen c.piped.new.wires) c.args.endpoints.now v c.args.block rows (rows_in c.piped.result)) c.from_ref.ensures.value
     (c.piped.ensures rows cut)
+
+pub ask_rounds-requires-clause-sendable : goal.ask_rounds-requires-clause-sendable
+ask_rounds-requires-clause-sendable g c = λ κs within. c.requires.sendable
+
+pub ask_rounds-requires-clause-fit : goal.ask_rounds-requires-clause-fit
+ask_rounds-requires-clause-fit g c = λ κs within. c.requires.fit
+
+pub ask_rounds-requires-clause-within : goal.ask_rounds-requires-clause-within
+ask_rounds-requires-clause-within g c = λ κs within. c.requires.within
+
+pub piped-requires-clause-sendable : goal.piped-requires-clause-sendable
+piped-requires-clause-sendable g c = λ κs within. c.requires.sendable

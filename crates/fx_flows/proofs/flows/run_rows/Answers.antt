@@ -43,3 +43,12 @@ returns g c =
     let wires = map g.W.Wire.seen c.loop-unit.wires in
     c.loop-unit.invariant.so_far wires (Ok c.loop-unit.entering.items)
     (none_left g.W.Wire.tells_log g.W.Wire.counts_alone wires c.args.endpoints.now c.loop-unit.left.now c.args.block c.loop-unit.entering.items c.in_default.ensures.whole)
+
+pub first_of-requires-clause-fit : goal.first_of-requires-clause-fit
+first_of-requires-clause-fit g c = c.loop-unit.invariant.fit
+
+pub first_of-requires-clause-within : goal.first_of-requires-clause-within
+first_of-requires-clause-within g c = c.loop-unit.invariant.within
+
+pub ask_unit-requires-clause-sendable : goal.ask_unit-requires-clause-sendable
+ask_unit-requires-clause-sendable g c = λ κs within. c.requires.sendable

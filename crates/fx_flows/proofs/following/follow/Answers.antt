@@ -63,3 +63,6 @@ returns-clause-followed g c =
     let asked = subst (λ (v : List Row). AskedBatch g.W.Wire.counts_alone (see c.args.wire.now) (see c.ask.new.wire) c.args.run.now.endpoints.now (record { unit = u; rows = v }) (Ok c.in-Ok.found.items)) c.as_slice.ensures c.in-Ok.ensures in
     followed_lost g.W.Wire.counts_alone c.args.run.now.endpoints.now units c.args.run.now.shape (see c.args.wire.now) (see c.ask.new.wire) p c.requires.parcel u at (contains_from units u (its_among units p.step u at))
     c.args.me.now.me.view.client c.pass_on.new.me.me.view.client c.args.made.now.items c.pass_on.new.made.items c.in-Ok.found.items c.in-Err-pass_on.field-0 asked c.in-Err-pass_on.ensures.passed
+
+pub ask-requires-clause-sendable : goal.ask-requires-clause-sendable
+ask-requires-clause-sendable g c = c.requires.run.sendable

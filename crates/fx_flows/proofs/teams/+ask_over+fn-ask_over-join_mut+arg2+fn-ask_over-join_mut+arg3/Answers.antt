@@ -16,3 +16,12 @@ returns-then-wires-lt2 g t c =
     let laws = g.met.W.Wire g.world.𝓛 g.world.𝓜 g.world.𝓡 ((λ s x. x), (λ x. x), (λ x. x), λ x. x) in
     first_asked g.W.Wire.seen g.W.Wire.tells_log g.W.Wire.counts_alone c.args.wires.now c.index-wires-0.result c.ask_members.new.wire c.args.endpoints.now c.args.batch.now c.args.members.now
     _ laws.told c.requires.wired c.ask_members.ensures
+
+pub parted-requires-clause-within : goal.parted-requires-clause-within
+parted-requires-clause-within g t c = c.requires.within
+
+pub ask_members-requires-clause-sendable : goal.ask_members-requires-clause-sendable
+ask_members-requires-clause-sendable g t c = c.requires.sendable
+
+pub ask_members-requires-clause-within : goal.ask_members-requires-clause-within
+ask_members-requires-clause-within g t c = c.requires.within

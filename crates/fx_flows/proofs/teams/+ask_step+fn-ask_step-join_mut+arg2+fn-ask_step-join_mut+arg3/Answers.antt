@@ -16,3 +16,6 @@ returns-then-batches-lt2 g t c =
     let long = length-map c.args.wires.now g.W.Wire.seen in
     step_of_only g.W.Wire.tells_log g.W.Wire.counts_alone (map g.W.Wire.seen c.args.wires.now) (map g.W.Wire.seen c.ask_batch_over.new.wires) c.args.endpoints.now c.args.unit.now c.args.batches.now
     c.index-batches-0.result c.as_slice.result.now _ (omega (arith, long, c.requires.wired.0, c.requires.wired.1)) c.requires.wired.0 c.if-batches-lt2.true c.index-batches-0.is c.as_slice.ensures c.ask_batch_over.ensures
+
+pub batches_apart-requires-clause-few : goal.batches_apart-requires-clause-few
+batches_apart-requires-clause-few g t c = c.requires.few

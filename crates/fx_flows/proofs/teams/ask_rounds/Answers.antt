@@ -5,6 +5,18 @@ use Rattle.fx_flows.specs.declared.flows.FlowError.TheVariants as flow
 use Rattle.fx_flows.proofs.TeamTurnLemmas.{not_asked, nothing_asked, round_on, round_refused, round_refused_later}
 use Rattle.fx_flows.proofs.teams.ask_rounds.Goals as goal
 
+pub loop-left-init : goal.loop-left-init
+loop-left-init g c =
+    let none : c.new-made.result.items ≡ [] = c.new-made.ensures.items in
+    record {
+      wired = c.requires.wired;
+      teams = c.teams_for-teams.ensures;
+      few = c.requires.few;
+      so_far = λ after more k.
+          subst (λ (v : List Row). StepAsked g.W.Wire.tells_log g.W.Wire.counts_alone (map g.W.Wire.seen c.args.wires.now) after c.args.endpoints.now c.args.unit.now c.args.batches.now (Ok (v ++ more))) (sym none) k;
+      refused = λ after why k. k;
+    }
+
 pub returns-in-Err : goal.returns-in-Err
 returns-in-Err g c =
     let laws = g.met.W.Wire g.world.𝓛 g.world.𝓜 g.world.𝓡 ((λ s x. x), (λ x. x), (λ x. x), λ x. x) in
@@ -56,3 +68,6 @@ returns g c =
     subst (λ (v : List Row). StepAsked tells alone (map g.W.Wire.seen c.args.wires.now) wires es u c.args.batches.now (Ok v)) (append-nil c.loop-left.made.items)
     (c.loop-left.invariant.so_far wires []
     (subst (λ (v : List (List Row)). StepAsked tells alone wires wires es u v (Ok [])) (sym none) (nothing_asked tells alone wires es u)))
+
+pub batches_apart-requires-clause-few : goal.batches_apart-requires-clause-few
+batches_apart-requires-clause-few g c = c.loop-left.invariant.few
