@@ -42,10 +42,12 @@ def python_of_bridge():
     pythons = [it for it in ("/usr/bin/python3", sys.executable) if os.path.exists(it)]
     for install in (False, True):
         if install and os.geteuid() == 0 and shutil.which("apt-get"):
-            quiet = {"stdout": subprocess.DEVNULL, "stderr": subprocess.DEVNULL, "check": False}
-            if subprocess.run(["apt-get", "install", "-y", *PACKAGES], **quiet).returncode:
-                subprocess.run(["apt-get", "update"], **quiet)
-                subprocess.run(["apt-get", "install", "-y", *PACKAGES], **quiet)
+            for words in (["install", "-y", *PACKAGES], ["update"], ["install", "-y", *PACKAGES]):
+                # (without a network this fails, or waits: then nothing is tried)
+                with contextlib.suppress(subprocess.TimeoutExpired):
+                    done = subprocess.run(["apt-get", *words], stdout=subprocess.DEVNULL, stderr=subprocess.DEVNULL, timeout=100, check=False)
+                    if words[0] == "install" and done.returncode == 0:
+                        break
         for python in pythons:
             if has_packages(python):
                 return python
