@@ -240,6 +240,9 @@ def try_replies(checks, python, room, certificate):
         "unmoved": (Endpoint(leads_to(plain.address)), {}, 307), "forbidden": (Endpoint(guarded), {}, 401), "broken": (Endpoint(lambda it, query: it.say(500, "text/plain", b"oh\n")), {}, 500),
         "slow": (Endpoint(slow), {"seconds": "0.5"}, 504), "cut": (Endpoint(cut_off), {}, 502), "long": (Endpoint(in_json(TABLE)), {"bytes": "50"}, 502), "blank": (Endpoint(in_json(BLANK)), {}, 502),
         "page": (Endpoint(lambda it, query: it.say(200, "text/html", b"<p>Welcome")), {}, 502), "bomb": (Endpoint(lambda it, query: it.say(200, "text/xml", BOMB.encode())), {}, 502), "odd": (Endpoint(in_json({"head": {}})), {}, 502),
+        "no rows": (Endpoint(in_json({"head": {"vars": ["x"]}, "results": {"bindings": {}}})), {}, 502), "half true": (Endpoint(in_json({"head": {}, "boolean": "false"})), {}, 502),
+        "other xml": (Endpoint(lambda it, query: it.say(200, "text/xml", b"<error>no</error>")), {}, 502), "deep": (Endpoint(lambda it, query: it.say(200, "application/json", b"[" * 100000)), {}, 502),
+        "surrogate": (Endpoint(in_json({"head": {"vars": ["x"]}, "results": {"bindings": [{"x": {"type": "literal", "value": "\ud800"}}]}})), {}, 502), "nowhere": (Endpoint(leads_to("http://[::1")), {"redirects": "follow"}, 502),
         "circle": (Endpoint(leads_to("/sparql")), {"redirects": "follow"}, 502),
     }
     others = {"named": (Endpoint(in_json(BLANK)), {"blank": "http://lab.example/blank/"}), "virtuoso": (Endpoint(in_json(VIRTUOSO)), {}), "both": (Endpoint(slow), {}), "true": (Endpoint(as_xml({"boolean": True})), {}), "twice": (Endpoint(in_json(TWICE)), {})}

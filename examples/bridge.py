@@ -23,7 +23,7 @@ try:
 except ImportError:
     sys.exit("examples/bridge.py needs aiohttp and defusedxml: apt-get install python3-aiohttp python3-defusedxml, and run it with /usr/bin/python3")
 
-JSON_TYPE, XML_TYPE = "application/sparql-results+json", "application/sparql-results+xml"
+JSON_TYPE, XML_TYPE, QUERY_TYPE = "application/sparql-results+json", "application/sparql-results+xml", "application/sparql-query"
 JSON_TYPES, XML_TYPES = {JSON_TYPE, "application/json"}, {XML_TYPE, "application/xml", "text/xml"}
 XML_NAME = "{http://www.w3.org/2005/sparql-results#}"
 XML_LANG = "{http://www.w3.org/XML/1998/namespace}lang"
@@ -55,6 +55,8 @@ def secret(variable: str) -> str:
     """What a variable of the environment holds: secrets are no words of a command line, where each user of the machine reads them."""
     if variable not in os.environ:
         sys.exit(f"examples/bridge.py: the variable {variable} isn't set")
+    if not os.environ[variable].isprintable():
+        sys.exit(f"examples/bridge.py: the variable {variable} has a line's end or another sign that no field of a request may have")
     return os.environ[variable]
 
 
@@ -67,10 +69,13 @@ def bridged(name: str, words: configparser.SectionProxy) -> Bridged:
             sys.exit(f"examples/bridge.py: [{name}] {word} is one of {', '.join(choices)}")
     if missing := {"port", "endpoint"} - set(words):
         sys.exit(f"examples/bridge.py: [{name}] has no {min(missing)}")
+    if len({"header", "user"} & set(words)) != len({"secret"} & set(words)):
+        sys.exit(f"examples/bridge.py: [{name}] needs one of header and user beside secret, the name of a variable of the environment, or none of the three")
+    if urllib.parse.urlsplit(words["endpoint"]).username is not None:
+        sys.exit(f"examples/bridge.py: [{name}] has a user in its endpoint, where anyone reads it: user and secret say it")
+    if words.get("blank", "refuse") != "refuse" and not urllib.parse.urlsplit(words["blank"]).scheme:
+        sys.exit(f"examples/bridge.py: [{name}] blank is refuse, or what an IRI begins with")
     given = secret(words["secret"]) if "secret" in words else ""
-    if "header" in words or "user" in words:
-        if "secret" not in words:
-            sys.exit(f"examples/bridge.py: [{name}] has no secret, the name of a variable of the environment")
     trust = ssl.create_default_context(cafile=words.get("certificates"))
     return Bridged(name, words.getint("port"), words["endpoint"], words.get("ask", "text"), words.get("redirects", "refuse"), words.get("blank", "refuse"),
                    words.getfloat("seconds", 300), words.getint("bytes", MOST_TEXT), (words["header"], given) if "header" in words else None,
@@ -78,6 +83,9 @@ def bridged(name: str, words: configparser.SectionProxy) -> Bridged:
 
 
 # ---- what a reply says
+
+TRUTHS = {"1": True, "true": True, "0": False, "false": False}
+
 
 @dataclasses.dataclass
 class Table:
@@ -98,9 +106,14 @@ def from_json(body: bytes) -> Table:
     try:
         said = json.loads(body)
         if "boolean" in said:
-            return Table([], [], bool(said["boolean"]))
-        return Table(list(said["head"]["vars"]), [{name: json_term(it) for name, it in row.items()} for row in said["results"]["bindings"]])
-    except (ValueError, KeyError, TypeError, AttributeError) as fault:
+            if not isinstance(said["boolean"], bool):
+                raise ValueError("its boolean is none")
+            return Table([], [], said["boolean"])
+        columns, rows = said["head"]["vars"], said["results"]["bindings"]
+        if not isinstance(columns, list) or not isinstance(rows, list):
+            raise ValueError("its columns or its rows are no list")
+        return Table(columns, [{name: json_term(it) for name, it in row.items()} for row in rows])
+    except (ValueError, KeyError, TypeError, AttributeError, RecursionError) as fault:
         raise Refused(f"the body is no results document in JSON: {fault}") from fault
 
 
@@ -116,8 +129,12 @@ def xml_term(binding) -> Term:
 def from_xml(body: bytes) -> Table:
     try:
         root = fromstring(body, forbid_dtd=True)
+        if root.tag != f"{XML_NAME}sparql":
+            raise ValueError(f"it is a document of {root.tag}")
         if (truth := root.find(f"{XML_NAME}boolean")) is not None:
-            return Table([], [], (truth.text or "").strip() == "true")
+            return Table([], [], TRUTHS[(truth.text or "").strip()])
+        if root.find(f"{XML_NAME}results") is None:
+            raise ValueError("it has neither results nor a boolean")
         columns = [it.attrib["name"] for it in root.findall(f"{XML_NAME}head/{XML_NAME}variable")]
         rows = root.findall(f"{XML_NAME}results/{XML_NAME}result")
         return Table(columns, [{it.attrib["name"]: xml_term(it) for it in row.findall(f"{XML_NAME}binding")} for row in rows])
@@ -129,11 +146,10 @@ def truth_of(table: Table) -> bool:
     """The truth that an endpoint tells by a table: no row is false, and else one row has one value."""
     if table.truth is not None or not table.rows:
         return bool(table.truth)
-    values = {"1": True, "true": True, "0": False, "false": False}
     told = [it["value"] for row in table.rows for it in row.values()]
-    if len(told) != 1 or told[0] not in values:
+    if len(told) != 1 or told[0] not in TRUTHS:
         raise Refused("an ASK was answered by a table that tells no truth")
-    return values[told[0]]
+    return TRUTHS[told[0]]
 
 
 def named(table: Table, prefix: str, reply: str) -> None:
@@ -183,11 +199,13 @@ async def asked(session: aiohttp.ClientSession, it: Bridged, query: str) -> tupl
             headers[it.header[0]] = it.header[1]
         how = {"headers": headers, "auth": it.user if own else None, "ssl": it.trust, "allow_redirects": False}
         if it.ask == "get":
-            sent = session.get(address, params={"query": query}, **how)
+            # (an address that was led to mostly has the query already)
+            has_query = "query" in urllib.parse.parse_qs(urllib.parse.urlsplit(address).query)
+            sent = session.get(address, params=None if has_query else {"query": query}, **how)
         elif it.ask == "form":
             sent = session.post(address, data={"query": query}, **how)
         else:
-            sent = session.post(address, data=query.encode(), **{**how, "headers": {**headers, "Content-Type": "application/sparql-query"}})
+            sent = session.post(address, data=query.encode(), **{**how, "headers": {**headers, "Content-Type": QUERY_TYPE}})
         async with sent as reply:
             if reply.status in (301, 302, 303, 307, 308) and it.redirects == "follow" and "Location" in reply.headers:
                 address = urllib.parse.urljoin(address, reply.headers["Location"])
@@ -198,12 +216,20 @@ async def asked(session: aiohttp.ClientSession, it: Bridged, query: str) -> tupl
     raise Refused("it leads on and on")
 
 
+def in_a_line(why: object) -> str:
+    """The beginning of a reason, without signs that would end the line or move the cursor: some of it is the endpoint's own words."""
+    return "".join(it if it.isprintable() else "?" for it in str(why)[:300])
+
+
 def answering(session: aiohttp.ClientSession, it: Bridged):
     counted = itertools.count(1)
 
     async def answer(request: web.Request) -> web.Response:
         start, number = time.monotonic(), next(counted)
         try:
+            # (a page in a browser can post other types without being asked first)
+            if request.content_type != QUERY_TYPE:
+                raise Refused(f"a request of the type {request.content_type}, and not {QUERY_TYPE}")
             query = (await request.read()).decode()
             status, kind, body = await asyncio.wait_for(asked(session, it, query), it.seconds)
             if status == 200:
@@ -211,12 +237,14 @@ def answering(session: aiohttp.ClientSession, it: Bridged):
                 body = await asyncio.to_thread(document, query, kind, body, it.blank, f"{os.getpid()}-{number}")
                 kind = JSON_TYPE
             why = ""
-        except (Refused, UnicodeDecodeError) as fault:
-            status, kind, body, why = 502, "text/plain", f"{fault}\n".encode(), f" {fault}"
         except asyncio.TimeoutError:
             status, kind, body, why = 504, "text/plain", b"no reply in time\n", " no reply in time"
         except (aiohttp.ClientError, OSError) as fault:
-            status, kind, body, why = 502, "text/plain", b"no reply\n", f" {type(fault).__name__}: {fault}"
+            status, kind, body, why = 502, "text/plain", b"no reply\n", in_a_line(f" {type(fault).__name__}: {fault}")
+        except (Refused, ValueError) as fault:
+            # (a text that isn't UTF-8, and an address that can't be one, are such a ValueError)
+            why = in_a_line(f" {fault}")
+            status, kind, body = 502, "text/plain", f"{why.strip()}\n".encode()
         print(f"{it.name} {number}: {status}, {len(body)} bytes, {time.monotonic() - start:.3f} seconds{why}", flush=True)
         return web.Response(status=status, body=body, content_type=kind)
 
@@ -224,7 +252,7 @@ def answering(session: aiohttp.ClientSession, it: Bridged):
 
 
 async def serve(all_bridged: list[Bridged]) -> None:
-    session = aiohttp.ClientSession(timeout=aiohttp.ClientTimeout(total=None))
+    session = aiohttp.ClientSession(timeout=aiohttp.ClientTimeout(total=None), cookie_jar=aiohttp.DummyCookieJar())
     runners = []
     try:
         for it in all_bridged:
