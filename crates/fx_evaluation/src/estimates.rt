@@ -56,9 +56,23 @@ pub(crate) fn next(store: &Store, left: &[Pattern], rows: &[Solution]) -> Choice
     requires { 0 < length left.now }
     ensures { spec.place_of result < length left.now }
 {
+    if let [pattern] = left {
+        return only(pattern, rows);
+    }
     match fewest(store, left, rows, false) {
         None => first_apart(store, left, rows),
         Some(beside) => beside_or_apart(store, left, rows, beside),
+    }
+}
+
+// The same where one pattern is left: no triples need be counted.
+fn only(pattern: &Pattern, rows: &[Solution]) -> Choice
+    ensures { spec.place_of result ≡ 0 }
+{
+    if rows.len() > 1 && is_apart(pattern, rows) {
+        Choice::Apart(0)
+    } else {
+        Choice::Beside(0)
     }
 }
 
@@ -238,6 +252,9 @@ pub(crate) fn is_small(
     let Some(row) = rows.first() else {
         return Ok(true);
     };
+    if row.pairs().is_empty() {
+        return Ok(false);
+    }
     let count = rows.len() as u64;
     let all = triples_of(store, element, &Solution::empty(alloc));
     if TRIPLES_FOR_A_ROW.saturating_mul(count) >= all {
@@ -265,6 +282,9 @@ pub(crate) fn held_next(
     let Some(row) = rows.first() else {
         return Ok(Some(held.len() - 1));
     };
+    if held.len() == 1 && run.is_empty() {
+        return Ok(Some(0));
+    }
     let row = with_known(alloc, row, conditions)?;
     let known = iris_of(alloc, &row, &[])?;
     let lightest = lightest(store, elements, held, &known);
