@@ -5,13 +5,17 @@ use Rattle.fx_outside.specs.Faults.{HaveStayed}
 use Rattle.fx_outside.specs.declared.doors.DoorError.{DoorError}
 use Rattle.fx_outside.specs.declared.doors.DoorError.TheVariants as door
 use Rattle.fx_outside.proofs.CountLemmas.{one_more_later, stayed_both}
-use Rattle.fx_ntriples.specs.declared.faults.NtError.{NtError}
 use Rattle.fx_ntriples.specs.declared.faults.NtError.TheVariants as nt
 use Rattle.fx_sources.specs.declared.errors.RegistryError.{RegistryError}
 use Rattle.fx_sources.specs.declared.errors.RegistryError.TheVariants as error
-use Rattle.fx_local.specs.Counts.{CountsDoor, CountsLoads, CountsOnly, CountsRead}
+use Rattle.fx_terms.specs.declared.triples.Triple.{Triple}
+use Rattle.fx_local.specs.GraphTexts.{GivesGraphText}
+use Rattle.fx_local.specs.Counts.{CountsDoor, CountsLoad, CountsLoads, CountsOnly, CountsRead}
 use Rattle.fx_local.specs.RefusalStatuses.{graph_status, registry_status}
 use Rattle.fx_local.specs.ServingSteps.{end_status}
+use Rattle.fx_local.specs.declared.refusals.GraphFault.{GraphFault}
+use Rattle.fx_local.specs.declared.refusals.GraphFault.TheVariants as fault
+use Rattle.fx_local.specs.declared.refusals.GraphRefusal.{GraphRefusal}
 use Rattle.fx_local.specs.declared.refusals.GraphRefusal.TheVariants as graph
 use Rattle.fx_local.specs.declared.refusals.RegistryRefusal.TheVariants as registry
 use Rattle.fx_local.specs.declared.statuses.Status.{Status}
@@ -20,12 +24,20 @@ use Rattle.fx_local.specs.declared.statuses.Status.TheVariants as status
 -- ---- files
 
 -- a text that is refused was read
-pub no_graph_counts : (name : List ℕ) (a b : List ℕ → ℕ) (e : NtError) → HaveStayed a b → CountsRead name (graph_status (graph.Refused e)) a b
-no_graph_counts name a b (nt.BadUtf8 at) h = h
-no_graph_counts name a b (nt.Bad l c) h = h
-no_graph_counts name a b (nt.Blank l c) h = h
-no_graph_counts name a b (nt.Relative l c) h = h
-no_graph_counts name a b nt.Memory h = h
+pub no_graph_counts : (name : List ℕ) (a b : List ℕ → ℕ) (e : GraphFault) → HaveStayed a b → CountsRead name (graph_status (graph.Refused e)) a b
+no_graph_counts name a b (fault.Triples (nt.BadUtf8 at)) h = h
+no_graph_counts name a b (fault.Triples (nt.Bad l c)) h = h
+no_graph_counts name a b (fault.Triples (nt.Blank l c)) h = h
+no_graph_counts name a b (fault.Triples (nt.Relative l c)) h = h
+no_graph_counts name a b (fault.Triples nt.Memory) h = h
+no_graph_counts name a b (fault.Turtle kind at) h = h
+
+pub text_counts : (name text : List ℕ) (a b : List ℕ → ℕ) (result : Result (List Triple) GraphRefusal) → GivesGraphText name text result → HaveStayed a b → CountsLoad graph_status name a b result
+text_counts name text a b (Ok given) k h = h
+text_counts name text a b (Err (graph.Refused e)) k h = no_graph_counts name a b e h
+text_counts name text a b (Err graph.Memory) k h = h
+text_counts name text a b (Err graph.Fault) k h = absurd k
+text_counts name text a b (Err graph.TooLong) k h = absurd k
 
 pub no_registry_counts : (name : List ℕ) (a b : List ℕ → ℕ) (e : RegistryError) → HaveStayed a b → CountsRead name (registry_status (registry.Refused e)) a b
 no_registry_counts name a b (error.Bad line) h = h

@@ -1,5 +1,6 @@
 pub mod CountLemmas
 pub mod GainLemmas
+pub mod GraphTextLemmas
 pub mod LoadLemmas
 pub mod LocalLemmas
 pub mod ServiceLemmas

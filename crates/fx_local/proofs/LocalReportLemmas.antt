@@ -2,6 +2,7 @@
 use Rattle.std.proofs.Common.{◌≡◌, sym, subst, refl, ℕ, List, Ok, Err, inl, inr}
 use Rattle.fx_local.specs.declared.refusals.QueryRefusal.TheVariants as query
 use Rattle.fx_ntriples.specs.declared.faults.NtError.TheVariants as error
+use Rattle.fx_local.specs.declared.refusals.GraphFault.TheVariants as fault
 use Rattle.fx_local.specs.declared.refusals.GraphRefusal.TheVariants as graph
 use Rattle.fx_local.specs.declared.refusals.Refusal.{Refusal}
 use Rattle.fx_local.specs.declared.refusals.Refusal.TheVariants as refusal
@@ -17,11 +18,12 @@ use Rattle.fx_local.specs.RefusalStatuses.{status_of}
 pub reported : (g q : FileRead) (r : Refusal) → GivesAnswer g q (Err r) → IsReported g q (status_of r) (refusal_line r g.name q.name)
 reported g q (refusal.Graph graph.Fault) h = inl (h, refl)
 reported g q (refusal.Graph graph.TooLong) h = inl (h, refl)
-reported g q (refusal.Graph (graph.Refused (error.BadUtf8 at))) h = (error.BadUtf8 at, h, refl)
-reported g q (refusal.Graph (graph.Refused (error.Bad l c))) h = (error.Bad l c, h, refl)
-reported g q (refusal.Graph (graph.Refused (error.Blank l c))) h = (error.Blank l c, h, refl)
-reported g q (refusal.Graph (graph.Refused (error.Relative l c))) h = (error.Relative l c, h, refl)
-reported g q (refusal.Graph (graph.Refused error.Memory)) h = refl
+reported g q (refusal.Graph (graph.Refused (fault.Triples (error.BadUtf8 at)))) h = (fault.Triples (error.BadUtf8 at), h, refl)
+reported g q (refusal.Graph (graph.Refused (fault.Triples (error.Bad l c)))) h = (fault.Triples (error.Bad l c), h, refl)
+reported g q (refusal.Graph (graph.Refused (fault.Triples (error.Blank l c)))) h = (fault.Triples (error.Blank l c), h, refl)
+reported g q (refusal.Graph (graph.Refused (fault.Triples (error.Relative l c)))) h = (fault.Triples (error.Relative l c), h, refl)
+reported g q (refusal.Graph (graph.Refused (fault.Triples error.Memory))) h = refl
+reported g q (refusal.Graph (graph.Refused (fault.Turtle kind at))) h = (fault.Turtle kind at, h, refl)
 reported g q (refusal.Graph graph.Memory) h = refl
 reported g q (refusal.Query query.Fault) h = inr (h.0, h.1, refl)
 reported g q (refusal.Query query.TooLong) h = inr (h.0, h.1, refl)

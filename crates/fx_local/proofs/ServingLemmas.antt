@@ -12,6 +12,7 @@ use Rattle.fx_local.specs.Lines.{cannot_serve, no_memory}
 use Rattle.fx_local.specs.LocalSteps.{GivesGraph, graph_line}
 use Rattle.fx_local.specs.RefusalStatuses.{graph_status}
 use Rattle.fx_local.specs.declared.refusals.GraphRefusal.{GraphRefusal}
+use Rattle.fx_local.specs.declared.refusals.GraphFault.TheVariants as fault
 use Rattle.fx_local.specs.declared.refusals.GraphRefusal.TheVariants as refusal
 use Rattle.fx_local.specs.Serving.{Visit, IsVisit, IsEnded, HasVisits, Serves, ending_line, ending_lines, IsServingReported, IsUnwritten, IsCut, IsOpen, IsShut, HasStopped, IsGraphOf, IsMemberReported, once_more}
 use Rattle.fx_local.specs.ServingSteps.{IsServedNext, IsLost, GivesEnding, end_status, end_line}
@@ -144,11 +145,12 @@ ends_otherwise door.Memory is = cc
 pub refused_otherwise : (r : GraphRefusal) → graph_status r ≡ status.WriteFault → ⊥
 refused_otherwise refusal.Fault is = cc
 refused_otherwise refusal.TooLong is = cc
-refused_otherwise (refusal.Refused (error.BadUtf8 at)) is = cc
-refused_otherwise (refusal.Refused (error.Bad l c)) is = cc
-refused_otherwise (refusal.Refused (error.Blank l c)) is = cc
-refused_otherwise (refusal.Refused (error.Relative l c)) is = cc
-refused_otherwise (refusal.Refused error.Memory) is = cc
+refused_otherwise (refusal.Refused (fault.Triples (error.BadUtf8 at))) is = cc
+refused_otherwise (refusal.Refused (fault.Triples (error.Bad l c))) is = cc
+refused_otherwise (refusal.Refused (fault.Triples (error.Blank l c))) is = cc
+refused_otherwise (refusal.Refused (fault.Triples (error.Relative l c))) is = cc
+refused_otherwise (refusal.Refused (fault.Triples error.Memory)) is = cc
+refused_otherwise (refusal.Refused (fault.Turtle kind at)) is = cc
 refused_otherwise refusal.Memory is = cc
 
 -- a door that could not be opened
@@ -226,11 +228,12 @@ graph_reported g before after address count graph status.FileTooLong lines last 
 pub no_graph_reported : (g : FileRead) (seen : DoorSeen) (address : List ℕ) (count : ℕ) (r : GraphRefusal) → GivesGraph g (Err r) → IsMemberReported g seen seen address count (graph_status r) [] (graph_line r g.name)
 no_graph_reported g seen address count refusal.Fault h = (h, refl, refl, refl)
 no_graph_reported g seen address count refusal.TooLong h = (h, refl, refl, refl)
-no_graph_reported g seen address count (refusal.Refused (error.BadUtf8 at)) h = (error.BadUtf8 at, h, refl, refl, refl)
-no_graph_reported g seen address count (refusal.Refused (error.Bad l c)) h = (error.Bad l c, h, refl, refl, refl)
-no_graph_reported g seen address count (refusal.Refused (error.Blank l c)) h = (error.Blank l c, h, refl, refl, refl)
-no_graph_reported g seen address count (refusal.Refused (error.Relative l c)) h = (error.Relative l c, h, refl, refl, refl)
-no_graph_reported g seen address count (refusal.Refused error.Memory) h = inl (refl, refl, refl)
+no_graph_reported g seen address count (refusal.Refused (fault.Triples (error.BadUtf8 at))) h = (fault.Triples (error.BadUtf8 at), h, refl, refl, refl)
+no_graph_reported g seen address count (refusal.Refused (fault.Triples (error.Bad l c))) h = (fault.Triples (error.Bad l c), h, refl, refl, refl)
+no_graph_reported g seen address count (refusal.Refused (fault.Triples (error.Blank l c))) h = (fault.Triples (error.Blank l c), h, refl, refl, refl)
+no_graph_reported g seen address count (refusal.Refused (fault.Triples (error.Relative l c))) h = (fault.Triples (error.Relative l c), h, refl, refl, refl)
+no_graph_reported g seen address count (refusal.Refused (fault.Triples error.Memory)) h = inl (refl, refl, refl)
+no_graph_reported g seen address count (refusal.Refused (fault.Turtle kind at)) h = (fault.Turtle kind at, h, refl, refl, refl)
 no_graph_reported g seen address count refusal.Memory h = inl (refl, refl, refl)
 
 -- ---- one connection

@@ -7,11 +7,10 @@ use Rattle.fx_algebra.specs.declared.queries.Query.{Query}
 use Rattle.fx_grammar.specs.Accepted.{Accepted}
 use Rattle.fx_grammar.specs.Refused.{IsRefused}
 use Rattle.fx_grammar.specs.declared.refusals.SyntaxKind.{SyntaxKind}
-use Rattle.fx_ntriples.specs.Forms.{IsDocument}
-use Rattle.fx_ntriples.specs.Reading.{read_document}
-use Rattle.fx_ntriples.specs.declared.faults.NtError.{NtError}
 use Rattle.fx_sources.specs.Registries.{read_registry}
 use Rattle.fx_sources.specs.declared.errors.RegistryError.{RegistryError}
+use Rattle.fx_local.specs.GraphTexts.{IsGraphFault, IsGraphText}
+use Rattle.fx_local.specs.declared.refusals.GraphFault.{GraphFault}
 use Rattle.fx_local.specs.Limits.{graph_limit, query_limit, registry_limit}
 
 -- ---- a file that is read
@@ -38,13 +37,13 @@ HasFailed f = f.before < f.after
 abbrev pub IsTooLong : ℕ → FileRead → Type 0
 IsTooLong limit f = IfSome f.content (λ all. limit < length all)
 
--- where the content is told, it is an N-Triples document within its limit
+-- where the content is told, it is within its limit, and a document of a graph
 abbrev pub IsGraph : FileRead → Type 0
-IsGraph f = IfSome f.content (λ all. (length all ≤ graph_limit) × ((graph : List Triple) × IsDocument all graph))
+IsGraph f = IfSome f.content (λ all. (length all ≤ graph_limit) × ((graph : List Triple) × IsGraphText f.name all graph))
 
 -- where the content is told, it is within its limit and refused as a document
-abbrev pub IsNoGraph : FileRead → NtError → Type 0
-IsNoGraph f e = IfSome f.content (λ all. (length all ≤ graph_limit) × (read_document all ≡ Err e))
+abbrev pub IsNoGraph : FileRead → GraphFault → Type 0
+IsNoGraph f e = IfSome f.content (λ all. (length all ≤ graph_limit) × IsGraphFault f.name all e)
 
 -- where the content is told, it is within its limit, and refused as a query for this reason at this place
 abbrev pub IsNoQuery : FileRead → SyntaxKind → ℕ → Type 0

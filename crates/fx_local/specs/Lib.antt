@@ -1,5 +1,6 @@
 pub mod Counts
 pub mod Files
+pub mod GraphTexts
 pub mod Limits
 pub mod Lines
 pub mod Local

@@ -7,6 +7,10 @@ use Rattle.fx_outside.specs.Faults.{HasRisen}
 use Rattle.fx_outside.specs.Streams.{AppendsFront}
 use Rattle.fx_ntriples.specs.declared.faults.NtError.{NtError}
 use Rattle.fx_ntriples.specs.declared.faults.NtError.TheVariants as graph
+use Rattle.fx_turtle.specs.Documents.{kind_name as turtle_kind_name}
+use Rattle.fx_turtle.specs.declared.refusals.TurtleKind.{TurtleKind}
+use Rattle.fx_local.specs.declared.refusals.GraphFault.{GraphFault}
+use Rattle.fx_local.specs.declared.refusals.GraphFault.TheVariants as fault
 use Rattle.fx_sources.specs.declared.errors.RegistryError.{RegistryError}
 use Rattle.fx_sources.specs.declared.errors.RegistryError.TheVariants as registry
 use Rattle.fx_grammar.specs.Refused.{kind_name}
@@ -54,12 +58,20 @@ silent_unknown iri = codes "silent " ++ (iri ++ line (codes ": unknown endpoint"
 abbrev pub place : ℕ → ℕ → List ℕ
 place row column = decimal row ++ (58 ∷ (decimal column ++ 10 ∷ []))
 
-abbrev pub graph_refused : NtError → List ℕ
-graph_refused (graph.BadUtf8 at) = codes "graph refused: BadUtf8 at byte " ++ (decimal at ++ 10 ∷ [])
-graph_refused (graph.Bad row column) = codes "graph refused: Bad at " ++ place row column
-graph_refused (graph.Blank row column) = codes "graph refused: Blank at " ++ place row column
-graph_refused (graph.Relative row column) = codes "graph refused: Relative at " ++ place row column
-graph_refused graph.Memory = no_memory
+abbrev pub triples_refused : NtError → List ℕ
+triples_refused (graph.BadUtf8 at) = codes "graph refused: BadUtf8 at byte " ++ (decimal at ++ 10 ∷ [])
+triples_refused (graph.Bad row column) = codes "graph refused: Bad at " ++ place row column
+triples_refused (graph.Blank row column) = codes "graph refused: Blank at " ++ place row column
+triples_refused (graph.Relative row column) = codes "graph refused: Relative at " ++ place row column
+triples_refused graph.Memory = no_memory
+
+-- why a text is no document of Turtle, and the byte place
+abbrev pub turtle_refused : TurtleKind → ℕ → List ℕ
+turtle_refused kind at = codes "graph refused: " ++ (turtle_kind_name kind ++ (codes " at byte " ++ (decimal at ++ 10 ∷ [])))
+
+abbrev pub graph_refused : GraphFault → List ℕ
+graph_refused (fault.Triples e) = triples_refused e
+graph_refused (fault.Turtle kind at) = turtle_refused kind at
 
 -- ---- lines of registries
 

@@ -6,9 +6,9 @@ use Rattle.fx_algebra.specs.Occurrences.{services}
 use Rattle.fx_algebra.specs.declared.queries.Query.{Query}
 use Rattle.fx_grammar.specs.Accepted.{Accepted}
 use Rattle.fx_grammar.specs.declared.refusals.SyntaxKind.{SyntaxKind}
-use Rattle.fx_ntriples.specs.Forms.{IsDocument}
-use Rattle.fx_ntriples.specs.declared.faults.NtError.{NtError}
 use Rattle.fx_results.specs.Documents.{document}
+use Rattle.fx_local.specs.GraphTexts.{IsGraphText}
+use Rattle.fx_local.specs.declared.refusals.GraphFault.{GraphFault}
 use Rattle.fx_local.specs.Limits.{graph_limit, query_limit}
 use Rattle.fx_local.specs.declared.statuses.Status.{Status}
 use Rattle.fx_local.specs.declared.statuses.Status.TheVariants as status
@@ -19,11 +19,11 @@ use Rattle.fx_local.specs.Sinks.{Wrote}
 
 -- ---- the answer
 
--- The text is the document of the answer that the one file's query has over the graph of the other. Each SERVICE is silent, and
+-- The text is the document of the answer that the one file's query has over the graph of the other, which has a name. Each SERVICE is silent, and
 -- down, since no endpoint is registered here.
-pub record IsAnswerOf (file query text : List ℕ) : Type 0 where
+pub record IsAnswerOf (name file query text : List ℕ) : Type 0 where
   pub graph : List Triple
-  pub read : IsDocument file graph
+  pub read : IsGraphText name file graph
   pub asked : Query
   pub accepted : Accepted query asked
   pub silent : first_plain (services asked) ≡ None
@@ -31,7 +31,7 @@ pub record IsAnswerOf (file query text : List ℕ) : Type 0 where
 
 -- where both contents are told, the text is that document
 abbrev pub IsAnswer : FileRead → FileRead → List ℕ → Type 0
-IsAnswer g q text = IfSome g.content (λ graph. IfSome q.content (λ query. IsAnswerOf graph query text))
+IsAnswer g q text = IfSome g.content (λ graph. IfSome q.content (λ query. IsAnswerOf g.name graph query text))
 
 -- the query has no SERVICE without SILENT, and these are the lines of its occurrences
 abbrev pub HasLines : List ℕ → Query → Type 0
@@ -55,7 +55,7 @@ IsReported g q status.EndpointFault text = ⊥
 IsReported g q status.BadReply text = ⊥
 IsReported g q status.RequestTooLong text = ⊥
 IsReported g q status.DoorFault text = ⊥
-IsReported g q status.GraphRefused text = (e : NtError) × IsNoGraph g e × (text ≡ graph_refused e)
+IsReported g q status.GraphRefused text = (e : GraphFault) × IsNoGraph g e × (text ≡ graph_refused e)
 IsReported g q status.QueryRefused text = IsGraph g × ((kind : SyntaxKind) × (at : ℕ) × IsNoQuery q kind at × (text ≡ query_refused kind at))
 IsReported g q status.UnknownService text = IsGraph g × ((iri : List ℕ) × IsQueryThat q (HasPlain iri) × (text ≡ unknown_service iri))
 IsReported g q status.ReadFault text = (HasFailed g × (text ≡ cannot_read g.name)) ⊎ (IsGraph g × HasFailed q × (text ≡ cannot_read q.name))

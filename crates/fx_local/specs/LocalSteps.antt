@@ -10,8 +10,9 @@ use Rattle.fx_outside.specs.Streams.{AppendsFront}
 use Rattle.fx_results.specs.Documents.{document}
 use Rattle.fx_grammar.specs.Accepted.{Accepted}
 use Rattle.fx_local.specs.Limits.{graph_limit, query_limit}
-use Rattle.fx_ntriples.specs.Forms.{IsDocument}
 use Rattle.fx_ntriples.specs.declared.faults.NtError.TheVariants as error
+use Rattle.fx_local.specs.GraphTexts.{IsGraphText}
+use Rattle.fx_local.specs.declared.refusals.GraphFault.TheVariants as fault
 use Rattle.fx_local.specs.declared.refusals.GraphRefusal.{GraphRefusal}
 use Rattle.fx_local.specs.declared.refusals.GraphRefusal.TheVariants as graph
 use Rattle.fx_local.specs.declared.refusals.FileRefusal.{FileRefusal}
@@ -37,10 +38,10 @@ GivesFile f limit (Err file.Memory) = Unit {0}
 
 -- the graph of a file, or why there is none
 abbrev pub GivesGraph : FileRead → Result (List Triple) GraphRefusal → Type 0
-GivesGraph f (Ok graph) = IfSome f.content (λ all. (length all ≤ graph_limit) × IsDocument all graph)
+GivesGraph f (Ok graph) = IfSome f.content (λ all. (length all ≤ graph_limit) × IsGraphText f.name all graph)
 GivesGraph f (Err graph.Fault) = HasFailed f
 GivesGraph f (Err graph.TooLong) = IsTooLong graph_limit f
-GivesGraph f (Err (graph.Refused error.Memory)) = Unit {0}
+GivesGraph f (Err (graph.Refused (fault.Triples error.Memory))) = Unit {0}
 GivesGraph f (Err (graph.Refused e)) = IsNoGraph f e
 GivesGraph f (Err graph.Memory) = Unit {0}
 

@@ -7,6 +7,7 @@ use Rattle.fx_local.specs.declared.refusals.Refusal.{Refusal}
 use Rattle.fx_local.specs.declared.refusals.Refusal.TheVariants as refusal
 use Rattle.fx_local.specs.declared.refusals.GraphRefusal.{GraphRefusal}
 use Rattle.fx_local.specs.declared.refusals.GraphRefusal.TheVariants as graph
+use Rattle.fx_local.specs.declared.refusals.GraphFault.TheVariants as fault
 use Rattle.fx_ntriples.specs.declared.faults.NtError.TheVariants as nt
 use Rattle.fx_local.specs.declared.refusals.RegistryRefusal.{RegistryRefusal}
 use Rattle.fx_local.specs.declared.refusals.RegistryRefusal.TheVariants as registry
@@ -28,7 +29,7 @@ query_status query.Memory = status.NoMemory
 abbrev pub graph_status : GraphRefusal → Status
 graph_status graph.Fault = status.ReadFault
 graph_status graph.TooLong = status.FileTooLong
-graph_status (graph.Refused nt.Memory) = status.NoMemory
+graph_status (graph.Refused (fault.Triples nt.Memory)) = status.NoMemory
 graph_status (graph.Refused e) = status.GraphRefused
 graph_status graph.Memory = status.NoMemory
 

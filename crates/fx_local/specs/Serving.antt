@@ -3,12 +3,12 @@ use Rattle.std.specs.Prelude.{◌≡◌, ◌⊎◌, ℕ, ◌+◌, ◌<◌, ◌�
 use Rattle.std.specs.Fmt.{decimal}
 use Rattle.std.proofs.Common.{suc}
 use Rattle.fx_terms.specs.declared.triples.Triple.{Triple}
-use Rattle.fx_ntriples.specs.Forms.{IsDocument}
-use Rattle.fx_ntriples.specs.declared.faults.NtError.{NtError}
 use Rattle.fx_outside.specs.Doors.{DoorSeen, Output}
 use Rattle.fx_outside.specs.Streams.{AppendsFront, AppendsPart}
 use Rattle.fx_http.specs.Requests.{TakesOfRequest}
 use Rattle.fx_member.specs.Served.{IsServed}
+use Rattle.fx_local.specs.GraphTexts.{IsGraphText}
+use Rattle.fx_local.specs.declared.refusals.GraphFault.{GraphFault}
 use Rattle.fx_local.specs.Files.{FileRead, HasFailed, IsTooLong, IsNoGraph}
 use Rattle.fx_local.specs.Lines.{Gains, cannot_read, graph_refused, graph_too_long, no_memory, cannot_serve}
 use Rattle.fx_local.specs.Sinks.{SinkWritten}
@@ -68,9 +68,9 @@ ending_lines number (ending ∷ endings) = ending_line number ending ++ ending_l
 
 -- ---- statuses
 
--- the graph of a file: where the content is told it is an N-Triples document of it within its limit
+-- the graph of a file: where the content is told it is within its limit, and a document of it
 abbrev pub IsGraphOf : FileRead → List Triple → Type 0
-IsGraphOf g graph = IfSome g.content (λ all. (length all ≤ graph_limit) × IsDocument all graph)
+IsGraphOf g graph = IfSome g.content (λ all. (length all ≤ graph_limit) × IsGraphText g.name all graph)
 
 -- the door was opened at these addresses and no other, each time in order
 abbrev pub IsOpen : DoorSeen → List (List ℕ) → Type 0
@@ -137,7 +137,7 @@ HasServingReport before after addresses count graph s err =
 -- door is opened at the address, once, for so many connections. Before that all that is seen of the door is as it was, and no line is written
 -- but the last.
 abbrev pub IsMemberReported : FileRead → DoorSeen → DoorSeen → List ℕ → ℕ → Status → List ℕ → List ℕ → Type 0
-IsMemberReported g before after address count status.GraphRefused lines last = (e : NtError) × IsNoGraph g e × (lines ≡ []) × (last ≡ graph_refused e) × (after ≡ before)
+IsMemberReported g before after address count status.GraphRefused lines last = (e : GraphFault) × IsNoGraph g e × (lines ≡ []) × (last ≡ graph_refused e) × (after ≡ before)
 IsMemberReported g before after address count status.ReadFault lines last = HasFailed g × (lines ≡ []) × (last ≡ cannot_read g.name) × (after ≡ before)
 IsMemberReported g before after address count status.FileTooLong lines last = IsTooLong graph_limit g × (lines ≡ []) × (last ≡ graph_too_long g.name) × (after ≡ before)
 IsMemberReported g before after address count status.NoMemory lines last = ((lines ≡ []) × (last ≡ no_memory) × (after ≡ before)) ⊎ ((graph : List Triple) × IsGraphOf g graph × IsServingReported before after (once_more before address) count graph status.NoMemory lines last)

@@ -3,6 +3,7 @@
 #![tactic(auto)]
 
 pub mod documents;
+mod graphs;
 pub mod limits;
 pub mod loading;
 pub mod local;

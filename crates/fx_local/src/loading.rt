@@ -7,10 +7,10 @@ ghost use Rattle.fx_local.specs.LocalSteps.{GivesFile, GivesGraph, GivesQuery};
 ghost use Rattle.fx_local.specs.RegistryFiles.{GivesRegistry};
 ghost use Rattle.fx_local.specs.RefusalStatuses.{file_status, graph_status, query_status, registry_status};
 
+use crate::graphs::graph_of;
 use crate::limits::{GRAPH_LIMIT, QUERY_LIMIT, REGISTRY_LIMIT};
 use crate::refusals::{FileRefusal, GraphRefusal, QueryRefusal, RegistryRefusal};
 use fx_algebra::Query;
-use fx_ntriples::read_graph;
 use fx_outside::{FileError, Files};
 use fx_sources::Registry;
 use fx_store::Store;
@@ -29,10 +29,7 @@ fn load_graph<F: Files>(alloc: Global, files: &mut F, name: &str) -> Result<Grap
         Err(FileRefusal::Fault) => Err(GraphRefusal::Fault),
         Err(FileRefusal::TooLong) => Err(GraphRefusal::TooLong),
         Err(FileRefusal::Memory) => Err(GraphRefusal::Memory),
-        Ok(bytes) => match read_graph(alloc, bytes.as_slice()) {
-            Ok(graph) => Ok(graph),
-            Err(error) => Err(GraphRefusal::Refused(error)),
-        },
+        Ok(bytes) => graph_of(alloc, name, bytes.as_slice()),
     }
 }
 

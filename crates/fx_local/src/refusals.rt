@@ -6,6 +6,7 @@ use fx_ntriples::NtError;
 use fx_sources::RegistryError;
 use fx_syntax::SyntaxKind;
 use fx_terms::{Iri, Memory};
+use fx_turtle::TurtleKind;
 
 /// Why a file gives nothing.
 #[derive(Clone, Copy)]
@@ -18,6 +19,15 @@ pub enum FileRefusal {
     Memory,
 }
 
+/// Why the text of a graph's file is no document.
+#[derive(Clone, Copy)]
+pub enum GraphFault {
+    /// It is none of N-Triples.
+    Triples(NtError),
+    /// It is none of Turtle, for this reason at this byte place.
+    Turtle { kind: TurtleKind, place: u64 },
+}
+
 /// Why the file of a graph gives no graph.
 #[derive(Clone, Copy)]
 pub enum GraphRefusal {
@@ -26,7 +36,7 @@ pub enum GraphRefusal {
     /// It has more bytes than its limit.
     TooLong,
     /// It is refused.
-    Refused(NtError),
+    Refused(GraphFault),
     /// Memory ran out.
     Memory,
 }
@@ -41,7 +51,7 @@ impl GraphRefusal {
         match self {
             GraphRefusal::Fault => Status::ReadFault,
             GraphRefusal::TooLong => Status::FileTooLong,
-            GraphRefusal::Refused(NtError::Memory) => Status::NoMemory,
+            GraphRefusal::Refused(GraphFault::Triples(NtError::Memory)) => Status::NoMemory,
             GraphRefusal::Refused(_) => Status::GraphRefused,
             GraphRefusal::Memory => Status::NoMemory,
         }

@@ -3,17 +3,17 @@ ghost use Rattle.std.specs.Prelude.{◌≡◌, ◌∷◌, ◌++◌, ◌≤◌, [
 ghost use Rattle.std.specs.Fmt.{decimal};
 ghost use Rattle.fx_outside.specs.Faults.{HasRisen};
 ghost use Rattle.fx_outside.specs.Streams.{AppendsFront, AppendsPart};
-ghost use Rattle.fx_local.specs.Lines.{all_pieces, cannot_serve, Gains, graph_refused, line, no_memory, place, query_refused, registry_refused, unknown_service, usage_line};
-ghost use Rattle.fx_grammar.specs.Refused.{kind_name};
+ghost use Rattle.fx_local.specs.Lines.{all_pieces, cannot_serve, Gains, graph_refused, line, no_memory, place, query_refused, registry_refused, triples_refused, turtle_refused, unknown_service, usage_line};
 ghost use Rattle.fx_local.specs.LocalSteps.{refusal_line, graph_line, query_line};
 ghost use Rattle.fx_local.specs.RegistryFiles.{registry_line};
 
-use crate::refusals::{GraphRefusal, QueryRefusal, Refusal, RegistryRefusal};
+use crate::refusals::{GraphFault, GraphRefusal, QueryRefusal, Refusal, RegistryRefusal};
 use fx_ntriples::NtError;
 use fx_outside::{Sink, WriteFailed, write_all};
 use fx_sources::RegistryError;
 use fx_syntax::SyntaxKind;
 use fx_terms::Iri;
+use fx_turtle::TurtleKind;
 use itoa::Buffer;
 
 /// Writes the usage line.
@@ -57,13 +57,28 @@ pub fn write_graph_refusal<E: Sink>(err: &mut E, refusal: GraphRefusal, name: &s
             name,
             b" has more than 134217728 bytes\n",
         ),
-        GraphRefusal::Refused(error) => write_graph_error(err, error),
+        GraphRefusal::Refused(fault) => write_graph_fault(err, fault),
         GraphRefusal::Memory => write_line(err, b"no memory\n"),
     }
 }
 
-fn write_graph_error<E: Sink>(err: &mut E, error: NtError)
-    ensures { IsTrue E.tells_held → Gains (E.held err.old) (E.held err.new) (E.write_faults err.old) (E.write_faults err.new) (graph_refused error) }
+fn write_graph_fault<E: Sink>(err: &mut E, fault: GraphFault)
+    ensures { IsTrue E.tells_held → Gains (E.held err.old) (E.held err.new) (E.write_faults err.old) (E.write_faults err.new) (graph_refused fault) }
+{
+    match fault {
+        GraphFault::Triples(error) => write_triples_error(err, error),
+        GraphFault::Turtle { kind, place } => write_turtle_refused(err, kind, place),
+    }
+}
+
+fn write_turtle_refused<E: Sink>(err: &mut E, kind: TurtleKind, place: u64)
+    ensures { IsTrue E.tells_held → Gains (E.held err.old) (E.held err.new) (E.write_faults err.old) (E.write_faults err.new) (turtle_refused kind place) }
+{
+    write_refused(err, b"graph refused: ", kind.name(), b" at byte ", place);
+}
+
+fn write_triples_error<E: Sink>(err: &mut E, error: NtError)
+    ensures { IsTrue E.tells_held → Gains (E.held err.old) (E.held err.new) (E.write_faults err.old) (E.write_faults err.new) (triples_refused error) }
 {
     match error {
         NtError::BadUtf8 { place } => {
@@ -99,16 +114,25 @@ pub fn write_query_refusal<E: Sink>(err: &mut E, refusal: QueryRefusal, name: &s
 fn write_query_refused<E: Sink>(err: &mut E, kind: SyntaxKind, place: u64)
     ensures { IsTrue E.tells_held → Gains (E.held err.old) (E.held err.new) (E.write_faults err.old) (E.write_faults err.new) (query_refused kind place) }
 {
-    if let Ok(()) = write_all(err, b"query refused: ") {
-        write_kind_and_place(err, kind, place);
+    write_refused(err, b"query refused: ", kind.name(), b" at ", place);
+}
+
+// Writes what is refused, the name of the kind, and the place.
+fn write_refused<E: Sink>(err: &mut E, what: &[u8], kind: &str, at: &[u8], place: u64)
+    ensures { IsTrue E.tells_held → Gains (E.held err.old) (E.held err.new) (E.write_faults err.old) (E.write_faults err.new)
+        (what.now ++ (kind.now ++ (at.now ++ (decimal place ++ 10 ∷ [])))) }
+{
+    if let Ok(()) = write_all(err, what) {
+        write_kind_and_place(err, kind, at, place);
     }
 }
 
-fn write_kind_and_place<E: Sink>(err: &mut E, kind: SyntaxKind, place: u64)
-    ensures { IsTrue E.tells_held → Gains (E.held err.old) (E.held err.new) (E.write_faults err.old) (E.write_faults err.new) (kind_name kind ++ (codes " at " ++ (decimal place ++ 10 ∷ []))) }
+fn write_kind_and_place<E: Sink>(err: &mut E, kind: &str, at: &[u8], place: u64)
+    ensures { IsTrue E.tells_held → Gains (E.held err.old) (E.held err.new) (E.write_faults err.old) (E.write_faults err.new)
+        (kind.now ++ (at.now ++ (decimal place ++ 10 ∷ []))) }
 {
-    if let Ok(()) = write_all(err, kind.name().as_bytes()) {
-        write_number(err, b" at ", place, b"\n");
+    if let Ok(()) = write_all(err, kind.as_bytes()) {
+        write_number(err, at, place, b"\n");
     }
 }
 

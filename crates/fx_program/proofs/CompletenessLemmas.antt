@@ -12,10 +12,6 @@ use Rattle.fx_grammar.specs.Accepted.{Accepted}
 use Rattle.fx_grammar.specs.Refused.{IsRefused}
 use Rattle.fx_grammar.specs.declared.refusals.SyntaxKind.{SyntaxKind}
 use Rattle.fx_grammar.proofs.OneQuery.{never_both_holds, one_query_holds}
-use Rattle.fx_ntriples.specs.Forms.{IsDocument}
-use Rattle.fx_ntriples.specs.Reading.{read_document}
-use Rattle.fx_ntriples.specs.declared.faults.NtError.{NtError}
-use Rattle.fx_ntriples.proofs.Complete.{document_reads}
 use Rattle.fx_keys.specs.declared.probes.Probe.{Probe}
 use Rattle.fx_sources.specs.Registries.{read_registry}
 use Rattle.fx_sources.specs.declared.errors.RegistryError.{RegistryError}
@@ -50,6 +46,9 @@ use Rattle.fx_program.specs.Completeness.{Completes, AreAsksShort, AreRepliesSho
 use Rattle.fx_words.specs.Commands.{Asked, over_file, over_members, planned, served, generated}
 use Rattle.fx_commands.specs.Explain.{IsExplainReported}
 use Rattle.fx_commands.specs.FedRefusals.{IsGivenEnd}
+use Rattle.fx_local.proofs.GraphTextLemmas.{never_refused}
+use Rattle.fx_local.specs.GraphTexts.{IsGraphFault, IsGraphText, is_turtle}
+use Rattle.fx_local.specs.declared.refusals.GraphFault.{GraphFault}
 use Rattle.fx_local.specs.Files.{FileRead, Holds, IsNoGraph, IsNoQuery, IsNoRegistry, IsQueryThat, IsTooLong}
 use Rattle.fx_program.specs.Headline.{IsTold}
 use Rattle.fx_commands.specs.MemberLines.{down_lines}
@@ -78,14 +77,10 @@ a_registry_is r es e h k =
 a_query_is : (q : FileRead) (asked : Query) (kind : SyntaxKind) (at : ℕ) → Holds q query_limit (λ content. Accepted content asked) → IsNoQuery q kind at → ⊥
 a_query_is q asked kind at h k = never_both_holds h.0 kind at asked (of_told (λ all. (length all ≤ query_limit) × IsRefused all kind at) q.content h.0 h.1 k).1 h.3
 
-a_graph_is : (g : FileRead) (graph : List Triple) (e : NtError) → Holds g graph_limit (λ content. IsDocument content graph) → IsNoGraph g e → ⊥
+a_graph_is : (g : FileRead) (graph : List Triple) (e : GraphFault) → Holds g graph_limit (λ content. IsGraphText g.name content graph) → IsNoGraph g e → ⊥
 a_graph_is g graph e h k =
-    let found = of_told (λ all. (length all ≤ graph_limit) × (read_document all ≡ Err e)) g.content h.0 h.1 k in
-    let reads = document_reads h.0 graph h.3 in
-    clash (read_document h.0) reads found.1
-  where
-    clash : (o : _) → o ≡ Ok graph → o ≡ Err e → ⊥
-    clash o a b = cc
+    let found = of_told (λ all. (length all ≤ graph_limit) × IsGraphFault g.name all e) g.content h.0 h.1 k in
+    never_refused (is_turtle g.name) h.0 graph e h.3 found.1
 
 the_query : (q : FileRead) (asked : Query) (P : Query → Type 0) → Holds q query_limit (λ content. Accepted content asked) → IsQueryThat q P → P asked
 the_query q asked P h k =
@@ -285,7 +280,7 @@ explain_completes w r q s text out (inr (Err e, made, end)) cut es asked graphs 
 -- ---- `local`
 
 pub local_completes : (g q : FileRead) (s : Status) (text : List ℕ) (out err : SinkWritten) (P : List ℕ → Type 0) → IsReported g q s text → (s ≡ status.WriteFault → IsCutShort P out err)
-    → (graph : List Triple) (asked : Query) → Holds g graph_limit (λ content. IsDocument content graph) → Holds q query_limit (λ content. Accepted content asked) → first_plain (services asked) ≡ None
+    → (graph : List Triple) (asked : Query) → Holds g graph_limit (λ content. IsGraphText g.name content graph) → Holds q query_limit (λ content. Accepted content asked) → first_plain (services asked) ≡ None
     → IsReadWell g → IsReadWell q → IsWrittenWell out → IsWrittenWell err → IsDoneOrWant s
 local_completes g q status.Done text out err P reported cut graph asked h k silent a b well lines = inl refl
 local_completes g q status.NoMemory text out err P reported cut graph asked h k silent a b well lines = inr refl
@@ -310,7 +305,7 @@ local_completes g q status.DoorFault text out err P reported cut graph asked h k
 -- ---- `member`
 
 pub member_completes : (g : FileRead) (door later : DoorSeen) (address : List ℕ) (count : ℕ) (s : Status) (before text : List ℕ) (err : SinkWritten) → IsMemberReported g door later address count s before text → (s ≡ status.WriteFault → sink.HasFailed err)
-    → (graph : List Triple) → Holds g graph_limit (λ content. IsDocument content graph) → IsReadWell g → later.faults ≡ door.faults → IsWrittenWell err → IsDoneOrWant s
+    → (graph : List Triple) → Holds g graph_limit (λ content. IsGraphText g.name content graph) → IsReadWell g → later.faults ≡ door.faults → IsWrittenWell err → IsDoneOrWant s
 member_completes g door later address count status.Done before text err reported cut graph h a same lines = inl refl
 member_completes g door later address count status.NoMemory before text err reported cut graph h a same lines = inr refl
 member_completes g door later address count status.WriteFault before text err reported cut graph h a same lines = absurd (lines (cut refl))

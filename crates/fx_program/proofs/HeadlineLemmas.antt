@@ -15,8 +15,6 @@ use Rattle.fx_algebra.specs.declared.queries.Query.{Query}
 use Rattle.fx_algebra.proofs.MemberLemmas.{among_map}
 use Rattle.fx_grammar.specs.Accepted.{Accepted}
 use Rattle.fx_grammar.proofs.OneQuery.{one_query_holds}
-use Rattle.fx_ntriples.specs.Forms.{IsDocument}
-use Rattle.fx_ntriples.proofs.Complete.{document_reads}
 use Rattle.fx_results.specs.Documents.{document}
 use Rattle.fx_plan.specs.Explained.{explained}
 use Rattle.fx_sources.specs.Probes.{Entry}
@@ -34,6 +32,8 @@ use Rattle.fx_local.specs.declared.statuses.Status.{Status}
 use Rattle.fx_local.specs.declared.statuses.Status.TheVariants as status
 use Rattle.fx_words.specs.Commands.{Asked, over_file, over_members, planned, served, generated}
 use Rattle.fx_commands.specs.Explain.{IsExplainReported, IsExplainWritten}
+use Rattle.fx_local.proofs.GraphTextLemmas.{one_graph}
+use Rattle.fx_local.specs.GraphTexts.{IsGraphText, is_turtle}
 use Rattle.fx_local.specs.Files.{FileRead, Holds, IsQueryOf, IsQueryThat, IsRegistryOf}
 use Rattle.fx_commands.specs.FedRefusals.{IsGivenEnd}
 use Rattle.fx_commands.specs.Generator.{summary}
@@ -214,22 +214,19 @@ explain_headline w r q s text out err reported gains wrote es asked graphs told 
 
 -- ---- `local`
 
-local_wrote : (g q : FileRead) (graph : List Triple) (asked : Query) (s : Status) (old new : List ℕ) → Holds g graph_limit (λ content. IsDocument content graph) → Holds q query_limit (λ content. Accepted content asked) → s ≡ status.Done → IsWritten g q s old new
+local_wrote : (g q : FileRead) (graph : List Triple) (asked : Query) (s : Status) (old new : List ℕ) → Holds g graph_limit (λ content. IsGraphText g.name content graph) → Holds q query_limit (λ content. Accepted content asked) → s ≡ status.Done → IsWritten g q s old new
     → new ≡ old ++ document (answer asked graph no_graphs (all_numbers (services asked)))
 local_wrote g q graph asked s old new h k done written =
     let wrote = subst (λ (v : Status). IsWritten g q v old new) done written in
     let inner = of_told _ g.content h.0 h.1 wrote.1 in
     let answers = of_told _ q.content k.0 k.1 inner in
-    let same_graph = one_graph h.0 graph answers.graph h.3 answers.read in
+    let same_graph = one_graph (is_turtle g.name) h.0 answers.graph graph answers.read h.3 in
     let same_asked = one_query_holds k.0 answers.asked asked answers.accepted k.3 in
     wrote.2
     ∙ ap (λ (t : List ℕ). old ++ t) (
     answers.document_is
     ∙ ap (λ (v : Query). document (answer v answers.graph no_graphs (all_numbers (services v)))) same_asked
     ∙ ap (λ (v : List Triple). document (answer asked v no_graphs (all_numbers (services asked)))) same_graph)
-  where
-    one_graph : (all : List ℕ) (graph other : List Triple) → IsDocument all graph → IsDocument all other → other ≡ graph
-    one_graph all graph other a b = let here = document_reads all graph a in let there = document_reads all other b in cc
 
 local_lines : (q : FileRead) (asked : Query) (lines : List ℕ) → Holds q query_limit (λ content. Accepted content asked) → IsQueryThat q (HasLines lines) → lines ≡ silent_lines (services asked)
 local_lines q asked lines k h =
@@ -237,7 +234,7 @@ local_lines q asked lines k h =
     found.1.2.1 ∙ ap (λ (v : Query). silent_lines (services v)) (one_query_holds k.0 found.1.0 asked found.1.1 k.3)
 
 pub local_headline : (g q : FileRead) (s : Status) (out err : SinkWritten) → (IsTrue out.tells → IsWritten g q s out.old out.new) → (s ≡ status.Done → IsTrue err.tells → (lines : List ℕ) × IsQueryThat q (HasLines lines) × (err.new ≡ err.old ++ lines))
-    → (graph : List Triple) (asked : Query) → Holds g graph_limit (λ content. IsDocument content graph) → Holds q query_limit (λ content. Accepted content asked)
+    → (graph : List Triple) (asked : Query) → Holds g graph_limit (λ content. IsGraphText g.name content graph) → Holds q query_limit (λ content. Accepted content asked)
     → s ≡ status.Done → AreWritten (document (answer asked graph no_graphs (all_numbers (services asked)))) (silent_lines (services asked)) out err
 local_headline g q s out err written lines graph asked h k = λ done. (
   λ tells. local_wrote g q graph asked s out.old out.new h k done (written tells),

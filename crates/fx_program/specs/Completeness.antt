@@ -11,7 +11,6 @@ use Rattle.fx_algebra.specs.Occurrences.{services}
 use Rattle.fx_algebra.specs.declared.queries.Query.{Query}
 use Rattle.fx_grammar.specs.Accepted.{Accepted}
 use Rattle.fx_http.specs.Requests.{request_of}
-use Rattle.fx_ntriples.specs.Forms.{IsDocument}
 use Rattle.fx_keys.specs.declared.probes.Probe.{Probe}
 use Rattle.fx_sources.specs.Probes.{missing}
 use Rattle.fx_sources.specs.Sources.{ask_text}
@@ -27,6 +26,7 @@ use Rattle.fx_local.specs.declared.statuses.Status.{Status}
 use Rattle.fx_local.specs.declared.statuses.Status.TheVariants as status
 use Rattle.fx_words.specs.Commands.{Asked, over_file, over_members, planned, served, generated}
 use Rattle.fx_local.specs.Files.{FileRead, Holds}
+use Rattle.fx_local.specs.GraphTexts.{IsGraphText}
 use Rattle.fx_program.specs.Headline.{IsTold}
 use Rattle.fx_local.specs.Services.{first_plain}
 use Rattle.fx_commands.specs.Silent.{unregistered}
@@ -79,11 +79,11 @@ Completes read w door later (Some (planned r q)) s out err =
     → AreRepliesShort w → AreAsksShort endpoints asked
     → IsDoneOrWant s
 Completes read w door later (Some (over_file g q)) s out err =
-    (graph : List Triple) (asked : Query) → Holds (read g) graph_limit (λ content. IsDocument content graph) → Holds (read q) query_limit (λ content. Accepted content asked) → first_plain (services asked) ≡ None
+    (graph : List Triple) (asked : Query) → Holds (read g) graph_limit (λ content. IsGraphText g content graph) → Holds (read q) query_limit (λ content. Accepted content asked) → first_plain (services asked) ≡ None
     → IsReadWell (read g) → IsReadWell (read q) → IsWrittenWell out → IsWrittenWell err
     → IsDoneOrWant s
 Completes read w door later (Some (served g address count)) s out err =
-    (graph : List Triple) → Holds (read g) graph_limit (λ content. IsDocument content graph)
+    (graph : List Triple) → Holds (read g) graph_limit (λ content. IsGraphText g content graph)
     → IsReadWell (read g) → later.faults ≡ door.faults → IsWrittenWell err
     → IsDoneOrWant s
 Completes read w door later (Some (generated size)) s out err = IsWrittenWell out → IsDoneOrWant s

@@ -8,7 +8,6 @@ use Rattle.fx_algebra.specs.Occurrences.{services}
 use Rattle.fx_algebra.specs.Units.{sources}
 use Rattle.fx_algebra.specs.declared.queries.Query.{Query}
 use Rattle.fx_grammar.specs.Accepted.{Accepted}
-use Rattle.fx_ntriples.specs.Forms.{IsDocument}
 use Rattle.fx_results.specs.Documents.{document}
 use Rattle.fx_plan.specs.Explained.{explained}
 use Rattle.fx_sources.specs.Registries.{read_registry}
@@ -21,6 +20,7 @@ use Rattle.fx_local.specs.declared.statuses.Status.{Status}
 use Rattle.fx_local.specs.declared.statuses.Status.TheVariants as status
 use Rattle.fx_words.specs.Commands.{Asked, over_file, over_members, planned, generated}
 use Rattle.fx_local.specs.Files.{FileRead, Holds}
+use Rattle.fx_local.specs.GraphTexts.{IsGraphText}
 use Rattle.fx_commands.specs.Generator.{summary}
 use Rattle.fx_local.specs.Lines.{Gains}
 use Rattle.fx_commands.specs.MemberLines.{down_lines, member_failed, service_failed}
@@ -55,7 +55,7 @@ Headline read w (Some (planned r q)) s out err =
     (endpoints : List EndpointParts) (asked : Query) (graphs : List (List Triple)) → IsTold w (read r) (read q) endpoints asked graphs
     → (s ≡ status.Done → AreWritten (explained (parts_with (sources graphs) asked) endpoints) [] out err) × NamesFailed w endpoints (λ e line. line ≡ member_failed e.name) s err
 Headline read w (Some (over_file g q)) s out err =
-    (graph : List Triple) (asked : Query) → Holds (read g) graph_limit (λ content. IsDocument content graph) → Holds (read q) query_limit (λ content. Accepted content asked)
+    (graph : List Triple) (asked : Query) → Holds (read g) graph_limit (λ content. IsGraphText g content graph) → Holds (read q) query_limit (λ content. Accepted content asked)
     → s ≡ status.Done → AreWritten (document (answer asked graph no_graphs (all_numbers (services asked)))) (silent_lines (services asked)) out err
 Headline read w (Some (generated size)) s out err = s ≡ status.Done → AreWritten (summary size) [] out err
 Headline read w asked s out err = Unit {0}

@@ -1,6 +1,7 @@
 -- Which text is which document of Turtle, and why a text is none, and where.
-use Rattle.std.specs.Prelude.{◌≡◌, ◌⊎◌, ℕ, List, codes, Ok, Err}
+use Rattle.std.specs.Prelude.{◌≡◌, ◌⊎◌, ℕ, List, codes, Result, Ok, Err, MatchResult}
 use Rattle.std.specs.Str.{chars, IsUtf8}
+use Rattle.fx_terms.specs.Graphs.{graph_of}
 use Rattle.fx_terms.specs.Utf8.{StopsUtf8}
 use Rattle.fx_terms.specs.declared.triples.Triple.{Triple}
 use Rattle.fx_tokens.specs.Reads.{Reads}
@@ -11,6 +12,8 @@ use Rattle.fx_grammar.specs.Refused.{place_of}
 use Rattle.fx_turtle.specs.Grammar.{document}
 use Rattle.fx_turtle.specs.Rule.{Refusal, stops_whole}
 use Rattle.fx_turtle.specs.Symbols.{symbols}
+use Rattle.fx_turtle.specs.declared.refusals.TurtleError.{TurtleError}
+use Rattle.fx_turtle.specs.declared.refusals.TurtleError.TheVariants as error
 use Rattle.fx_turtle.specs.declared.refusals.TurtleKind.{TurtleKind}
 use Rattle.fx_turtle.specs.declared.refusals.TurtleKind.TheVariants as kind
 
@@ -22,12 +25,22 @@ pub record IsTurtle (bytes : List ℕ) (triples : List Triple) : Type 0 where
   pub lexed : Reads 0 (chars bytes) (Ok tokens)
   pub spelled : document.spells (symbols bytes tokens) triples
 
+-- they are a document, and this is its graph
+pub record IsTurtleOf (bytes : List ℕ) (graph : List Triple) : Type 0 where
+  pub triples : List Triple
+  pub document : IsTurtle bytes triples
+  pub holds : graph ≡ graph_of triples
+
 -- bytes that stop being UTF-8; or else a text with a place where no token stands, anywhere; or else tokens that stop the grammar
 pub data IsRefused (bytes : List ℕ) (why : TurtleKind) (place : ℕ) : Type 0 where
   not_utf8 : StopsUtf8 bytes place → why ≡ kind.BadUtf8 → IsRefused bytes why place
   no_token : IsUtf8 bytes → (fault : TokenFault) → Reads 0 (chars bytes) (Err (Bad place fault)) → why ≡ kind.BadToken → IsRefused bytes why place
   no_document : IsUtf8 bytes → (tokens : List read.Token) → Reads 0 (chars bytes) (Ok tokens) → (refusal : Refusal) → stops_whole document (symbols bytes tokens) refusal → why ≡ refusal.why → place ≡ place_of bytes tokens refusal.left
       → IsRefused bytes why place
+
+-- unless memory runs out, this reason is answered, at this place
+abbrev pub RefusesSo : {X : Type 0} → Result X TurtleError → TurtleKind → ℕ → Type 0
+RefusesSo result why place = MatchResult result (λ x. ⊥) (λ e. (e ≡ error.Memory) ⊎ (e ≡ error.Refused why place))
 
 -- ---- laws
 

@@ -1,5 +1,10 @@
+pub mod Answers
 pub mod Documents
 pub mod Examples
+pub mod Gives
 pub mod Grammar
+pub mod Kept
+pub mod Printed
 pub mod Rule
+pub mod Sources
 pub mod Symbols

@@ -3,6 +3,7 @@ ghost use Rattle.fx_rules.specs.Rule.{EndsAsSpelled};
 ghost use Rattle.fx_turtle.specs.Documents.{EachIsDecided, NeverBoth, OneDocument, OneRefusal};
 ghost use Rattle.fx_turtle.specs.Examples.{DocumentsAreRead, RefusalsStand};
 ghost use Rattle.fx_turtle.specs.Grammar as grammar;
+ghost use Rattle.fx_turtle.specs.Printed.{PrintedIsRead};
 ghost use Rattle.fx_turtle.specs.Rule.{ReadAsSpelled, RefusedAsStopped, RefusedFitly, RefusedForGood, RefusedTheSame, SpelledOrStopped};
 
 /// A text is one document at most.
@@ -74,4 +75,9 @@ pub fn documents_are_read()
 /// Worked examples of refusals, with their places.
 pub fn refusals_stand()
     ensures { RefusalsStand }
+{}
+
+/// What N-Triples prints of a graph is a document of Turtle, of that graph: so `read_turtle` gives the graph again.
+pub fn printed_is_read()
+    ensures { PrintedIsRead }
 {}

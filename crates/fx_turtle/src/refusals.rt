@@ -24,6 +24,15 @@ pub enum TurtleKind {
     Unexpected,
 }
 
+/// Why no graph is read.
+#[derive(Clone, Copy, Debug, PartialEq, Eq)]
+pub enum TurtleError {
+    /// The text is no document, for this reason at this byte place.
+    Refused { kind: TurtleKind, place: u64 },
+    /// Memory ran out.
+    Memory,
+}
+
 impl TurtleKind {
     /// The kind's name, as `Unexpected`.
     pub fn name(&self) -> &'static str

@@ -1,4 +1,4 @@
-use Rattle.fx_local.proofs.reports.write_graph_error.Goals as goal
+use Rattle.fx_local.proofs.reports.write_triples_error.Goals as goal
 
 pub returns-in-BadUtf8 : goal.returns-in-BadUtf8
 returns-in-BadUtf8 g c = rw c.in-BadUtf8.is c.write_number.ensures

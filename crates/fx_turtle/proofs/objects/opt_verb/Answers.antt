@@ -1,0 +1,18 @@
+use Rattle.std.proofs.Common.{List, ℕ, Option, Some, Ok, sym, ap, ◌∙◌, subst}
+use Rattle.fx_rules.specs.Rule.{and_then}
+use Rattle.fx_grammar.specs.Grammar.{rdf_type}
+use Rattle.fx_turtle.specs.Gives.{Gives}
+use Rattle.fx_turtle.specs.Rule.{Outcome}
+use Rattle.fx_turtle.specs.Sources.{left}
+use Rattle.fx_turtle.proofs.Choices.{opt_verb_a, opt_verb_name}
+use Rattle.fx_turtle.proofs.objects.opt_verb.Goals as goal
+
+pub returns-then-sees : goal.returns-then-sees
+returns-then-sees c =
+    opt_verb_a c.args.prefixes.now _ (sym c.sees.ensures ∙ c.if-sees.true) ∙ ap (λ (o : Outcome (Unit {0})). and_then o (λ u rest. Ok (Some rdf_type, rest))) c.in_ok-next.ensures
+    ∙ ap (λ (iri : List ℕ). Ok (Some iri, left c.args.source.now c.in_ok-next.next)) (sym c.in_ok-known.ensures)
+
+pub returns : goal.returns
+returns c =
+    subst (λ (o : Outcome (Option (List ℕ))). Gives (λ x. (x.0, left c.args.source.now x.1)) c.opt_name.result o)
+    (sym (opt_verb_name c.args.prefixes.now (left c.args.source.now c.args.at) (sym c.sees.ensures ∙ c.if-sees.false))) c.opt_name.ensures

@@ -1,0 +1,18 @@
+use Rattle.std.proofs.Common.{◌∙◌, ap, Some, sym}
+use Rattle.fx_turtle.specs.Grammar.{namespace_of}
+use Rattle.fx_turtle.specs.Symbols.{is}
+use Rattle.fx_turtle.specs.declared.kinds.Kind.TheVariants as k
+use Rattle.fx_turtle.proofs.Leaves.{refused_as, one_ends, one_some, one_none}
+use Rattle.fx_turtle.proofs.statements.namespace.Goals as goal
+
+pub returns-in_default : goal.returns-in_default
+returns-in_default c = refused_as _ _ _ _ c.refuse.ensures (one_ends (is k.PrefixName) namespace_of _ c.in_default.ensures)
+
+pub returns-in-Some-Ok : goal.returns-in-Some-Ok
+returns-in-Some-Ok c = one_some (is k.PrefixName) namespace_of _ _ _ c.in-Some.ensures _ (ap Some (sym c.in-Some-Ok.field-0-is) ∙ sym c.in-Some-Ok.is ∙ c.in_ok-prefix.ensures)
+
+pub returns-in-Some-Err : goal.returns-in-Some-Err
+returns-in-Some-Err c = refused_as _ _ _ _ c.refuse-in-Some-Err.ensures (one_some (is k.PrefixName) namespace_of _ _ _ c.in-Some.ensures _ (ap Some (sym c.in-Some-Err.field-0-is) ∙ sym c.in-Some-Err.is ∙ c.in_ok-prefix.ensures))
+
+pub returns-in-None : goal.returns-in-None
+returns-in-None c = refused_as _ _ _ _ c.refuse-in-None.ensures (one_none (is k.PrefixName) namespace_of _ _ _ c.in-Some.ensures (sym c.in-None.is ∙ c.in_ok-prefix.ensures))
