@@ -3,4 +3,4 @@
 
 pub mod batches;
 pub mod runs;
-mod values;
+pub mod values;

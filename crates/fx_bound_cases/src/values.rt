@@ -59,8 +59,8 @@ fn located_text(alloc: Global, all: &[Located]) -> Option<String> {
     Some(text)
 }
 
-// The name of a fault, with its row where it has one. Gives nothing for want of memory.
-fn error_text(alloc: Global, error: ValuesError) -> Option<String> {
+/// The name of a fault, with its row where it has one. Gives nothing for want of memory.
+pub fn error_text(alloc: Global, error: ValuesError) -> Option<String> {
     match error {
         ValuesError::NotTable => shown::word(alloc, "NotTable"),
         ValuesError::Foreign { row } => format!(in alloc; "Foreign at {row}").ok(),
@@ -70,7 +70,8 @@ fn error_text(alloc: Global, error: ValuesError) -> Option<String> {
     }
 }
 
-fn batch_of(alloc: Global, run: &str, rows: &str) -> Option<Boxed<ValuesBatch>> {
+/// The batch of rows of a unit, as one VALUES block.
+pub fn batch_of(alloc: Global, run: &str, rows: &str) -> Option<Boxed<ValuesBatch>> {
     let unit = unit_of(alloc, run)?;
     let rows = rows_of(alloc, rows)?;
     batch_by(alloc, unit.get(), rows.as_slice())

@@ -1,4 +1,6 @@
 pub mod BatchLemmas
+pub mod FormLemmas
+pub mod ShareLemmas
 pub mod MemberLemmas
 pub mod MembersLemmas
 pub mod AskLemmas

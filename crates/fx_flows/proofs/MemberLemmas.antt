@@ -14,11 +14,12 @@ use Rattle.fx_http.specs.declared.replies.ReplyError.TheVariants.{TooLong}
 use Rattle.fx_wire.specs.Exchanges.{Exchange, Seen, exchanged}
 use Rattle.fx_wire.specs.Honest.{IsHonest}
 use Rattle.fx_bound.specs.Answers.{numbers}
-use Rattle.fx_bound.specs.Parts.{IsBatch, Parts}
+use Rattle.fx_bound.specs.Parts.{Parts}
 use Rattle.fx_founds.specs.declared.founds.Found.{Found}
 use Rattle.fx_traffic.specs.Batches.{member_sent, text_for, text_sent, to_endpoint}
 use Rattle.fx_traffic.specs.Sent.{Sent, Sends}
 use Rattle.fx_flows.specs.Flows.{AskedMember, FoundBy, FoundIn, IsBadReplyTo, IsBatchCause, IsReadFor, IsShort, IsToldBy, Names, Passed}
+use Rattle.fx_flows.specs.Forms.{IsMadeIn, query_in}
 use Rattle.fx_pool.specs.Posting.{IsHonestAt, IsPosted, IsSent, exchanges_of, failures_of}
 use Rattle.fx_pool.specs.Reading.{carried_for, HasFault}
 use Rattle.fx_pool.specs.declared.faults.ReplyFault.TheVariants.{Http}
@@ -27,7 +28,7 @@ use Rattle.fx_flows.specs.declared.flows.FlowError.TheVariants as flow
 use Rattle.fx_pool.specs.declared.jobs.BadReply.{BadReply}
 use Rattle.fx_pool.specs.declared.posting.Posted.{Posted}
 use Rattle.fx_pool.specs.declared.posting.Posted.TheVariants as posted
-use Rattle.fx_flows.proofs.BatchLemmas.{found_told, honest_faultless, nothing_told, only_long, query_for}
+use Rattle.fx_flows.proofs.BatchLemmas.{found_told, honest_faultless, nothing_told, only_long}
 
 long_or_short : (n : ℕ) (b : Bool) → ltb 67108864 n ≡ b → (67108864 < n) ⊎ (n ≤ 67108864)
 long_or_short n true h = inl (ltb-true 67108864 n h)
@@ -42,7 +43,7 @@ counted_at_most alone s t iri n counted others is address = by (bytes_eq iri add
     by true e = let here : t.faults address ≡ s.faults address + n = subst (λ (a : List ℕ). t.faults a ≡ s.faults a + n) ((bytes_eq-Decides iri address).0 e) counted in omega (arith, here)
     by false e = let there : t.faults address ≡ s.faults address = others is address (λ same. let yes : bytes_eq iri address ≡ true = (bytes_eq-Decides iri address).1 (sym same) in cc) in omega (arith, there)
 
-module _ (alone : Bool) (es : List EndpointParts) (p : Parts) (at : ℕ) (e : EndpointParts) (found : slice_get es at ≡ Some e) (known : IsBatch p) where
+module _ (alone : Bool) (es : List EndpointParts) (p : Parts) (at : ℕ) (e : EndpointParts) (found : slice_get es at ≡ Some e) where
   member_text : (text : Option (List ℕ)) → text_for e p ≡ text → member_sent es p.unit p.rows at ≡ text_sent e text
   member_text text h = ap (to_endpoint p.unit p.rows) found ∙ ap (text_sent e) h
 
@@ -70,7 +71,7 @@ module _ (alone : Bool) (es : List EndpointParts) (p : Parts) (at : ℕ) (e : En
         cause = tt;
       }
 
-  module _ (s t : Seen) (text : List ℕ) (is : text_for e p ≡ Some text) (accepted : Accepted text (query_for e p)) where
+  module _ (s t : Seen) (text : List ℕ) (is : text_for e p ≡ Some text) (known : IsMadeIn e.values p) (accepted : Accepted text (query_in e.values p)) where
     abbrev wanted : Sent
     wanted = record { at = e; request = request_of e text }
 
@@ -114,7 +115,7 @@ module _ (alone : Bool) (es : List EndpointParts) (p : Parts) (at : ℕ) (e : En
         where
           pick : (67108864 < length bytes) ⊎ (length bytes ≤ 67108864) → (bad.why ≡ Http TooLong) × (67108864 < length bad.reply)
           pick (inl long) = (only_long e p bytes bad.why long h.fault, subst (λ (v : List ℕ). 67108864 < length v) (sym h.replied) long)
-          pick (inr short) = absurd (honest_faultless e p g request bytes text known (told_honest g told short) posts.whole posts.short accepted bad.why short h.fault)
+          pick (inr short) = absurd (honest_faultless p g request bytes text (told_honest g told short) posts.whole posts.short e.values known accepted bad.why short h.fault)
 
       replied : (result : Result (List Found) FlowError) → FoundIn (carried_for e p) p at request bytes result → AskedMember alone s t es p at result
       replied result h = record {
@@ -153,7 +154,7 @@ module _ (alone : Bool) (es : List EndpointParts) (p : Parts) (at : ℕ) (e : En
           faultless (Err why) k = tt
 
           read : (r : Result (List Found) FlowError) → FoundIn (carried_for e p) p at request bytes r → IfOk r (λ founds. (g : List Triple) → s.graph e.iri ≡ Some g → IsToldBy g p founds)
-          read (Ok founds) k = λ g told. found_told e p g request bytes text known (told_honest g told k.0.results.replied.0) posts.whole posts.short accepted founds k.0
+          read (Ok founds) k = λ g told. found_told p g request bytes text (told_honest g told k.0.results.replied.0) posts.whole posts.short e.values known accepted founds k.0
           read (Err why) k = tt
 
           named : (r : Result (List Found) FlowError) → FoundIn (carried_for e p) p at request bytes r → IfErr r (Names at)

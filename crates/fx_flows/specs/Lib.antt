@@ -1,4 +1,5 @@
 pub mod Flows
+pub mod Forms
 pub mod Parcels
 pub mod FlowLaw
 pub mod Lines

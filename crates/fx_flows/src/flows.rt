@@ -11,7 +11,8 @@ ghost use Rattle.fx_outside.specs.Endpoints.{is_sendable};
 ghost use Rattle.fx_flows.specs.Flows.{AskedBatch, AskedMember, AskedMembers, lists_in, rows_in};
 ghost use Rattle.fx_flows.specs.Flows as spec;
 ghost use Rattle.fx_flows.specs.Lines.{hand};
-ghost use Rattle.fx_pool.specs.Reading.{a_batch};
+ghost use Rattle.fx_flows.specs.Forms.{CanAsk, has_form};
+ghost use Rattle.fx_pool.specs.Reading.{carried_for};
 ghost use Rattle.fx_flows.specs.Followed.{CanFollow};
 ghost use Rattle.fx_flows.specs.RunFlows.{RunFlowedOver};
 ghost use Rattle.fx_steps.specs.Steps.{numbered};
@@ -21,19 +22,20 @@ ghost use Rattle.fx_traffic.specs.Gains.{seen};
 use crate::cutting::cut;
 use crate::flowing::flow_out;
 use crate::following::{Queue, Run, put_all};
+use crate::forms::{Forms, kind_for};
 use crate::gates::Gate;
 use crate::lines::{Line, Ticket, lined, waiting};
 use crate::parcels::RunShape;
 use crate::steps::Step;
 use crate::teams::{ask_rounds, waits_less_in_rounds};
 use fx_algebra::{Row, Solution, Unit};
-use fx_bound::{Batch, Found, batch_text, unite};
+use fx_bound::Found;
+use fx_founds::unite_rows;
 use fx_outside::Endpoint;
+use fx_pool::BadReply;
 use fx_pool::faults::ReadError;
 use fx_pool::posting::{Posted, post};
-use fx_pool::reading::read_found;
-use fx_pool::{BadReply, JobKind};
-use fx_terms::{Boxed, Items, Memory};
+use fx_terms::{Items, Memory};
 use fx_wire::Wire;
 use std::alloc::Global;
 use std::slice::from_ref;
@@ -288,19 +290,10 @@ pub(crate) fn ask_batch<W: Wire>(
     requires within { All (λ at. at < length endpoints.now) unit.now.members }
     ensures { AskedBatch W.counts_alone (W.seen wire.old) (W.seen wire.new) endpoints.now (record { unit = unit.now; rows = rows.now }) (rows_in result) }
 {
-    match boxed_batch(alloc, unit, rows) {
+    match Forms::of(alloc, endpoints, unit, rows) {
         Err(Memory) => Err(FlowError::Memory),
-        Ok(batch) => ask_for(alloc, wire, endpoints, batch.get(), unit.members.as_slice()),
+        Ok(forms) => ask_for(alloc, wire, endpoints, &forms, unit.members.as_slice()),
     }
-}
-
-/// The batch of rows of a unit.
-pub(crate) fn boxed_batch(alloc: Global, unit: &Unit, rows: &[Row]) -> Result<Boxed<Batch>, Memory>
-    requires fit { IsFit unit.now }
-    requires few { length rows.now ≤ 64 }
-    ensures { IfOk result (λ batch. batch ≡ record { unit = unit.now; rows = rows.now }) }
-{
-    Ok(Boxed::new(alloc, batch_text(alloc, unit, rows)?)?)
 }
 
 // What the members of a batch's unit have for it, united.
@@ -308,32 +301,31 @@ fn ask_for<W: Wire>(
     alloc: Global,
     wire: &mut W,
     endpoints: &[Endpoint],
-    batch: &Batch,
+    forms: &Forms<'_>,
     members: &[u32],
 ) -> Result<Vec<Row>, FlowError>
     requires sendable { All (λ e. is_sendable e ≡ true) endpoints.now }
-    requires within { All (λ at. at < length endpoints.now) members.now }
-    requires all { members.now ≡ batch.now.unit.members }
-    ensures { AskedBatch W.counts_alone (W.seen wire.old) (W.seen wire.new) endpoints.now batch.now (rows_in result) }
+    requires within { All (CanAsk endpoints.now forms.now) members.now }
+    requires all { members.now ≡ forms.now.parts.unit.members }
+    ensures { AskedBatch W.counts_alone (W.seen wire.old) (W.seen wire.new) endpoints.now forms.now.parts (rows_in result) }
 {
-    match ask_members(alloc, wire, endpoints, batch, members) {
+    match ask_members(alloc, wire, endpoints, forms, members) {
         Err(error) => Err(error),
-        Ok(lists) => united(alloc, batch, lists.as_slice()),
+        Ok(lists) => united(alloc, forms, lists.as_slice()),
     }
 }
 
 pub(crate) fn united(
     alloc: Global,
-    batch: &Batch,
+    forms: &Forms<'_>,
     lists: &[Items<Found>],
 ) -> Result<Vec<Row>, FlowError>
-    requires { All (λ list. All (λ f. Contains (numbers batch.now) f.branch) list) lists.now }
-    ensures step { (graphs : List (List TripleParts)) → IsSound graphs batch.now.unit → spec.AreToldOf graphs batch.now batch.now.unit.members lists.now
-        → IfOk result (λ rows. IsPermutation rows.items (step (union graphs) batch.now.unit batch.now.rows)) }
+    requires { All (λ list. All (λ f. Contains (numbers forms.now.parts) f.branch) list) lists.now }
+    ensures step { (graphs : List (List TripleParts)) → IsSound graphs forms.now.parts.unit → spec.AreToldOf graphs forms.now.parts forms.now.parts.unit.members lists.now
+        → IfOk result (λ rows. IsPermutation rows.items (step (union graphs) forms.now.parts.unit forms.now.parts.rows)) }
     ensures memory { IfErr result (λ e. e ≡ FlowError.Memory) }
 {
-    let _branches = batch.branches();
-    match unite(alloc, batch, lists) {
+    match unite_rows(alloc, forms.rows(), lists) {
         Ok(rows) => Ok(rows),
         Err(Memory) => Err(FlowError::Memory),
     }
@@ -344,16 +336,16 @@ pub(crate) fn ask_members<W: Wire>(
     alloc: Global,
     wire: &mut W,
     endpoints: &[Endpoint],
-    batch: &Batch,
+    forms: &Forms<'_>,
     members: &[u32],
 ) -> Result<Vec<Items<Found>>, FlowError>
     requires sendable { All (λ e. is_sendable e ≡ true) endpoints.now }
-    requires within { All (λ at. at < length endpoints.now) members.now }
-    ensures { AskedMembers W.counts_alone (W.seen wire.old) (W.seen wire.new) endpoints.now batch.now members.now (lists_in result) }
+    requires within { All (CanAsk endpoints.now forms.now) members.now }
+    ensures { AskedMembers W.counts_alone (W.seen wire.old) (W.seen wire.new) endpoints.now forms.now.parts members.now (lists_in result) }
 {
     let mut lists = Vec::new(alloc);
     for at in members {
-        match ask_member(alloc, wire, endpoints, batch, *at) {
+        match ask_member(alloc, wire, endpoints, forms, *at) {
             Err(error) => return Err(error),
             Ok(founds) => {
                 if lists.push(founds).is_err() {
@@ -365,25 +357,24 @@ pub(crate) fn ask_members<W: Wire>(
     Ok(lists)
 }
 
-// What a member has for the branches of a batch: nothing, where the batch has no text.
+// What a member has for the branches of a batch, which it is asked for in the form that it takes: nothing, where the batch has no text.
 fn ask_member<W: Wire>(
     alloc: Global,
     wire: &mut W,
     endpoints: &[Endpoint],
-    batch: &Batch,
+    forms: &Forms<'_>,
     at: u32,
 ) -> Result<Items<Found>, FlowError>
     requires sendable { All (λ e. is_sendable e ≡ true) endpoints.now }
-    requires within { at < length endpoints.now }
-    ensures { AskedMember W.counts_alone (W.seen wire.old) (W.seen wire.new) endpoints.now batch.now at result }
+    requires within { CanAsk endpoints.now forms.now at }
+    ensures { AskedMember W.counts_alone (W.seen wire.old) (W.seen wire.new) endpoints.now forms.now.parts at result }
 {
-    let _branches = batch.branches();
     let endpoint = &endpoints[at as usize];
-    match batch.text() {
+    match forms.text(endpoint) {
         None => Ok(Items::new(alloc)),
         Some(text) => match post(alloc, wire, endpoint, text) {
             Err(Memory) => Err(FlowError::Memory),
-            Ok(posted) => found_by(alloc, batch, at, posted),
+            Ok(posted) => found_by(alloc, forms, endpoint, at, posted),
         },
     }
 }
@@ -391,35 +382,39 @@ fn ask_member<W: Wire>(
 // What came of the text of a batch.
 fn found_by(
     alloc: Global,
-    batch: &Batch,
+    forms: &Forms<'_>,
+    endpoint: &Endpoint,
     at: u32,
     posted: Posted,
 ) -> Result<Items<Found>, FlowError>
-    ensures { spec.FoundBy (a_batch batch.now) batch.now at posted result }
+    requires { has_form forms.now endpoint.now ≡ true }
+    ensures { spec.FoundBy (carried_for endpoint.now forms.now.parts) forms.now.parts at posted result }
 {
     match posted {
         Posted::Failed => Err(FlowError::Member { at }),
         Posted::TooLong { length } => Err(FlowError::RequestTooLong { at, length }),
-        Posted::Replied { request, reply } => found_in(alloc, batch, at, request, reply),
+        Posted::Replied { request, reply } => found_in(alloc, forms, endpoint, at, request, reply),
     }
 }
 
 fn found_in(
     alloc: Global,
-    batch: &Batch,
+    forms: &Forms<'_>,
+    endpoint: &Endpoint,
     at: u32,
     request: Items<u8>,
     reply: Items<u8>,
 ) -> Result<Items<Found>, FlowError>
-    ensures { spec.FoundIn (a_batch batch.now) batch.now at request reply result }
+    requires { has_form forms.now endpoint.now ≡ true }
+    ensures { spec.FoundIn (carried_for endpoint.now forms.now.parts) forms.now.parts at request reply result }
 {
-    match read_found(alloc, reply.as_slice(), batch) {
+    match forms.read(alloc, endpoint, reply.as_slice()) {
         Ok(founds) => Ok(founds),
         Err(ReadError::Memory) => Err(FlowError::Memory),
         Err(ReadError::Bad(why)) => Err(FlowError::BadReply {
             at,
             bad: BadReply {
-                kind: JobKind::Batch,
+                kind: kind_for(endpoint),
                 request,
                 reply,
                 why,

@@ -5,6 +5,7 @@ mod cutting;
 mod flowing;
 pub mod flows;
 mod following;
+mod forms;
 mod gates;
 pub mod laws;
 pub mod lines;

@@ -5,13 +5,15 @@ ghost use Rattle.fx_outside.specs.Endpoints.{is_sendable};
 ghost use Rattle.fx_spelling.specs.Units.{IsFit};
 ghost use Rattle.fx_algebra.specs.declared.units.Row.{Row as RowParts};
 ghost use Rattle.fx_flows.specs.Flows.{lists_in, rows_in};
+ghost use Rattle.fx_flows.specs.Forms.{CanAsk};
 ghost use Rattle.fx_flows.specs.Teams.{AreListsOfBoth, BatchAskedOver, MembersAskedOver, StepAskedOver};
 ghost use Rattle.fx_traffic.specs.Gains.{seen};
 
 use crate::flowing::both;
-use crate::flows::{FlowError, ask_members, boxed_batch, is_none, united};
+use crate::flows::{FlowError, is_none, united};
+use crate::forms::{AsksMembers, Forms};
 use fx_algebra::{Row, Unit};
-use fx_bound::{Batch, Found};
+use fx_bound::Found;
 use fx_outside::Endpoint;
 use fx_terms::{Items, Memory};
 use fx_wire::Wire;
@@ -194,16 +196,9 @@ pub(crate) fn ask_batch_over<R: Threads + Wait + Sync, W: Wire + Send>(
     ensures { BatchAskedOver (seen W.Wire wires.old wires.new)
         endpoints.now (record { unit = unit.now; rows = rows.now }) (rows_in result) }
 {
-    match boxed_batch(*alloc, unit, rows) {
+    match Forms::of(*alloc, endpoints, unit, rows) {
         Err(Memory) => Err(FlowError::Memory),
-        Ok(batch) => ask_for_over(
-            rt,
-            alloc,
-            endpoints,
-            batch.get(),
-            unit.members.as_slice(),
-            wires,
-        ),
+        Ok(forms) => ask_for_over(rt, alloc, endpoints, &forms, unit.members.as_slice(), wires),
     }
 }
 
@@ -212,74 +207,79 @@ fn ask_for_over<R: Threads + Wait + Sync, W: Wire + Send>(
     rt: &R,
     alloc: &Global,
     endpoints: &[Endpoint],
-    batch: &Batch,
+    forms: &Forms<'_>,
     members: &[u32],
     wires: &mut [W],
 ) -> Result<Vec<Row>, FlowError>
     requires wired { 0 < length wires.old }
     requires sendable { All (λ e. is_sendable e ≡ true) endpoints.now }
-    requires within { All (λ at. at < length endpoints.now) members.now }
-    requires all { members.now ≡ batch.now.unit.members }
-    ensures { BatchAskedOver (seen W.Wire wires.old wires.new) endpoints.now batch.now (rows_in result) }
+    requires within { All (CanAsk endpoints.now forms.now) members.now }
+    requires all { members.now ≡ forms.now.parts.unit.members }
+    ensures { BatchAskedOver (seen W.Wire wires.old wires.new) endpoints.now forms.now.parts (rows_in result) }
 {
-    match ask_over(rt, alloc, endpoints, batch, members, wires) {
+    match ask_over(rt, alloc, endpoints, forms, members, wires) {
         Err(error) => Err(error),
-        Ok(lists) => united(*alloc, batch, lists.as_slice()),
+        Ok(lists) => united(*alloc, forms, lists.as_slice()),
     }
 }
 
 /// What members have for a batch, in their order: with half of the wires in a thread of its own, and so on down to one wire or one member. Each wire asks
 /// its members one after another, and ends with the first that has a fault.
-pub(crate) fn ask_over<R: Threads + Wait + Sync, W: Wire + Send>(
+pub(crate) fn ask_over<R: Threads + Wait + Sync, W: Wire + Send, F: AsksMembers + Sync>(
     rt: &R,
     alloc: &Global,
     endpoints: &[Endpoint],
-    batch: &Batch,
+    forms: &F,
     members: &[u32],
     wires: &mut [W],
 ) -> Result<Vec<Items<Found>>, FlowError>
     requires wired { 0 < length wires.old }
     requires sendable { All (λ e. is_sendable e ≡ true) endpoints.now }
-    requires within { All (λ at. at < length endpoints.now) members.now }
+    requires within { All (CanAsk endpoints.now (F.formed forms.now)) members.now }
     ensures { MembersAskedOver (seen W.Wire wires.old wires.new)
-        endpoints.now batch.now members.now (lists_in result) }
+        endpoints.now (F.formed forms.now).parts members.now (lists_in result) }
 {
     if wires.len() < 2 || members.len() < 2 {
-        return ask_members(*alloc, &mut wires[0], endpoints, batch, members);
+        return forms.ask_members(*alloc, &mut wires[0], endpoints, members);
     }
     let used = wires.len() - wires.len() / 2;
     let at = share_of(members.len(), wires.len(), used);
-    let (here, there) = parted(members, at, endpoints);
+    let (here, there) = parted(members, at, endpoints, forms);
     let (left, right) = wires.split_at_mut(used);
     let (ours, theirs) = join_mut(
         rt,
         &mut || -> Result<Vec<Items<Found>>, FlowError>
-            requires sync { IsSync R.row }
+            requires sync { IsSync R.row × IsSync F.row }
             requires wired { 0 < length left.now }
             requires sendable { All (λ e. is_sendable e ≡ true) endpoints.now }
-            requires within { All (λ at. at < length endpoints.now) here.now }
+            requires within { All (CanAsk endpoints.now (F.formed forms.now)) here.now }
             ensures { MembersAskedOver (seen W.Wire left.entry.now left.exit.now)
-                endpoints.entry.now batch.entry.now here.entry.now (lists_in result) }
-        { ask_over(rt, alloc, endpoints, batch, here, left) },
+                endpoints.entry.now (F.formed forms.entry.now).parts here.entry.now (lists_in result) }
+        { ask_over(rt, alloc, endpoints, forms, here, left) },
         &mut || -> Result<Vec<Items<Found>>, FlowError>
-            requires sync { IsSync R.row }
+            requires sync { IsSync R.row × IsSync F.row }
             requires wired { 0 < length right.now }
             requires sendable { All (λ e. is_sendable e ≡ true) endpoints.now }
-            requires within { All (λ at. at < length endpoints.now) there.now }
+            requires within { All (CanAsk endpoints.now (F.formed forms.now)) there.now }
             ensures { MembersAskedOver (seen W.Wire right.entry.now right.exit.now)
-                endpoints.entry.now batch.entry.now there.entry.now (lists_in result) }
-        { ask_over(rt, alloc, endpoints, batch, there, right) },
+                endpoints.entry.now (F.formed forms.entry.now).parts there.entry.now (lists_in result) }
+        { ask_over(rt, alloc, endpoints, forms, there, right) },
     );
     all_lists(ours, theirs)
 }
 
 // The first of these members, and the others.
-fn parted<'a>(members: &'a [u32], at: usize, _endpoints: &[Endpoint]) -> (&'a [u32], &'a [u32])
+fn parted<'a, F: AsksMembers>(
+    members: &'a [u32],
+    at: usize,
+    _endpoints: &[Endpoint],
+    _forms: &F,
+) -> (&'a [u32], &'a [u32])
     requires at { at ≤ length members.now }
-    requires within { All (λ at. at < length _endpoints.now) members.now }
+    requires within { All (CanAsk _endpoints.now (F.formed _forms.now)) members.now }
     ensures whole { members.now ≡ result.0.now ++ result.1.now }
-    ensures first { All (λ at. at < length _endpoints.now) result.0.now }
-    ensures others { All (λ at. at < length _endpoints.now) result.1.now }
+    ensures first { All (CanAsk _endpoints.now (F.formed _forms.now)) result.0.now }
+    ensures others { All (CanAsk _endpoints.now (F.formed _forms.now)) result.1.now }
 {
     members.split_at(at)
 }

@@ -33,7 +33,7 @@ use Rattle.fx_pool.specs.declared.jobs.JobReply.TheVariants as reply
 use Rattle.fx_pool.specs.declared.posting.Posted.{Posted}
 use Rattle.fx_pool.specs.declared.posting.Posted.TheVariants as posted
 use Rattle.fx_pool.proofs.AskJobLemmas.{IsReplied, bad_replied, no_table, none_found, too_long, truth_replied}
-use Rattle.fx_pool.proofs.FaultLemmas.{long_truth, truth_faultless}
+use Rattle.fx_pool.proofs.FaultLemmas.{long_fault, truth_faultless}
 use Rattle.fx_outcomes.specs.AskSteps.{IsForAsk, IsRefusal, job_of}
 use Rattle.fx_outcomes.specs.Asks.{HasProbeCause, IsAnsweredBy, IsAskRead, IsBadAsk}
 use Rattle.fx_outcomes.proofs.TruthLemmas.{honest_truth, same_truth}
@@ -104,7 +104,7 @@ module _ (es : List EndpointParts) (p : Probe) (own all : List Exchange) (more :
       }
         where
           only_long : (g : List Triple) → Tell wires d.endpoint.iri g → (67108864 < length k.bytes) ⊎ (length k.bytes ≤ 67108864) → (bad.why ≡ Http TooLong) × (67108864 < length bad.reply)
-          only_long g tell (inl long) = (long_truth k.bytes bad.why long k.told.fault, subst (λ (v : List ℕ). 67108864 < length v) (sym k.told.replied) long)
+          only_long g tell (inl long) = (long_fault an_ask k.bytes bad.why long k.told.fault, subst (λ (v : List ℕ). 67108864 < length v) (sym k.told.replied) long)
           only_long g tell (inr short) =
               let true_to = told_honest wires honest d.endpoint k.request k.bytes (here d.endpoint (λ request bytes. IsBadReply (job_of p).work request bytes bad) k) g tell short in
               absurd (truth_faultless k.bytes (fits p.key.pattern g) bad.why (honest_truth p.key.pattern g k.request k.bytes triple true_to k.posts.whole k.posts.short short) k.told.fault)

@@ -9,8 +9,10 @@ use Rattle.fx_results.specs.declared.faults.ShapeFault.{ShapeFault}
 use Rattle.fx_results.specs.declared.faults.ShapeFault.TheVariants as shape
 use Rattle.fx_bound.specs.declared.faults.BatchError.{BatchError}
 use Rattle.fx_bound.specs.declared.faults.BatchError.TheVariants as batch
+use Rattle.fx_values.specs.declared.faults.ValuesError.{ValuesError}
+use Rattle.fx_values.specs.declared.faults.ValuesError.TheVariants as values
 use Rattle.fx_pool.specs.declared.faults.ReplyFault.{ReplyFault}
-use Rattle.fx_pool.specs.declared.faults.ReplyFault.TheVariants.{Http, Results, Batch, NotTruth, NotTable, Foreign}
+use Rattle.fx_pool.specs.declared.faults.ReplyFault.TheVariants.{Http, Results, Batch, Values, NotTruth, NotTable, Foreign}
 
 abbrev pub http_words : ReplyError → List ℕ
 http_words reply.TooLong = codes "TooLong"
@@ -45,11 +47,19 @@ batch_words (batch.Mixed row) = codes "Mixed"
 batch_words (batch.Partial row) = codes "Partial"
 batch_words batch.Memory = codes "Memory"
 
+abbrev pub values_words : ValuesError → List ℕ
+values_words values.NotTable = codes "NotTable"
+values_words (values.Foreign row) = codes "Foreign"
+values_words (values.Partial row) = codes "Partial"
+values_words (values.Mixed row) = codes "Mixed"
+values_words values.Memory = codes "Memory"
+
 -- all but the number
 abbrev pub fault_words : ReplyFault → List ℕ
 fault_words (Http e) = http_words e
 fault_words (Results e) = results_words e
 fault_words (Batch e) = batch_words e
+fault_words (Values e) = values_words e
 fault_words NotTruth = codes "NotTruth"
 fault_words NotTable = codes "NotTable"
 fault_words (Foreign row) = codes "Foreign"

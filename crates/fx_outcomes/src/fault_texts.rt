@@ -6,6 +6,7 @@ use fx_bound::BatchError;
 use fx_http::ReplyError;
 use fx_pool::ReplyFault;
 use fx_results::{ResultsError, ShapeFault};
+use fx_values::ValuesError;
 
 /// The name of the fault, which is the innermost one without what it holds. Behind `Shape` stands the part that has not its shape; behind `Status`
 /// belongs the code, which `fault_code` tells.
@@ -16,6 +17,7 @@ pub fn fault_words(why: ReplyFault) -> &'static str
         ReplyFault::Http(error) => http_words(error),
         ReplyFault::Results(error) => results_words(error),
         ReplyFault::Batch(error) => batch_words(error),
+        ReplyFault::Values(error) => values_words(error),
         ReplyFault::NotTruth => "NotTruth",
         ReplyFault::NotTable => "NotTable",
         ReplyFault::Foreign { row: _ } => "Foreign",
@@ -82,5 +84,17 @@ fn batch_words(error: BatchError) -> &'static str
         BatchError::Mixed { row: _ } => "Mixed",
         BatchError::Partial { row: _ } => "Partial",
         BatchError::Memory => "Memory",
+    }
+}
+
+fn values_words(error: ValuesError) -> &'static str
+    ensures { result.now ≡ texts.values_words error }
+{
+    match error {
+        ValuesError::NotTable => "NotTable",
+        ValuesError::Foreign { row: _ } => "Foreign",
+        ValuesError::Partial { row: _ } => "Partial",
+        ValuesError::Mixed { row: _ } => "Mixed",
+        ValuesError::Memory => "Memory",
     }
 }

@@ -27,6 +27,7 @@ failure_is w (posted.Replied request bytes) (reply.Table rows) h = refl
 failure_is (work.Ask text) (posted.Replied request bytes) reply.Failed h = absurd h
 failure_is w (posted.Replied request bytes) (reply.Found founds) h = refl
 failure_is (work.Batch batch) (posted.Replied request bytes) reply.Failed h = absurd h
+failure_is (work.Values batch) (posted.Replied request bytes) reply.Failed h = absurd h
 failure_is (work.Service text columns) (posted.Replied request bytes) reply.Failed h = absurd h
 failure_is w (posted.Replied request bytes) (reply.Bad bad) h = refl
 failure_is w (posted.Replied request bytes) (reply.TooLong size) h = refl

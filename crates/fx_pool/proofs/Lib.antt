@@ -11,5 +11,6 @@ pub mod BesideLemmas
 pub mod OrderLemmas
 pub mod HonestLemmas
 pub mod FaultLemmas
+pub mod LocatedLemmas
 pub mod AskJobLemmas
 pub mod WiresLemmas

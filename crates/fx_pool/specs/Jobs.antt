@@ -2,12 +2,13 @@
 use Rattle.std.specs.Prelude.{◌≡◌, ℕ, ◌+◌, ◌++◌, Bool, false, List, [], ◌∷◌, Option, Some, None, bytes_eq, cond, slice_get}
 use Rattle.fx_outside.specs.Endpoints.{EndpointParts}
 use Rattle.fx_bound.specs.Parts as batch
+use Rattle.fx_values.specs.Parts as values
 use Rattle.fx_http.specs.Requests.{request_of}
 use Rattle.fx_traffic.specs.Sent.{Sent}
 use Rattle.fx_wire.specs.Exchanges.{Exchange}
 use Rattle.fx_algebra.specs.declared.answers.Answer.TheVariants as answer
 use Rattle.fx_pool.specs.Posting.{IsPosted, exchanges_of}
-use Rattle.fx_pool.specs.Reading.{Carried, an_ask, a_batch, a_service, HasFault, HasFound, HasResults, HasTable}
+use Rattle.fx_pool.specs.Reading.{Carried, an_ask, a_batch, a_values, a_service, HasFault, HasFound, HasResults, HasTable}
 use Rattle.fx_pool.specs.declared.jobs.BadReply.{BadReply}
 use Rattle.fx_pool.specs.declared.jobs.Job.{Job}
 use Rattle.fx_pool.specs.declared.jobs.JobKind.{JobKind}
@@ -21,7 +22,7 @@ use Rattle.fx_pool.specs.declared.posting.Posted.TheVariants as posted
 
 -- ---- what is asked
 
--- a batch without a branch has none, and isn't one to ask for
+-- a batch without a branch, or without a row in its block, has none, and isn't one to ask for
 abbrev pub or_nothing : Option (List ℕ) → List ℕ
 or_nothing (Some text) = text
 or_nothing None = []
@@ -29,18 +30,21 @@ or_nothing None = []
 abbrev pub text_of : Work → List ℕ
 text_of (work.Ask text) = text
 text_of (work.Batch b) = or_nothing (batch.text_of b)
+text_of (work.Values b) = or_nothing (values.text_of b)
 text_of (work.Service text columns) = text
 
 -- what the request carries
 abbrev pub carried_by : Work → Carried
 carried_by (work.Ask text) = an_ask
 carried_by (work.Batch b) = a_batch b
+carried_by (work.Values b) = a_values b
 carried_by (work.Service text columns) = a_service columns
 
 -- and by that its kind
 abbrev pub kind_by : Carried → JobKind
 kind_by an_ask = kind.Ask
 kind_by (a_batch b) = kind.Batch
+kind_by (a_values b) = kind.Values
 kind_by (a_service columns) = kind.Service
 
 abbrev pub kind_of : Work → JobKind
@@ -58,6 +62,7 @@ pub record IsBadReply (w : Work) (request bytes : List ℕ) (bad : BadReply) : T
 abbrev pub Tells : Work → List ℕ → List ℕ → JobReply → Type 0
 Tells (work.Ask text) request bytes (reply.Truth truth) = HasResults bytes (answer.Truth truth)
 Tells (work.Batch b) request bytes (reply.Found founds) = HasFound (a_batch b) bytes founds
+Tells (work.Values b) request bytes (reply.Found founds) = HasFound (a_values b) bytes founds
 Tells (work.Service text columns) request bytes (reply.Table rows) = HasTable bytes columns rows
 Tells w request bytes (reply.Bad bad) = IsBadReply w request bytes bad
 Tells w request bytes r = ⊥

@@ -1,5 +1,5 @@
 -- What a reply tells of what its request carries, or its first fault.
-use Rattle.std.specs.Prelude.{◌≡◌, ℕ, Bool, not, List, Some, None, Result, Ok, Err, position}
+use Rattle.std.specs.Prelude.{◌≡◌, ℕ, Bool, true, false, not, List, map, Some, None, Result, Ok, Err, position}
 use Rattle.std.specs.List.{list_any}
 use Rattle.fx_outside.specs.Endpoints.{EndpointParts}
 use Rattle.fx_algebra.specs.Scopes.{is_among}
@@ -13,22 +13,36 @@ use Rattle.fx_bound.specs.declared.faults.BatchError.TheVariants as batch
 use Rattle.fx_founds.specs.declared.founds.Found.{Found}
 use Rattle.fx_http.specs.Replies.{Replies}
 use Rattle.fx_results.specs.Reading.{read_results}
+use Rattle.fx_traffic.specs.Batches.{block_of}
 use Rattle.fx_results.specs.declared.faults.ResultsError.{ResultsError}
 use Rattle.fx_results.specs.declared.faults.ResultsError.TheVariants as results
+use Rattle.fx_values.specs.Answers.{read_answer as read_values}
+use Rattle.fx_values.specs.Parts.{Parts as ValuesParts}
+use Rattle.fx_values.specs.Reading.{found_of}
+use Rattle.fx_values.specs.declared.faults.ValuesError.{ValuesError}
+use Rattle.fx_values.specs.declared.faults.ValuesError.TheVariants as values
+use Rattle.fx_values.specs.declared.located.Located.{Located}
 use Rattle.fx_pool.specs.declared.faults.ReplyFault.{ReplyFault}
 use Rattle.fx_pool.specs.declared.faults.ReplyFault.TheVariants as fault
 use Rattle.fx_pool.specs.declared.faults.ReadError.{ReadError}
 use Rattle.fx_pool.specs.declared.faults.ReadError.TheVariants.{Bad, Memory}
 
--- What a request carries: an ASK, a batch of a unit's rows, or the text of a SERVICE with these columns.
+-- What a request carries: an ASK, a batch of a unit's rows, each in a branch or all in one VALUES block, or the text of a SERVICE with these
+-- columns.
 pub data Carried : Type 0 where
   an_ask : Carried
   a_batch : Parts → Carried
+  a_values : ValuesParts → Carried
   a_service : List (List ℕ) → Carried
 
--- Of a batch it is what the endpoint is asked for. Each endpoint takes the same form.
+-- a batch as one VALUES block, or with a branch for each row
+abbrev pub carried_in : Bool → Parts → Carried
+carried_in true p = a_values (block_of p)
+carried_in false p = a_batch p
+
+-- Of a batch it is what the endpoint is asked for, in the form that it takes.
 abbrev pub carried_for : EndpointParts → Parts → Carried
-carried_for e p = a_batch p
+carried_for e p = carried_in e.values p
 
 -- ---- results
 
@@ -63,11 +77,17 @@ abbrev pub IsBatchFault : BatchError → Type 0
 IsBatchFault batch.Memory = ⊥
 IsBatchFault e = Unit {0}
 
--- the results are not what was asked for: a table for an ASK; of a batch what `read_answer` says; of a SERVICE a truth value, or the first row that binds a name that
--- wasn't asked for
+-- so it is of an answer to a VALUES block
+abbrev pub IsValuesFault : ValuesError → Type 0
+IsValuesFault values.Memory = ⊥
+IsValuesFault e = Unit {0}
+
+-- the results are not what was asked for: a table for an ASK; of a batch what `read_answer` of its form says; of a SERVICE a truth value, or the first row that binds
+-- a name that wasn't asked for
 abbrev pub IsUnfit : Carried → Answer → ReplyFault → Type 0
 IsUnfit an_ask (Table columns rows) fault.NotTruth = Unit {0}
 IsUnfit (a_batch parts) told (fault.Batch why) = (read_answer parts told ≡ Err why) × IsBatchFault why
+IsUnfit (a_values parts) told (fault.Values why) = (read_values parts told ≡ Err why) × IsValuesFault why
 IsUnfit (a_service columns) (Truth truth) fault.NotTable = Unit {0}
 IsUnfit (a_service columns) (Table told rows) (fault.Foreign row) = position (is_foreign columns) rows ≡ Some row
 IsUnfit carried told why = ⊥
@@ -85,10 +105,17 @@ HasFault carried reply why = HasUnfit carried reply why
 
 -- ---- what reading gives
 
+-- what the results tell of the rows of a VALUES block, as what was found for branches
+pub record AreLocated (parts : ValuesParts) (told : Answer) (founds : List Found) : Type 0 where
+  pub all : List Located
+  pub read : read_values parts told ≡ Ok all
+  pub found : founds ≡ map found_of all
+
 -- what the results tell of the branches of a batch
 abbrev pub IsFoundIn : Carried → Answer → List Found → Type 0
 IsFoundIn an_ask told founds = ⊥
 IsFoundIn (a_batch parts) told founds = read_answer parts told ≡ Ok founds
+IsFoundIn (a_values parts) told founds = AreLocated parts told founds
 IsFoundIn (a_service columns) told founds = ⊥
 
 -- what is found for the branches of a batch
@@ -120,6 +147,11 @@ abbrev pub GivesFound : List ℕ → Parts → Result (List Found) ReadError →
 GivesFound reply parts (Ok founds) = HasFound (a_batch parts) reply founds
 GivesFound reply parts (Err (Bad why)) = HasFault (a_batch parts) reply why
 GivesFound reply parts (Err Memory) = Unit {0}
+
+abbrev pub GivesLocated : List ℕ → ValuesParts → Result (List Found) ReadError → Type 0
+GivesLocated reply parts (Ok founds) = HasFound (a_values parts) reply founds
+GivesLocated reply parts (Err (Bad why)) = HasFault (a_values parts) reply why
+GivesLocated reply parts (Err Memory) = Unit {0}
 
 abbrev pub GivesTable : List ℕ → List (List ℕ) → Result (List Bindings) ReadError → Type 0
 GivesTable reply columns (Ok rows) = HasTable reply columns rows

@@ -3,6 +3,7 @@
 use fx_bound::BatchError;
 use fx_http::ReplyError;
 use fx_results::ResultsError;
+use fx_values::ValuesError;
 
 /// Why a reply is bad: the first of these that applies.
 #[derive(Clone, Copy, PartialEq, Eq)]
@@ -13,6 +14,8 @@ pub enum ReplyFault {
     Results(ResultsError),
     /// Its results are none of a batch, for this reason, which is never want of memory.
     Batch(BatchError),
+    /// Its results are none of a batch that was asked for as VALUES, for this reason, which is never want of memory.
+    Values(ValuesError),
     /// Its results are a table, where a truth value was asked for.
     NotTruth,
     /// Its results are a truth value, where the rows of a SERVICE were asked for.

@@ -5,6 +5,7 @@ use crate::faults::ReplyFault;
 use fx_algebra::Solution;
 use fx_bound::{Batch, Found};
 use fx_terms::{Boxed, Items, Name};
+use fx_values::ValuesBatch;
 use std::marker::Model;
 
 /// The text of a request. Contracts see its bytes.
@@ -55,6 +56,10 @@ pub enum Work {
     Batch {
         batch: Boxed<Batch>,
     },
+    /// So it is of a batch whose rows stand in one VALUES block. One without a row has no text, and isn't one to ask for.
+    Values {
+        batch: Boxed<ValuesBatch>,
+    },
     /// The rows of a SERVICE that asks for these columns.
     Service {
         text: RequestText,
@@ -67,6 +72,7 @@ pub enum Work {
 pub enum JobKind {
     Ask,
     Batch,
+    Values,
     Service,
 }
 
@@ -115,6 +121,7 @@ impl Work {
         match self {
             Work::Ask { text } => text.as_str(),
             Work::Batch { batch } => batch.get().text().unwrap_or(""),
+            Work::Values { batch } => batch.get().text().unwrap_or(""),
             Work::Service { text, columns: _ } => text.as_str(),
         }
     }
@@ -126,6 +133,7 @@ impl Work {
         match self {
             Work::Ask { text: _ } => JobKind::Ask,
             Work::Batch { batch: _ } => JobKind::Batch,
+            Work::Values { batch: _ } => JobKind::Values,
             Work::Service { .. } => JobKind::Service,
         }
     }

@@ -1,7 +1,9 @@
 //! What replies tell.
-ghost use Rattle.std.specs.Prelude.{◌≡◌, All, Contains, IfOk, position};
+ghost use Rattle.std.specs.Prelude.{◌≡◌, All, Contains, IfErr, IfOk, map, position};
 ghost use Rattle.fx_bound.specs.Answers.{numbers};
 ghost use Rattle.fx_pool.specs.Reading as spec;
+ghost use Rattle.fx_values.specs.Answers as values;
+ghost use Rattle.fx_values.specs.Reading.{found_of as found_in};
 
 use crate::faults::{ReadError, ReplyFault};
 use fx_algebra::scopes::is_among;
@@ -9,7 +11,8 @@ use fx_algebra::{Answer, Solution};
 use fx_bound::{Batch, BatchError, Found, read_batch};
 use fx_http::{ReplyError, read_reply};
 use fx_results::{ResultsError, read};
-use fx_terms::{Items, Name};
+use fx_terms::{Items, Memory, Name};
+use fx_values::{Located, ValuesBatch, ValuesError, read_values};
 use std::alloc::Global;
 
 /// The truth value that a reply to an ASK is, or its first fault.
@@ -54,6 +57,55 @@ pub fn read_found(alloc: Global, reply: &[u8], batch: &Batch) -> Result<Items<Fo
         },
         Err(error) => Err(error),
     }
+}
+
+/// What is found for the rows of a batch by the reply to its VALUES block, or its first fault.
+pub fn read_located(
+    alloc: Global,
+    reply: &[u8],
+    batch: &ValuesBatch,
+) -> Result<Items<Found>, ReadError>
+    ensures found { spec.GivesLocated reply.now batch.now result }
+    ensures rows { IfOk result (λ founds. All (λ f. Contains (values.numbers batch.now) f.branch) founds) }
+{
+    match results_of(alloc, reply) {
+        Ok(answer) => match read_values(alloc, batch, &answer) {
+            Ok(all) => founds_of(alloc, all.as_slice()),
+            Err(ValuesError::Memory) => Err(ReadError::Memory),
+            Err(why) => Err(ReadError::Bad(ReplyFault::Values(why))),
+        },
+        Err(error) => Err(error),
+    }
+}
+
+// Located rows as what was found for the branches of their numbers.
+fn founds_of(alloc: Global, all: &[Located]) -> Result<Items<Found>, ReadError>
+    ensures founds { IfOk result (λ founds. founds ≡ map found_in all.now) }
+    ensures memory { IfErr result (λ e. e ≡ ReadError.Memory) }
+{
+    match copied(alloc, all) {
+        Ok(founds) => Ok(founds),
+        Err(Memory) => Err(ReadError::Memory),
+    }
+}
+
+fn copied(alloc: Global, all: &[Located]) -> Result<Items<Found>, Memory>
+    ensures { IfOk result (λ founds. founds ≡ map found_in all.now) }
+{
+    let mut founds = Items::new(alloc);
+    for located in all {
+        founds.push(found_of(alloc, located)?)?;
+    }
+    Ok(founds)
+}
+
+fn found_of(alloc: Global, located: &Located) -> Result<Found, Memory>
+    ensures { IfOk result (λ found. found ≡ found_in located.now) }
+{
+    Ok(Found {
+        branch: located.row,
+        solution: located.solution.copy(alloc)?,
+    })
 }
 
 // The results of a reply, or why there are none.

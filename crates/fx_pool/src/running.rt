@@ -4,18 +4,19 @@ ghost use Rattle.fx_outside.specs.Endpoints.{is_sendable};
 ghost use Rattle.fx_pool.specs.Jobs.{IsReplyTo, Tells};
 ghost use Rattle.fx_pool.specs.Runs.{WireDid, WiresDidOver, all_replies, one_reply};
 ghost use Rattle.fx_traffic.specs.Gains.{seen};
-ghost use Rattle.fx_pool.specs.Telling.{GivesFoundReply, GivesTableReply, GivesTold, GivesTruthReply};
+ghost use Rattle.fx_pool.specs.Telling.{GivesFoundReply, GivesLocatedReply, GivesTableReply, GivesTold, GivesTruthReply};
 
 use crate::claims::{known, opened};
 use crate::faults::ReadError;
 use crate::jobs::{BadReply, Job, JobReply, Work};
 use crate::ordering::in_order;
 use crate::posting::{Posted, post};
-use crate::reading::{read_found, read_table, read_truth};
+use crate::reading::{read_found, read_located, read_table, read_truth};
 use crate::sharing::share;
 use fx_bound::Batch;
 use fx_outside::Endpoint;
 use fx_terms::{Items, Memory, Name};
+use fx_values::ValuesBatch;
 use fx_wire::Wire;
 use std::alloc::Global;
 use std::sync::Wait;
@@ -122,6 +123,7 @@ fn read_as(alloc: Global, work: &Work, reply: &[u8]) -> Result<JobReply, ReadErr
     match work {
         Work::Ask { text: _ } => truth_of(alloc, reply),
         Work::Batch { batch } => found_of(alloc, reply, batch.get()),
+        Work::Values { batch } => located_of(alloc, reply, batch.get()),
         Work::Service { text: _, columns } => table_of(alloc, reply, columns.as_slice()),
     }
 }
@@ -139,6 +141,15 @@ fn found_of(alloc: Global, reply: &[u8], batch: &Batch) -> Result<JobReply, Read
     ensures { GivesFoundReply reply.now batch.now result }
 {
     match read_found(alloc, reply, batch) {
+        Ok(founds) => Ok(JobReply::Found(founds)),
+        Err(error) => Err(error),
+    }
+}
+
+fn located_of(alloc: Global, reply: &[u8], batch: &ValuesBatch) -> Result<JobReply, ReadError>
+    ensures { GivesLocatedReply reply.now batch.now result }
+{
+    match read_located(alloc, reply, batch) {
         Ok(founds) => Ok(JobReply::Found(founds)),
         Err(error) => Err(error),
     }

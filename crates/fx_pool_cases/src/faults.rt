@@ -1,6 +1,6 @@
 //! Why a reply is bad, as a text.
 
-use fx_bound_cases::batches::error_text;
+use fx_bound_cases::{batches, values};
 use fx_http::ReplyError;
 use fx_notation::shown;
 use fx_pool::ReplyFault;
@@ -12,8 +12,12 @@ pub(crate) fn fault_text(alloc: Global, why: ReplyFault) -> Option<String> {
         ReplyFault::Http(error) => http_text(alloc, error),
         ReplyFault::Results(error) => format!(in alloc; "Results {error:?}").ok(),
         ReplyFault::Batch(error) => {
-            let error = error_text(alloc, error)?;
+            let error = batches::error_text(alloc, error)?;
             format!(in alloc; "Batch {error}").ok()
+        }
+        ReplyFault::Values(error) => {
+            let error = values::error_text(alloc, error)?;
+            format!(in alloc; "Values {error}").ok()
         }
         ReplyFault::NotTruth => shown::word(alloc, "NotTruth"),
         ReplyFault::NotTable => shown::word(alloc, "NotTable"),

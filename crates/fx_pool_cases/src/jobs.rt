@@ -7,6 +7,7 @@ use crate::checks::{are_sendable, are_within};
 use crate::faults::fault_text;
 use crate::{flows, sides};
 use fx_bound_cases::batches::{batch_of, founds_text};
+use fx_bound_cases::values;
 use fx_notation::{fields, notation, shown};
 use fx_outside::Endpoint;
 use fx_pool::{BadReply, Job, JobKind, JobReply, RequestText, Work, run_jobs};
@@ -132,6 +133,7 @@ fn work_of(alloc: Global, kind: &str, asked: &str) -> Option<Work> {
         "service" => service_of(alloc, asked),
         "spaces" => spaces_of(alloc, asked),
         "batch" => batch_work(alloc, asked),
+        "values" => values_work(alloc, asked),
         _ => None,
     }
 }
@@ -165,6 +167,12 @@ fn batch_work(alloc: Global, asked: &str) -> Option<Work> {
     let (run, rows) = asked.split_once(" | ")?;
     let batch = batch_of(alloc, run, rows)?;
     Some(Work::Batch { batch })
+}
+
+fn values_work(alloc: Global, asked: &str) -> Option<Work> {
+    let (run, rows) = asked.split_once(" | ")?;
+    let batch = values::batch_of(alloc, run, rows)?;
+    Some(Work::Values { batch })
 }
 
 // ---- what came of them
@@ -207,6 +215,7 @@ fn kind_text(kind: JobKind) -> &'static str {
     match kind {
         JobKind::Ask => "Ask",
         JobKind::Batch => "Batch",
+        JobKind::Values => "Values",
         JobKind::Service => "Service",
     }
 }

@@ -1,5 +1,5 @@
 -- The rows that an honest reply to the text of a SERVICE tells.
-use Rattle.std.proofs.Common.{◌≡◌, ◌∙◌, ap, sym, subst, refl, ℕ, ◌<◌, ◌≤◌, Bool, true, false, ◌||◌, not, cond, get_or, List, [], ◌∷◌, map, length, None, Some, Ok, Err, is_some, Contains, IsPermutation, arith}
+use Rattle.std.proofs.Common.{◌≡◌, ◌∙◌, ap, sym, subst, refl, ℕ, ◌<◌, ◌≤◌, Bool, true, false, ◌||◌, not, cond, get_or, List, [], ◌∷◌, map, length, None, Some, is_some, Contains, IsPermutation}
 use Rattle.std.specs.Prelude.{position}
 use Rattle.std.specs.List.{AllByRecursion, list_any}
 use Rattle.std.specs.declared.cmp.Ordering.{Ordering}
@@ -21,20 +21,15 @@ use Rattle.fx_algebra.specs.declared.answers.Answer.TheVariants.{Table, Truth}
 use Rattle.fx_algebra.specs.declared.queries.Group.{Group}
 use Rattle.fx_algebra.proofs.CutLemmas.{has_the_names}
 use Rattle.fx_bound.proofs.NamingLemmas.{among_once}
-use Rattle.fx_http.specs.Answers.{IsOrMemory}
-use Rattle.fx_http.specs.Replies.{Replies}
 use Rattle.fx_http.specs.Requests.{IsRequest}
-use Rattle.fx_http.specs.declared.replies.ReplyError.{ReplyError}
 use Rattle.fx_http.specs.declared.replies.ReplyError.TheVariants as http
-use Rattle.fx_http.proofs.ReplyLaws.{only_answer, reply_unique}
 use Rattle.fx_results.specs.Meanings.{SameAnswer}
-use Rattle.fx_results.specs.Reading.{read_results}
 use Rattle.fx_traffic.specs.Traffic.{service_query}
 use Rattle.fx_wire.specs.Honest.{IsHonest}
-use Rattle.fx_pool.specs.Reading.{a_service, HasFault, HasResults, HasTable, HasUnfit, IsUnfit, is_foreign}
+use Rattle.fx_pool.specs.Reading.{a_service, HasFault, HasResults, HasTable, IsUnfit, is_foreign}
 use Rattle.fx_pool.specs.declared.faults.ReplyFault.{ReplyFault}
 use Rattle.fx_pool.specs.declared.faults.ReplyFault.TheVariants as fault
-use Rattle.fx_pool.proofs.FaultLemmas.{same_results}
+use Rattle.fx_pool.proofs.FaultLemmas.{faultless_by, long_fault}
 use Rattle.fx_pool.proofs.HonestLemmas.{honest_results}
 use Rattle.fx_walks.specs.Served.{Served, group_in}
 use Rattle.fx_services.specs.ServicesAsked.{AreRowsOver, IsServable, service_text}
@@ -145,31 +140,9 @@ none_foreign columns rows h row is =
     let foreign : is_foreign columns (get_or rows row []) ≡ true = k.1 in
     cc
 
--- bytes that are refused aren't read
-refused_unread : (bytes : List ℕ) (e : ReplyError) (body : List ℕ) → Replies bytes (Err e) → Replies bytes (Ok body) → ⊥
-refused_unread bytes http.TooLong body h k = let short : length bytes ≤ 67108864 = k.0 in let long : 67108864 < length bytes = h in absurd (omega (arith, short, long))
-refused_unread bytes http.Head body h k = let same : IsOrMemory (Err http.Head) (Ok body) = only_answer bytes (Err http.Head) h (Ok body) k in cc
-refused_unread bytes (http.Status code) body h k = let same : IsOrMemory (Err (http.Status code)) (Ok body) = only_answer bytes (Err (http.Status code)) h (Ok body) k in cc
-refused_unread bytes http.Coding body h k = let same : IsOrMemory (Err http.Coding) (Ok body) = only_answer bytes (Err http.Coding) h (Ok body) k in cc
-refused_unread bytes http.ContentType body h k = let same : IsOrMemory (Err http.ContentType) (Ok body) = only_answer bytes (Err http.ContentType) h (Ok body) k in cc
-refused_unread bytes http.Length body h k = let same : IsOrMemory (Err http.Length) (Ok body) = only_answer bytes (Err http.Length) h (Ok body) k in cc
-refused_unread bytes http.Chunk body h k = let same : IsOrMemory (Err http.Chunk) (Ok body) = only_answer bytes (Err http.Chunk) h (Ok body) k in cc
-refused_unread bytes http.Memory body h k = absurd h.1
-
 -- a reply that is too long has no other fault
-long_unfit : (columns : List (List ℕ)) (bytes : List ℕ) (why : ReplyFault) → 67108864 < length bytes → HasUnfit (a_service columns) bytes why → ⊥
-long_unfit columns bytes why l h = let short : length bytes ≤ 67108864 = h.results.replied.0 in absurd (omega (arith, l, short))
-
 pub long_service : (columns : List (List ℕ)) (bytes : List ℕ) (why : ReplyFault) → 67108864 < length bytes → HasFault (a_service columns) bytes why → why ≡ fault.Http http.TooLong
-long_service columns bytes (fault.Http e) l h =
-    let one : Err http.TooLong ≡ Err e = only_answer bytes (Err http.TooLong) l (Err e) h in
-    let same : e ≡ http.TooLong = cc in
-    ap fault.Http same
-long_service columns bytes (fault.Results e) l h = let short : length bytes ≤ 67108864 = h.replied.0 in absurd (omega (arith, l, short))
-long_service columns bytes (fault.Batch e) l h = absurd (long_unfit columns bytes (fault.Batch e) l h)
-long_service columns bytes fault.NotTruth l h = absurd (long_unfit columns bytes fault.NotTruth l h)
-long_service columns bytes fault.NotTable l h = absurd (long_unfit columns bytes fault.NotTable l h)
-long_service columns bytes (fault.Foreign row) l h = absurd (long_unfit columns bytes (fault.Foreign row) l h)
+long_service columns bytes why l h = long_fault (a_service columns) bytes why l h
 
 -- ---- an honest reply that isn't too long has no fault
 
@@ -185,24 +158,14 @@ module _ (g : Group) (graph : List Triple) where
   none_unfit (Table columns rows) (fault.Http e) same u = u
   none_unfit (Table columns rows) (fault.Results e) same u = u
   none_unfit (Table columns rows) (fault.Batch e) same u = u
+  none_unfit (Table columns rows) (fault.Values e) same u = u
   none_unfit (Table columns rows) fault.NotTruth same u = u
   none_unfit (Table columns rows) fault.NotTable same u = u
   none_unfit (Table columns rows) (fault.Foreign row) same u = none_foreign (scope g) rows (within rows same.1) row u
 
   module _ (bytes : List ℕ) (told : Answer) (results : HasResults bytes told) (same : SameAnswer told (answer_alone (service_query g) graph)) where
-    fits : (why : ReplyFault) → HasUnfit (a_service (scope g)) bytes why → ⊥
-    fits why h = none_unfit h.told why (subst (λ (v : Answer). SameAnswer v (answer_alone (service_query g) graph)) (same_results bytes told h.told results h.results) same) h.unfit
-
     faultless : (why : ReplyFault) → HasFault (a_service (scope g)) bytes why → ⊥
-    faultless (fault.Http e) h = refused_unread bytes e results.body h results.replied
-    faultless (fault.Results e) h =
-        let body : h.body ≡ results.body = reply_unique bytes h.body results.body h.replied.1 results.replied.1 in
-        let read : Err e ≡ Ok told = sym h.unread ∙ ap read_results body ∙ results.read in
-        cc
-    faultless (fault.Batch e) h = fits (fault.Batch e) h
-    faultless fault.NotTruth h = fits fault.NotTruth h
-    faultless fault.NotTable h = fits fault.NotTable h
-    faultless (fault.Foreign row) h = fits (fault.Foreign row) h
+    faultless why h = faultless_by (a_service (scope g)) bytes told results (λ why u. none_unfit told why same u) why h
 
 pub honest_faultless : (g : Group) → IsServable g → (graph : List Triple) (request bytes : List ℕ) (why : ReplyFault)
     → IsHonest graph request bytes → IsRequest request (service_text g) → length (service_text g) ≤ 67108864 → length bytes ≤ 67108864 → HasFault (a_service (scope g)) bytes why → ⊥

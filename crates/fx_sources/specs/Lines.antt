@@ -1,7 +1,7 @@
 -- What a line of a registry says.
-use Rattle.std.specs.Prelude.{ℕ, Bool, false, List, [], ◌∷◌, length, Option, Some, None, Ok, Err, option_map, option_and_then, ◌&&◌, ◌==◌, not, filter, if◌then◌else◌}
+use Rattle.std.specs.Prelude.{ℕ, Bool, true, false, codes, List, [], ◌∷◌, length, Option, Some, None, Ok, Err, option_map, option_and_then, ◌&&◌, ◌==◌, not, filter, if◌then◌else◌}
 use Rattle.std.specs.List.{slice_split}
-use Rattle.std.specs.Str.{is_utf8}
+use Rattle.std.specs.Str.{bytes_eq, is_utf8}
 use Rattle.url.specs.Parser.{Parsed, parse_url}
 use Rattle.url.specs.Parts.{Parts, nonempty_host}
 use Rattle.url.specs.Host.{host_text}
@@ -29,9 +29,13 @@ is_comment (b ∷ bs) = b == 35
 abbrev pub no_flags : Flags
 no_flags = record { optional = false; values = false }
 
--- one more flag by its word, or nothing where the word is no flag's, or its flag stands; no word is a flag's yet
+-- the word of the flag of endpoints that take a batch as one VALUES block
+abbrev pub is_values : List ℕ → Bool
+is_values word = bytes_eq word (codes "values")
+
+-- one more flag by its word, or nothing where the word is no flag's, or its flag stands
 abbrev pub with_flag : Flags → List ℕ → Option Flags
-with_flag flags word = None
+with_flag flags word = if is_values word && not flags.values then Some (record { optional = flags.optional; values = true }) else None
 
 -- the flags with those that the words name, or nothing where a word adds none
 abbrev pub flags_of : Flags → List (List ℕ) → Option Flags

@@ -63,11 +63,24 @@ fn read_flags(words: &[u8]) -> Option<Flags>
     Some(flags)
 }
 
-// One more flag by its word, unless the word is no flag's, or its flag stands. No word is a flag's yet.
-fn with_flag(_flags: Flags, _word: &[u8]) -> Option<Flags>
-    ensures { result ≡ spec.with_flag _flags _word.now }
+// One more flag by its word, unless the word is no flag's, or its flag stands.
+fn with_flag(flags: Flags, word: &[u8]) -> Option<Flags>
+    ensures { result ≡ spec.with_flag flags word.now }
 {
-    None
+    if is_values(word) && !flags.values {
+        Some(Flags {
+            optional: flags.optional,
+            values: true,
+        })
+    } else {
+        None
+    }
+}
+
+fn is_values(word: &[u8]) -> bool
+    ensures { result ≡ spec.is_values word.now }
+{
+    word == b"values".as_slice()
 }
 
 fn is_utf8(bytes: &[u8]) -> bool

@@ -8,6 +8,7 @@ use Rattle.std.proofs.lemmas.List.{length-map, map-append, map-set}
 use Rattle.std.proofs.lemmas.List.Elements.{All-from_recursion, filter-append, recursion_from_All}
 use Rattle.std.proofs.lemmas.List.Sorted.{IsPermutation-refl, IsPermutation-sym, IsPermutation-trans, IsPermutation-append_left, IsPermutation-keeps, IsPermutation-map, IsPermutation-swap, length_permutation}
 use Rattle.std.proofs.lemmas.Nat.{le-div}
+use Rattle.fx_terms.specs.declared.terms.Term.{Term}
 use Rattle.fx_terms.specs.declared.triples.Triple.{Triple}
 use Rattle.fx_outside.specs.Endpoints.{EndpointParts}
 use Rattle.fx_algebra.specs.Answers.{is_empty_list}
@@ -31,10 +32,13 @@ use Rattle.fx_plan.specs.Plans.{plan}
 use Rattle.fx_bound.specs.Batches.{batch_query, branch_group}
 use Rattle.fx_bound.specs.Parts.{printed_by}
 use Rattle.fx_bound.specs.Reading.{all_columns, columns_of}
+use Rattle.fx_renaming.specs.Branches.{bound_expr, bound_pattern}
 use Rattle.fx_founds.specs.Uniting.{Place, branches, is_worth_asking, places_from}
+use Rattle.fx_values.specs.Parts.{printed_by as printed_block}
+use Rattle.fx_values.specs.Values.{cells, columns, renamed, values_query}
 use Rattle.fx_steps.specs.Steps.{numbered, solutions_of}
 use Rattle.fx_steps.proofs.StepLemmas.{numbered_solutions, step_solutions}
-use Rattle.fx_traffic.specs.Batches.{IsRunSent, IsSized, IsStepSent, batches_sent, joined, text_for, text_sent, to_endpoint, unit_sent}
+use Rattle.fx_traffic.specs.Batches.{IsRunSent, IsSized, IsStepSent, batches_sent, joined, text_for, text_in, text_sent, to_endpoint, unit_sent}
 use Rattle.fx_traffic.specs.Fewer.{FewerLaws, NumbersAreFree, PlanOfMore, RunOfMore, StationOfMore}
 use Rattle.fx_traffic.specs.Sent.{Sent}
 use Rattle.fx_traffic.specs.Traffic.{SentUnless}
@@ -138,12 +142,43 @@ bare_printed : (u : unit.Unit) (bs : List Place) → printed_by (batch_query u (
 bare_printed u [] = refl
 bare_printed u (b ∷ bs) = ap (λ (q : Query). Some (printed_query q)) (bare_query u (b ∷ bs))
 
+bare_cells : (u : unit.Unit) (bs : List Place) → map (cells u) (map bare_place bs) ≡ map (cells u) bs
+bare_cells u [] = refl
+bare_cells u (b ∷ bs) = ap (λ (v : List (List (Option Term))). cells u b ∷ v) (bare_cells u bs)
+
+bare_block : (u : unit.Unit) (bs : List Place) → values_query u (map bare_place bs) ≡ values_query u bs
+bare_block u bs =
+    let rows = bare_cells u bs in
+    λ i. record {
+      form = form.Select false (columns u);
+      group = roll-Group (record {
+        elements =
+            element.Values (record { columns = columns u; rows = rows i })
+            ∷ (map (λ p. element.Triple (bound_pattern (renamed u) [] p)) u.patterns ++ map (λ e. element.Filter (bound_expr (renamed u) [] e)) u.filters);
+      });
+      order = [];
+      offset = 0;
+      limit = None;
+      inline = None;
+    }
+
+bare_block_printed : (u : unit.Unit) (bs : List Place) → printed_block (values_query u (map bare_place bs)) (map bare_place bs) ≡ printed_block (values_query u bs) bs
+bare_block_printed u [] = refl
+bare_block_printed u (b ∷ bs) = ap (λ (q : Query). Some (printed_query q)) (bare_block u (b ∷ bs))
+
 -- in whatever form an endpoint takes it
 bare_text : (e : EndpointParts) (u : unit.Unit) (batch : List Row) → text_for e (record { unit = u; rows = bare (solutions_of batch) }) ≡ text_for e (record { unit = u; rows = batch })
-bare_text e u batch =
-    ap (λ (bs : List Place). printed_by (batch_query u (filter (is_worth_asking u) bs)) (filter (is_worth_asking u) bs)) (bare_places 0 batch)
-    ∙ ap (λ (bs : List Place). printed_by (batch_query u bs) bs) (worth_asking u (places_from 0 batch))
-    ∙ bare_printed u (branches u batch)
+bare_text e u batch = by e.values
+  where
+    by : (b : Bool) → text_in b (record { unit = u; rows = bare (solutions_of batch) }) ≡ text_in b (record { unit = u; rows = batch })
+    by true =
+        ap (λ (bs : List Place). printed_block (values_query u (filter (is_worth_asking u) bs)) (filter (is_worth_asking u) bs)) (bare_places 0 batch)
+        ∙ ap (λ (bs : List Place). printed_block (values_query u bs) bs) (worth_asking u (places_from 0 batch))
+        ∙ bare_block_printed u (branches u batch)
+    by false =
+        ap (λ (bs : List Place). printed_by (batch_query u (filter (is_worth_asking u) bs)) (filter (is_worth_asking u) bs)) (bare_places 0 batch)
+        ∙ ap (λ (bs : List Place). printed_by (batch_query u bs) bs) (worth_asking u (places_from 0 batch))
+        ∙ bare_printed u (branches u batch)
 
 module _ (endpoints : List EndpointParts) (u : unit.Unit) where
   bare_member : (batch : List Row) (o : Option EndpointParts) → to_endpoint u (bare (solutions_of batch)) o ≡ to_endpoint u batch o

@@ -1,6 +1,6 @@
 -- What a run of triple patterns sends: for each step of its plan batches of the rows that enter it, each to the members of its unit.
 -- (FedX: bound joins.)
-use Rattle.std.specs.Prelude.{◌≡◌, Option, None, ℕ, ◌+◌, ◌*◌, ◌/◌, ◌<◌, ◌≤◌, List, [], ◌∷◌, ◌++◌, length, Some, All, Contains, IsPermutation, slice_get}
+use Rattle.std.specs.Prelude.{◌≡◌, Bool, true, false, Option, None, ℕ, ◌+◌, ◌*◌, ◌/◌, ◌<◌, ◌≤◌, List, [], ◌∷◌, ◌++◌, length, Some, All, Contains, IsPermutation, slice_get}
 use Rattle.std.specs.List.{flat_map}
 use Rattle.fx_terms.specs.declared.triples.Triple.{Triple}
 use Rattle.fx_outside.specs.Endpoints.{EndpointParts}
@@ -8,7 +8,8 @@ use Rattle.fx_algebra.specs.Units.{step}
 use Rattle.fx_algebra.specs.declared.units.Row.{Row}
 use Rattle.fx_algebra.specs.declared.units.Unit as unit
 use Rattle.fx_http.specs.Requests.{request_of}
-use Rattle.fx_bound.specs.Parts.{Parts, text_of}
+use Rattle.fx_bound.specs.Parts.{Parts, places, text_of}
+use Rattle.fx_values.specs.Parts as values
 use Rattle.fx_traffic.specs.Sent.{Sent}
 
 -- ---- batches of rows
@@ -35,9 +36,18 @@ pub record AreCut (rows : List Row) (block : ℕ) (batches : List (List Row)) : 
 
 -- ---- what they send
 
--- The text by which an endpoint is asked for a batch, where a branch is left. Each endpoint takes the same form.
+-- the rows of a batch that one VALUES block asks for
+abbrev pub block_of : Parts → values.Parts
+block_of p = record { unit = p.unit; places = places p }
+
+-- the text of a batch, where a row is left: as one VALUES block, or with a branch for each row
+abbrev pub text_in : Bool → Parts → Option (List ℕ)
+text_in true p = values.text_of (block_of p)
+text_in false p = text_of p
+
+-- The text by which an endpoint is asked for a batch is in the form that it takes.
 abbrev pub text_for : EndpointParts → Parts → Option (List ℕ)
-text_for e p = text_of p
+text_for e p = text_in e.values p
 
 -- a text to an endpoint, where there is one
 abbrev pub text_sent : EndpointParts → Option (List ℕ) → List Sent

@@ -11,12 +11,12 @@ use Rattle.fx_flows.proofs.flows.ask_for.Goals as goal
 
 pub united-requires : goal.united-requires
 united-requires g c =
-    subst (λ (v : List (List Found)). All (λ list. All (λ (f : Found). Contains (numbers c.args.batch.now) f.branch) list) v) (sym c.as_slice.ensures.value) c.in-Ok.ensures.numbered
+    subst (λ (v : List (List Found)). All (λ list. All (λ (f : Found). Contains (numbers c.args.forms.now.parts) f.branch) list) v) (sym c.as_slice.ensures.value) c.in-Ok.ensures.numbered
 
 pub returns-in-Err : goal.returns-in-Err
 returns-in-Err g c =
     let see = g.W.Wire.seen in
-    let p = c.args.batch.now in
+    let p = c.args.forms.now.parts in
     refused g.W.Wire.counts_alone (see c.args.wire.now) (see c.ask_members.new.wire) c.args.endpoints.now p c.in-Err.error
     (subst (λ (ms : List ℕ). AskedMembers g.W.Wire.counts_alone (see c.args.wire.now) (see c.ask_members.new.wire) c.args.endpoints.now p ms (Err c.in-Err.error)) c.requires.all c.in-Err.ensures)
 
@@ -26,7 +26,7 @@ returns-in-Ok g c =
     let s = see c.args.wire.now in
     let t = see c.ask_members.new.wire in
     let es = c.args.endpoints.now in
-    let p = c.args.batch.now in
+    let p = c.args.forms.now.parts in
     let lists = c.in-Ok.lists.items in
     given g.W.Wire.counts_alone s t es p lists c.united.result
     (subst (λ (ms : List ℕ). AskedMembers g.W.Wire.counts_alone s t es p ms (Ok lists)) c.requires.all c.in-Ok.ensures)

@@ -1,4 +1,4 @@
-use Rattle.std.proofs.Common.{◌∙◌, map, subst}
+use Rattle.std.proofs.Common.{map, subst}
 use Rattle.fx_bound.specs.Parts.{Parts}
 use Rattle.fx_flows.specs.Flows.{rows_in}
 use Rattle.fx_flows.specs.Teams.{BatchAsked}
@@ -10,4 +10,4 @@ returns-in-Err g c = batch_unasked g.W.Wire.tells_log g.W.Wire.counts_alone (map
 
 pub returns-in-Ok : goal.returns-in-Ok
 returns-in-Ok g c =
-    subst (λ (p : Parts). BatchAsked g.W.Wire.tells_log g.W.Wire.counts_alone (map g.W.Wire.seen c.args.wires.now) (map g.W.Wire.seen c.ask_for_over.new.wires) c.args.endpoints.now p (rows_in c.ask_for_over.result)) (c.get.ensures ∙ c.in-Ok.ensures) c.ask_for_over.ensures
+    subst (λ (p : Parts). BatchAsked g.W.Wire.tells_log g.W.Wire.counts_alone (map g.W.Wire.seen c.args.wires.now) (map g.W.Wire.seen c.ask_for_over.new.wires) c.args.endpoints.now p (rows_in c.ask_for_over.result)) c.in-Ok.ensures.parts c.ask_for_over.ensures
