@@ -35,9 +35,13 @@ has() {
     command -v "$1" >/dev/null 2>&1 || { echo "$1: not here"; return 1; }
 }
 
-# Whether a module of Python is there, or a line that it isn't.
+# Whether a module is there, of the Python of the path or of the distribution's own, which is $python then, or a line that it isn't.
 has_module() {
-    python3 -c "import $1" 2>/dev/null || { echo "$1: not here"; return 1; }
+    for python in python3 /usr/bin/python3; do
+        "$python" -c "import $1" 2>/dev/null && return
+    done
+    echo "$1: not here"
+    return 1
 }
 
 # A member that isn't ready yet refuses connections.
@@ -87,7 +91,7 @@ if has perl; then
 fi
 
 if has_module SPARQLWrapper; then
-    got "SPARQLWrapper" "$(python3 - "$url" "$query" <<'END'
+    got "SPARQLWrapper" "$("$python" - "$url" "$query" <<'END'
 import sys
 from SPARQLWrapper import JSON, SPARQLWrapper
 
@@ -100,7 +104,7 @@ END
 fi
 
 if has_module rdflib; then
-    got "rdflib, SPARQLStore" "$(python3 - "$url" "$query" <<'END'
+    got "rdflib, SPARQLStore" "$("$python" - "$url" "$query" <<'END'
 import sys
 from rdflib import Graph
 from rdflib.plugins.stores.sparqlstore import SPARQLStore

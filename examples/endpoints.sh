@@ -6,7 +6,12 @@ here=$(cd "$(dirname "$0")" && pwd)
 fedx=$here/../fedx
 failed=0
 
-python3 -c "import rdflib" 2>/dev/null || { echo "rdflib as an endpoint: not here"; exit 0; }
+# (the Python of the path, or the distribution's own)
+for python in python3 /usr/bin/python3; do
+    "$python" -c "import rdflib" 2>/dev/null && break
+    python=
+done
+[ -n "$python" ] || { echo "rdflib as an endpoint: not here"; exit 0; }
 
 # (a program that isn't built yet is made first, where that can be seen)
 "$here/../tools/choose" </dev/null >/dev/null || exit
@@ -19,9 +24,9 @@ for query in across guests plan salts service; do
     "$here/members.sh" -- "$fedx" query "$here/registry.txt" "$here/$query.rq" >"$room/$query" 2>&1
 done
 
-python3 "$here/rdflib_endpoint.py" "$here/lab.nt" 8001 &
+"$python" "$here/rdflib_endpoint.py" "$here/lab.nt" 8001 &
 lab=$!
-python3 "$here/rdflib_endpoint.py" "$here/library.nt" 8002 &
+"$python" "$here/rdflib_endpoint.py" "$here/library.nt" 8002 &
 library=$!
 
 # An endpoint that isn't ready yet refuses connections.
