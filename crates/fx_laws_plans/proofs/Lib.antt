@@ -4,3 +4,4 @@ pub mod OrderLemmas
 pub mod FilterLemmas
 pub mod FreeLemmas
 pub mod RuleLemmas
+pub mod OnlyLemmas

@@ -21,7 +21,7 @@ module _ (known : List (List ℕ)) where
   as_free_on u v w (inr a) (inl b) = inl (a.0 ∙ b.0, b.1)
   as_free_on u v w (inr a) (inr b) = let h = a.1 in let k = b.1 in inr (a.0 ∙ b.0, omega (arith, h, k))
 
-  before_on : (u v w : Placed) → IsBefore known u v → IsBefore known v w → IsBefore known u w
+  pub before_on : (u v w : Placed) → IsBefore known u v → IsBefore known v w → IsBefore known u w
   before_on u v w (inl a) (inl b) = inl (omega arith)
   before_on u v w (inl a) (inr b) = let e = b.0 in inl (omega (arith, e))
   before_on u v w (inr a) (inl b) = let e = a.0 in inl (omega (arith, e))

@@ -98,6 +98,11 @@ abbrev pub PlanGoesByItsRules : Type 0
 PlanGoesByItsRules = (run : List Pattern) (sources : List (List ℕ)) (filters : List Expr) (bound : List (List ℕ)) →
     (units : List Placed) × (plan run sources filters bound ≡ map (λ u. u.unit) units) × IsPlanned (spots run sources) filters bound units
 
+-- and no other list of units does
+abbrev pub OnlyThePlanGoesByThem : Type 0
+OnlyThePlanGoesByThem = (run : List Pattern) (sources : List (List ℕ)) (filters : List Expr) (bound : List (List ℕ)) (units : List Placed) →
+    IsPlanned (spots run sources) filters bound units → map (λ u. u.unit) units ≡ plan run sources filters bound
+
 -- ---- variables that are free
 
 -- each that stands in the patterns and isn't known, once
