@@ -1,0 +1,4 @@
+pub mod PartLemmas
+pub mod TermLemmas
+pub mod RowLemmas
+pub mod ToldLemmas
