@@ -4,3 +4,4 @@ pub mod WorthLemmas
 pub mod CompareLemmas
 pub mod NumberLemmas
 pub mod FunctionLemmas
+pub mod LiteralLemmas

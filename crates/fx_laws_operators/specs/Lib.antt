@@ -1,2 +1,3 @@
 pub mod Operators
 pub mod Functions
+pub mod Literals

@@ -5,6 +5,7 @@
 #![tactic(auto)]
 
 ghost use Rattle.fx_laws_operators.specs.Functions.{Forms, Functions, Lists};
+ghost use Rattle.fx_laws_operators.specs.Literals.{Literals};
 ghost use Rattle.fx_laws_operators.specs.Operators.{Arithmetic, Equality, ErrorsStay, Logic, Made, Order};
 
 /// `||`, `&&` and `!` of true, false and the error, and chains of them.
@@ -51,4 +52,9 @@ pub fn forms_take_what_they_need()
 /// The functions of terms and texts.
 pub fn functions_are_by_their_rows()
     ensures { Functions }
+{}
+
+/// What literals are worth, and their truth, by their datatypes and forms.
+pub fn literals_have_their_truths()
+    ensures { Literals }
 {}
