@@ -2,8 +2,9 @@
 
 A block that begins with ```console has lines "$ COMMAND", each with what the command prints on standard output and standard
 error below it, and perhaps "[status N]" as its last line; without that the status is 0. A command that ends with "&" goes on
-beside those below it, up to "kill %1 %2" or the end of its page. One of a program that isn't on every machine is passed over where
-that isn't there."""
+beside those below it, up to "kill %1" with all others, or the end of its page. One of a program that isn't on every machine is passed over where
+that isn't there, and so are those below it in its block."""
+import itertools
 import os
 import re
 import shutil
@@ -16,19 +17,18 @@ top = os.path.join(os.path.dirname(os.path.abspath(__file__)), "..")
 OPTIONAL = {"examples/ask.sh": "curl", "jq": "jq", "examples/import": "rapper"}
 
 
-def steps(text):
-    """The commands of all blocks, each with its lines and its status."""
-    for block in re.findall(r"^```console\n(.*?)^```", text, re.S | re.M):
-        command, lines = None, []
-        for line in block.splitlines():
-            if line.startswith("$ "):
-                if command is not None:
-                    yield command, lines
-                command, lines = line[2:], []
-            else:
-                lines.append(line)
-        if command is not None:
-            yield command, lines
+def steps(block):
+    """The commands of a block, each with its lines and its status."""
+    command, lines = None, []
+    for line in block.splitlines():
+        if line.startswith("$ "):
+            if command is not None:
+                yield command, lines
+            command, lines = line[2:], []
+        else:
+            lines.append(line)
+    if command is not None:
+        yield command, lines
 
 
 def is_there(page, command):
@@ -71,7 +71,8 @@ def is_as_shown(page, command, lines, beside):
 def is_right(page):
     """Whether all commands of a page are as shown."""
     with open(os.path.join(top, page), encoding="utf-8") as text:
-        wanted = [(command, lines) for command, lines in steps(text.read()) if is_there(page, command)]
+        blocks = re.findall(r"^```console\n(.*?)^```", text.read(), re.S | re.M)
+    wanted = [it for block in blocks for it in itertools.takewhile(lambda it: is_there(page, it[0]), steps(block))]
     beside = []
     try:
         right = sum(is_as_shown(page, command, lines, beside) for command, lines in wanted)
