@@ -58,7 +58,7 @@ ENDPOINT_PSGI = """use RDF::Trine;
 use RDF::Endpoint;
 use Plack::Request;
 my $model = RDF::Trine::Model->new(RDF::Trine::Store::Memory->new());
-RDF::Trine::Parser->new('ntriples')->parse_file_into_model('http://example.org/', '{file}', $model);
+RDF::Trine::Parser::NTriples->new->parse_file_into_model('http://example.org/', '{file}', $model);
 my $endpoint = RDF::Endpoint->new($model, {{ endpoint => {{ endpoint_path => '/sparql' }} }});
 sub {{ $endpoint->run(Plack::Request->new(shift))->finalize }};
 """
@@ -134,6 +134,17 @@ def wait_for(port, name, process):
     sys.exit(f"engines.py: {name} doesn't start at 127.0.0.1:{port}")
 
 
+def load_virtuoso(path, graph):
+    """Fills a graph anew with what Virtuoso takes over its own protocol, which may be there a little later."""
+    load = f"SPARQL CLEAR GRAPH <{graph}>;\nDB.DBA.TTLP(file_to_string_output('{path}'), '', '{graph}', 0);\ncheckpoint;\n"
+    for _ in range(50):
+        done = run(["isql-vt", f"127.0.0.1:{VIRTUOSO_SQL}", "dba", "dba", "ERRORS=STDOUT"], input=load)
+        if done.returncode == 0 and "*** Error" not in done.stdout:
+            return
+        time.sleep(0.2)
+    sys.exit(f"engines.py: Virtuoso doesn't take the triples: {done.stdout}{done.stderr}")
+
+
 class Engines:
     """The engines, each a process of its own."""
 
@@ -144,7 +155,8 @@ class Engines:
 
     def start(self, name, port, words):
         with open(f"{self.room}/{name}.out", "w", encoding="utf-8") as out:
-            process = subprocess.Popen(words, stdin=subprocess.DEVNULL, stdout=out, stderr=out, start_new_session=True)
+            # (Virtuoso leaves files where it is started)
+            process = subprocess.Popen(words, stdin=subprocess.DEVNULL, stdout=out, stderr=out, start_new_session=True, cwd=self.room)
         self.running.append(process)
         wait_for(port, name, process)
 
@@ -154,7 +166,7 @@ class Engines:
         self.start("rdflib", RDFLIB, [PYTHON, f"{HERE}/rdflib_endpoint.py", f"{room}/rdflib.nt", str(RDFLIB)])
         write(f"{room}/virtuoso.ini", VIRTUOSO_INI.format(room=room, sql=VIRTUOSO_SQL, port=VIRTUOSO))
         self.start("Virtuoso", VIRTUOSO, ["virtuoso-t", "+configfile", f"{room}/virtuoso.ini", "+foreground"])
-        self.load_virtuoso()
+        load_virtuoso(f"{room}/virtuoso.nt", GRAPH)
         write(f"{room}/endpoint.psgi", ENDPOINT_PSGI.format(file=f"{room}/perl.nt"))
         self.start("RDF::Endpoint", PERL, ["plackup", "--host", "127.0.0.1", "--port", str(PERL), "--env", "deployment", f"{room}/endpoint.psgi"])
         certify = ["openssl", "req", "-x509", "-newkey", "rsa:2048", "-nodes", "-keyout", f"{room}/own.key", "-out", f"{room}/own.pem", "-days", "2", "-subj", "/CN=localhost"]
@@ -165,16 +177,6 @@ class Engines:
         self.start("the bridge", BRIDGED_VIRTUOSO, [PYTHON, f"{HERE}/bridge.py", f"{room}/bridge.ini"])
         ports = (("MEMBER", MEMBER, "sparql"), ("RDFLIB", RDFLIB, "sparql"), ("VIRTUOSO", BRIDGED_VIRTUOSO, ""), ("PERL", BRIDGED_PERL, ""))
         write(f"{room}/registry.txt", "".join(f"{name} http://127.0.0.1:{port}/{path}\n" for name, port, path in ports))
-
-    def load_virtuoso(self):
-        """Virtuoso takes its triples over its own protocol, which may be there a little later."""
-        load = f"DB.DBA.TTLP(file_to_string_output('{self.room}/virtuoso.nt'), '', '{GRAPH}', 0);\ncheckpoint;\n"
-        for _ in range(50):
-            done = run(["isql-vt", f"127.0.0.1:{VIRTUOSO_SQL}", "dba", "dba", "ERRORS=STDOUT"], input=load)
-            if done.returncode == 0 and "*** Error" not in done.stdout:
-                return
-            time.sleep(0.2)
-        sys.exit(f"engines.py: Virtuoso doesn't take the triples: {done.stdout}{done.stderr}")
 
     def stop(self):
         for process in self.running:
