@@ -115,8 +115,13 @@ END
 )"
 fi
 
-if has rsparql; then
+# (Debian has Jena's commands as classes alone)
+if command -v rsparql >/dev/null 2>&1; then
     got "Jena, rsparql" "$(rsparql --service "$url" --results json "$query" | tr -d ' \n' | values)"
+elif "$here/jena.sh" 2>/dev/null; then
+    got "Jena, rsparql" "$("$here/jena.sh" arq.rsparql --service "$url" --results json "$query" | tr -d ' \n' | values)"
+else
+    echo "rsparql: not here"
 fi
 
 exit $failed

@@ -67,8 +67,8 @@ else
     echo "rdflib as an endpoint: not here"
 fi
 
-if "$here/jena_endpoint.sh" 2>/dev/null; then
-    compare Jena "$here/jena_endpoint.sh"
+if "$here/jena.sh" 2>/dev/null; then
+    compare Jena "$here/jena.sh" "$here/java/JenaEndpoint.java"
 else
     echo "Jena as an endpoint: not here"
 fi

@@ -20,7 +20,7 @@ import org.apache.jena.riot.RDFParser;
 import org.apache.jena.system.Txn;
 
 /**
- * Serves a file of N-Triples with Jena at http://127.0.0.1:PORT/sparql; jena_endpoint.sh starts it.
+ * Serves a file of N-Triples with Jena at http://127.0.0.1:PORT/sparql: examples/jena.sh examples/java/JenaEndpoint.java GRAPH PORT
  *
  * It answers what fedx asks an endpoint, a query that is posted as its text, in JSON. A query that Jena can't read or answer is status 400. Where no graph and port are named, each
  * line of standard input, `PORT GRAPH`, says what to serve from then on at a port, and is printed once it is.
