@@ -179,10 +179,11 @@ class Engines:
         write(f"{room}/registry.txt", "".join(f"{name} http://127.0.0.1:{port}/{path}\n" for name, port, path in ports))
 
     def stop(self):
-        for process in self.running:
-            with contextlib.suppress(ProcessLookupError):
-                os.killpg(process.pid, signal.SIGTERM)
-        for process in self.running:
+        # (one that ended has no number any more)
+        running = [it for it in self.running if it.poll() is None]
+        for process in running:
+            os.killpg(process.pid, signal.SIGTERM)
+        for process in running:
             with contextlib.suppress(subprocess.TimeoutExpired):
                 process.wait(timeout=20)
 
