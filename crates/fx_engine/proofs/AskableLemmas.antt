@@ -24,7 +24,9 @@ use Rattle.fx_plan.specs.Plans.{plan}
 use Rattle.fx_plan.specs.declared.parts.Part.{Part}
 use Rattle.fx_traffic.proofs.PlannedLemmas.{planned_laws}
 use Rattle.fx_engine.specs.RowsAsked.{CanBeAsked}
-use Rattle.fx_walks.specs.Sections.{part_with, parts_by, section_of, sections}
+use Rattle.fx_algebra.specs.Units.{is_kept}
+use Rattle.fx_outcomes.specs.Rounds.{kept_choice}
+use Rattle.fx_walks.specs.Sections.{part_with, parts_by, parts_with, section_of, sections}
 use Rattle.fx_walks.specs.Tasks.{tasks_with}
 use Rattle.fx_walks.specs.declared.tasks.Task.TheVariants as task
 use Rattle.fx_walks.proofs.PartLemmas.{by_function}
@@ -79,3 +81,10 @@ tasks_can_be_asked text q accepted members entries found =
     (all_asked text q accepted members f
     (λ p. AllPairs-filter ◌<◌ (λ at. is_yes (known entries (probe at (key_of p)))) (range_with_len 0 members) (range_rises 0 members))
     (λ p. All-filter (λ at. is_yes (known entries (probe at (key_of p)))) (λ at. at < members) (range_with_len 0 members) (range_below members)) found)
+
+-- and so can those of a plan over kept members
+pub kept_can_be_asked : (text : List ℕ) (q : Query) → Accepted text q → (members : ℕ) (kept : List Bool) (entries : List Entry) (found : List (List Bindings)) → All (CanBeAsked members) (tasks_with (parts_with (kept_choice kept entries members) q) found)
+kept_can_be_asked text q accepted members kept entries found =
+    all_asked text q accepted members (kept_choice kept entries members)
+    (λ p. AllPairs-filter ◌<◌ (is_kept kept) (members_of entries members (key_of p)) (AllPairs-filter ◌<◌ (λ at. is_yes (known entries (probe at (key_of p)))) (range_with_len 0 members) (range_rises 0 members)))
+    (λ p. All-filter (is_kept kept) (λ at. at < members) (members_of entries members (key_of p)) (All-filter (λ at. is_yes (known entries (probe at (key_of p)))) (λ at. at < members) (range_with_len 0 members) (range_below members))) found

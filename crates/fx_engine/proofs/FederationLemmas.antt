@@ -1,5 +1,5 @@
 -- A query was asked over wires: its answer, or the cause of a refusal.
-use Rattle.std.proofs.Common.{◌≡◌, ◌∙◌, ap, sym, subst, refl, inl, inr, ◌⊎◌, ℕ, ◌+◌, ◌<◌, ◌≤◌, Bool, List, [], ◌∷◌, ◌++◌, length, map, None, Ok, Err, IfErr, IfOk, IsTrue, Result, true, replicate, append-nil, append_assoc, arith}
+use Rattle.std.proofs.Common.{◌≡◌, ◌∙◌, ap, sym, subst, refl, inl, inr, ◌⊎◌, ℕ, ◌+◌, ◌<◌, ◌≤◌, Bool, List, [], ◌∷◌, ◌++◌, length, map, None, Ok, Err, IfErr, IfOk, IsTrue, Result, true, false, replicate, append-nil, append_assoc, arith}
 use Rattle.std.specs.Prelude.{All, Contains, IsPermutation}
 use Rattle.std.specs.List.{zip}
 use Rattle.std.proofs.lemmas.List.Elements.{All-append, All-nil, All-weaker, Contains-append_left, Contains-append_right}
@@ -38,7 +38,8 @@ use Rattle.fx_services.specs.Noted.{places}
 use Rattle.fx_walks.specs.GroupsAsked.{units_in}
 use Rattle.fx_engine.specs.RowsAsked.{CanBeAsked}
 use Rattle.fx_outcomes.specs.Order.{AreAnswered, AreGiven}
-use Rattle.fx_outcomes.specs.Outcomes.{HasBatchRefusal, HasOutcomeCause, HasRefusal, IsPlannedOver, Outcomed}
+use Rattle.fx_outcomes.specs.Outcomes.{HasBatchEvent, HasBatchRefusal, HasOutcomeCause, HasRefusal, IsPlannedOver, Outcomed}
+use Rattle.fx_outcomes.specs.RoundEnds.{IsToldOf, LeavesOut}
 use Rattle.fx_walks.specs.RunsSent.{AreRunsSent}
 use Rattle.fx_walks.specs.Sections.{parts_by, parts_with, sections}
 use Rattle.fx_walks.specs.Tasks.{tasks_with}
@@ -55,6 +56,9 @@ use Rattle.fx_outcomes.proofs.MediationLemmas.{kept_true, known_named, learned_t
 use Rattle.fx_outcomes.proofs.RunsSentLemmas.{AreCalled, sent_by_all}
 use Rattle.fx_walks.proofs.StationLemmas.{no_run_sent}
 use Rattle.fx_pool.proofs.WiresLemmas.{AllTell, all_after, gained_both, still_tell_all}
+
+false_true : false ≡ true → ⊥
+false_true same = cc
 
 -- no ASK is asked
 pub none_asked : (es : List EndpointParts) (q : Query) (old : List Entry) → AreAsked es q old []
@@ -251,7 +255,7 @@ module _ (tells alone : Bool) (s t : List Seen) (es : List EndpointParts) (q : Q
   -- ---- and then by the plan
 
   module _ (u : List Seen) (a : AllTell tells s) (b : AllTell tells t) (truths : List Bool) (h : AskedAll tells alone s t es probes (Ok truths)) (parts : List Part) (are : parts ≡ parts_by (sections q) (chosen q (length es) (told probes truths ++ old)))
-      (r : Result Outcome FedError) (k : Outcomed tells alone t u es q parts block r) where
+      (r : Result Outcome FedError) (k : Outcomed (IsToldOf false es) (LeavesOut false es) tells alone t u es q parts block r) where
     by_graphs : (graphs : List (List Triple)) → AreKnown s es old graphs → parts ≡ parts_with (sources graphs) q
     by_graphs graphs known = are ∙ parts_are_by_graphs s es q old graphs truths known.told known.entries_are h.many (h.told graphs known.told)
 
@@ -385,7 +389,7 @@ module _ (tells alone : Bool) (s t : List Seen) (es : List EndpointParts) (q : Q
       its_texts : All (IsBatchText es block (IsUnitBefore q k.calls)) k.texts
       its_texts = texts_of_query es q (length es) entries k.found tasks tasks_are (can k.found) k.calls k.behind block k.texts k.of_batches
 
-      cause_so : (e : FedError) → HasOutcomeCause t u es parts k.found block k.calls k.texts k.of_runs e → (all : List Exchange) → Among k.of_runs all → HasFedCause s u es q old k.calls k.calls k.texts all block e
+      cause_so : (e : FedError) → HasOutcomeCause (IsToldOf false es) t u es parts k.found block k.calls k.texts k.of_runs e → (all : List Exchange) → Among k.of_runs all → HasFedCause s u es q old k.calls k.calls k.texts all block e
       cause_so e (inl c) all among = batch_cause_behind es q old (length es) entries k.found tasks tasks_are (can k.found) block s t u h.after_all k.of_runs all among k.calls k.calls k.behind k.texts c.0 e c.1 c.2
       cause_so e (inr c) all among = refusal_cause s t u h.after_all es q old block k.calls all k.texts e c
 
@@ -398,21 +402,22 @@ module _ (tells alone : Bool) (s t : List Seen) (es : List EndpointParts) (q : Q
       refusal_known fed.Memory c = tt
 
       -- a refusal is of a batch, or all batches were given
-      in_turn_so : (e : FedError) → HasBatchRefusal t u es parts k.found block k.texts k.of_runs e ⊎ AreGiven alone t u k.calls (IsBatchRead (Contains (units_in tasks))) k.left k.of_runs → (all : List Exchange) → Among k.of_runs all
+      in_turn_so : (e : FedError) → HasBatchRefusal (IsToldOf false es) t u es parts k.found block k.texts k.of_runs e ⊎ (HasBatchEvent (LeavesOut false es) t u es parts k.found block k.texts k.of_runs ⊎ AreGiven alone t u k.calls (IsBatchRead (Contains (units_in tasks))) k.left k.of_runs) → (all : List Exchange) → Among k.of_runs all
           → HasFedCause s u es q old k.calls [] k.texts all block e ⊎ AreGiven alone s u k.calls (IsRead es q old) (h.left ++ k.left) (h.exchanges ++ k.of_runs)
       in_turn_so e (inl c) all among = inl (batch_cause_behind es q old (length es) entries k.found tasks tasks_are (can k.found) block s t u h.after_all k.of_runs all among k.calls [] k.behind k.texts c.0 e c.1 c.2)
-      in_turn_so e (inr g) all among = inr (record { whole = none_left g.whole; read = each_read (read_of_query es q (length es) entries k.found tasks tasks_are (can k.found) k.of_runs g.read); exact = λ is. counted_so (g.exact is) is })
+      in_turn_so e (inr (inl event)) all among = absurd (false_true event.2.0)
+      in_turn_so e (inr (inr g)) all among = inr (record { whole = none_left g.whole; read = each_read (read_of_query es q (length es) entries k.found tasks tasks_are (can k.found) k.of_runs g.read); exact = λ is. counted_so (g.exact is) is })
 
-      knows_so : (e : FedError) → HasOutcomeCause t u es parts k.found block k.calls k.texts k.of_runs e → KnowsServices {X = Outcome} es q (Err e)
+      knows_so : (e : FedError) → HasOutcomeCause (IsToldOf false es) t u es parts k.found block k.calls k.texts k.of_runs e → KnowsServices {X = Outcome} es q (Err e)
       knows_so e (inl c) = known_named Outcome es q c.0 e c.2 known
       knows_so e (inr c) = refusal_known e c
 
       pub federated_stopped : (e : FedError) → r ≡ Err e → Federated tells alone s u es q old old block (Err e)
       federated_stopped e same =
-          let why = subst (λ (o : Result Outcome FedError). IfErr o (HasOutcomeCause t u es parts k.found block k.calls k.texts k.of_runs)) same k.cause in
+          let why = subst (λ (o : Result Outcome FedError). IfErr o (HasOutcomeCause (IsToldOf false es) t u es parts k.found block k.calls k.texts k.of_runs)) same k.cause in
           let beside = subst (λ (o : Result Outcome FedError). IfErr o (FailedBeside t u es q k.calls)) same k.own_failure in
           let turn =
-          subst (λ (o : Result Outcome FedError). IfErr o (λ (x : FedError). HasBatchRefusal t u es parts k.found block k.texts k.of_runs x ⊎ AreGiven alone t u k.calls (IsBatchRead (Contains (units_in tasks))) k.left k.of_runs)) same k.in_turn in
+          subst (λ (o : Result Outcome FedError). IfErr o (λ (x : FedError). HasBatchRefusal (IsToldOf false es) t u es parts k.found block k.texts k.of_runs x ⊎ (HasBatchEvent (LeavesOut false es) t u es parts k.found block k.texts k.of_runs ⊎ AreGiven alone t u k.calls (IsBatchRead (Contains (units_in tasks))) k.left k.of_runs))) same k.in_turn in
           federated (Err e) old tt tt tt (λ is. tt) tt (cause_so e why) beside (λ all among. stays Outcome es q old all e) (in_turn_so e turn) its_texts tt tt (knows_so e why) (λ graphs is. is.entries_are)
 
       pub federated_lost : (new : List Entry) → All (λ (x : Entry). Contains old x ⊎ Contains (zip probes truths) x) new → Federated tells alone s u es q old new block (Err fed.Memory)

@@ -17,3 +17,8 @@ pub mod TogetherLemmas
 pub mod SharedLemmas
 pub mod BehindLemmas
 pub mod FoundLemmas
+pub mod RoundLemmas
+pub mod LoopLemmas
+pub mod InRoundsLemmas
+pub mod AnswersLemmas
+pub mod LearnLemmas

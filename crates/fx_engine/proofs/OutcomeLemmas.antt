@@ -32,7 +32,8 @@ use Rattle.fx_outcomes.specs.Invocations.{Calling}
 use Rattle.fx_outcomes.specs.Mediation.{FailedBeside}
 use Rattle.fx_services.specs.Noted.{places}
 use Rattle.fx_outcomes.specs.Order.{AreGiven}
-use Rattle.fx_outcomes.specs.Outcomes.{HasBatchRefusal, HasOutcomeCause, IsPlannedOver, Outcomed}
+use Rattle.fx_flows.specs.declared.flows.FlowError.{FlowError}
+use Rattle.fx_outcomes.specs.Outcomes.{HasBatchEvent, HasBatchRefusal, HasOutcomeCause, IsPlannedOver, Outcomed}
 use Rattle.fx_walks.specs.RunsSent.{AreRunsSent}
 use Rattle.fx_walks.specs.Sections.{part_with, section_of}
 use Rattle.fx_walks.specs.Tasks.{tasks_with}
@@ -132,10 +133,10 @@ module _ (tells alone : Bool) (s t u : List Seen) (a : AllTell tells s) (b : All
   -- ---- with what was asked for
 
   module _ (r : Result Answer RowsError) (k : Asked tells alone t u es tasks block (AnswerGiven es block tasks q) (AnswerDue es block tasks q) r) where
-    behind_them : (graphs : List (List Triple)) (its : List ℕ → List Triple) → IsPlannedOver s es q plan graphs its → Knows (AnswerGiven es block tasks q) (AnswerDue es block tasks q) graphs k.wanted r
+    pub behind_them : (graphs : List (List Triple)) (its : List ℕ → List Triple) → IsPlannedOver s es q plan graphs its → Knows (AnswerGiven es block tasks q) (AnswerDue es block tasks q) graphs k.wanted r
     behind_them graphs its over = k.known graphs (told_over t es q plan graphs found over.all (still_tell_all s t c.after_all es over.all over.told) over.kept over.those_kept over.plan_is)
 
-    runs_for : (o : Result Answer RowsError) (graphs : List (List Triple)) (its : List ℕ → List Triple) (over : IsPlannedOver s es q plan graphs its) (down : List ℕ) (agrees : AgreesWith down calls)
+    pub runs_for : (o : Result Answer RowsError) (graphs : List (List Triple)) (its : List ℕ → List Triple) (over : IsPlannedOver s es q plan graphs its) (down : List ℕ) (agrees : AgreesWith down calls)
         → Knows (AnswerGiven es block tasks q) (AnswerDue es block tasks q) graphs k.wanted o → AreRunsSent es graphs block (stations q) (seeds q (union graphs) its down) k.wanted
     runs_for (Ok answer) graphs its over down agrees known = (known (served graphs its over down agrees) (tasks_are graphs its over down agrees) (rows_right graphs its over down agrees)).0
     runs_for (Err why) graphs its over down agrees known = known (served graphs its over down agrees) (tasks_are graphs its over down agrees) (rows_right graphs its over down agrees)
@@ -162,25 +163,25 @@ module _ (tells alone : Bool) (s t u : List Seen) (a : AllTell tells s) (b : All
         let same : faults_at t address ≡ faults_at s address + failures_at address calls = exact is address in
         omega (arith, low, high, same, none)
 
-    unfaulted : (o : Result Outcome FedError) → IfOk o (λ _. k.failed ≡ 0) → IfOk o (λ _. AreCounted) → IsTrue alone → IfOk o (λ _. (address : List ℕ) → faults_at u address ≡ faults_at s address + failures_at address calls)
+    pub unfaulted : (o : Result Outcome FedError) → IfOk o (λ _. k.failed ≡ 0) → IfOk o (λ _. AreCounted) → IsTrue alone → IfOk o (λ _. (address : List ℕ) → faults_at u address ≡ faults_at s address + failures_at address calls)
     unfaulted (Ok outcome) none exact is = λ address. none_but_theirs none exact is address
     unfaulted (Err e) none exact is = tt
 
     -- one that was refused stands behind those that passed, which have rows
-    behind_rows : (k : ℕ) (d : Call) → slice_get calls k ≡ Some d → IsRefused d → length found ≤ k
+    pub behind_rows : (k : ℕ) (d : Call) → slice_get calls k ≡ Some d → IsRefused d → length found ≤ k
     behind_rows k d there refused =
         let many : length found ≡ length front = ap length rows_are ∙ length-map front rows_of in
         let behind : length front ≤ k = behind_passed front rest (recursion_from_All IsPassed front passed) k d there refused in
         omega (arith, many, behind)
 
-    pub outcomed : (o : Result Outcome FedError) → IfOk o (λ _. k.failed ≡ 0) → IfOk o (λ _. AreCounted) → IfOk o (λ _. map (λ c. c.of) calls ≡ occurrences q) → IfOk o (λ _. All IsPassed calls) → IfOk o (λ outcome. outcome.down ≡ down_in calls)
+    unfoldable pub outcomed : (Told Untold : FlowError → Type 0) (o : Result Outcome FedError) → IfOk o (λ _. k.failed ≡ 0) → IfOk o (λ _. AreCounted) → IfOk o (λ _. map (λ c. c.of) calls ≡ occurrences q) → IfOk o (λ _. All IsPassed calls) → IfOk o (λ outcome. outcome.down ≡ down_in calls)
         → IfOk o (λ outcome. (graphs : List (List Triple)) (its : List ℕ → List Triple) → IsPlannedOver s es q plan graphs its → outcome.answer ≡ answer_of q (union graphs) its (places outcome.down))
         → IfOk o (λ _. k.left ≡ [])
         → IfOk o (λ _. All (IsBatchRead (Contains (units_in tasks))) k.exchanges)
-        → IfErr o (HasOutcomeCause s u es plan found block calls k.wanted k.exchanges) → IfErr o (FailedBeside s u es q calls)
-        → IfErr o (λ e. HasBatchRefusal s u es plan found block k.wanted k.exchanges e ⊎ AreGiven alone s u calls (IsBatchRead (Contains (units_in tasks))) k.left k.exchanges)
-        → Outcomed tells alone s u es q plan block o
-    outcomed o none counted all_called all_passed down answer whole read cause own_failure in_turn =
+        → IfErr o (HasOutcomeCause Told s u es plan found block calls k.wanted k.exchanges) → IfErr o (FailedBeside s u es q calls)
+        → IfErr o (λ e. HasBatchRefusal Told s u es plan found block k.wanted k.exchanges e ⊎ (HasBatchEvent Untold s u es plan found block k.wanted k.exchanges ⊎ AreGiven alone s u calls (IsBatchRead (Contains (units_in tasks))) k.left k.exchanges))
+        → Outcomed Told Untold tells alone s u es q plan block o
+    outcomed Told Untold o none counted all_called all_passed down answer whole read cause own_failure in_turn =
         let both = gained_both tells s t u c.exchanges k.exchanges c.gained k.went.gained in
         record {
           found = found;

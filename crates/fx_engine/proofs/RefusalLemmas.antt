@@ -1,5 +1,5 @@
 -- The outcome of a query whose occurrences of SERVICE all passed, or of which one was refused.
-use Rattle.std.proofs.Common.{◌≡◌, ◌∙◌, ap, sym, subst, refl, inl, inr, ℕ, ◌+◌, ◌<◌, ◌≤◌, Bool, true, cond, List, [], ◌∷◌, ◌++◌, map, length, None, Some, All, Contains, IsTrue, Result, Ok, Err, append-nil, arith, bytes_eq, slice_get}
+use Rattle.std.proofs.Common.{◌≡◌, ◌≢◌, ◌∙◌, ◌⊎◌, ap, sym, subst, refl, inl, inr, ℕ, ◌+◌, ◌<◌, ◌≤◌, Bool, true, cond, List, [], ◌∷◌, ◌++◌, map, length, None, Some, All, Contains, IsTrue, Result, Ok, Err, append-nil, arith, bytes_eq, slice_get}
 use Rattle.std.proofs.lemmas.List.Elements.{All-nil}
 use Rattle.std.proofs.lemmas.Slice.Eq.{bytes_eq-Decides}
 use Rattle.fx_terms.proofs.SetLemmas.{Among}
@@ -31,7 +31,12 @@ use Rattle.fx_walks.specs.GroupsAsked.{units_in}
 use Rattle.fx_outcomes.specs.Invocations.{AreInvoked, AreLost, Calling, IsAt, IsStopped}
 use Rattle.fx_outcomes.specs.Mediation.{FailedBeside, IsNamed}
 use Rattle.fx_services.specs.Noted.{cause_of, places}
-use Rattle.fx_outcomes.specs.Outcomes.{HasBatchRefusal, HasRefusal, IsPlacedAt, IsTold, Outcomed}
+use Rattle.fx_outcomes.specs.Order.{AreGiven}
+use Rattle.fx_outcomes.specs.RoundEnds.{IsAbandoned}
+use Rattle.fx_outcomes.specs.Rounds.{IsLeftBy, IsMarked}
+use Rattle.fx_outcomes.specs.declared.rounds.Left.{Left}
+use Rattle.fx_outcomes.specs.declared.rounds.Round.{Round}
+use Rattle.fx_outcomes.specs.Outcomes.{HasBatchEvent, HasBatchRefusal, HasRefusal, IsPlacedAt, IsTold, Outcomed}
 use Rattle.fx_walks.specs.Tasks.{tasks_with}
 use Rattle.fx_walks.specs.Unknown.{unknown_of}
 use Rattle.fx_services.specs.declared.noted.Down.{Down}
@@ -75,6 +80,13 @@ failed_beside s t u es q block us wanted xs calls counted known why (fed.Request
 failed_beside s t u es q block us wanted xs calls counted known why (fed.UnknownService iri) k n = tt
 failed_beside s t u es q block us wanted xs calls counted known why fed.Memory k n = tt
 
+-- the refusal of a member that there is has a name
+named_for : (es : List EndpointParts) (why : FlowError) (l : Left) → IsLeftBy why l → IsMarked true es l.at → (e : FedError) × IsNamed es why e × (e ≢ fed.Memory)
+named_for es (flow.Member at) l its m = (fed.Member m.0.name, (m.0, ap (λ (n : ℕ). slice_get es n) (sym (ap (λ (x : Left). x.at) its)) ∙ m.1, refl), λ h. cc)
+named_for es (flow.BadReply at bad) l its m = (fed.BadReply m.0.name bad, ((m.0, ap (λ (n : ℕ). slice_get es n) (sym (ap (λ (x : Left). x.at) its)) ∙ m.1, refl), refl), λ h. cc)
+named_for es (flow.RequestTooLong at size) l its m = (fed.RequestTooLong m.0.name size, ((m.0, ap (λ (n : ℕ). slice_get es n) (sym (ap (λ (x : Left). x.at) its)) ∙ m.1, refl), refl), λ h. cc)
+named_for es flow.Memory l its m = absurd its
+
 module _ (tells alone : Bool) (s t u : List Seen) (a : AllTell tells s) (b : AllTell tells t) (es : List EndpointParts) (q : Query) (text : List ℕ) (accepted : Accepted text q) (plan : List Part) (block : ℕ) (found : List (List Bindings)) where
   abbrev Came : Result Answer RowsError → Type 0
   Came r = Asked tells alone t u es (tasks_with plan found) block (AnswerGiven es block (tasks_with plan found) q) (AnswerDue es block (tasks_with plan found) q) r
@@ -97,22 +109,58 @@ module _ (tells alone : Bool) (s t u : List Seen) (a : AllTell tells s) (b : All
     are_all : map (λ (c : Call). c.of) calls ≡ occurrences q
     are_all = ap (map (λ (c : Call). c.of)) same_calls ∙ i.are
 
-    pub all_given : (outcome : Outcome) (answer : Answer) (k : Came (Ok answer)) → outcome.answer ≡ answer → outcome.down ≡ down → Outcomed tells alone s u es q plan block (Ok outcome)
-    all_given outcome answer k same gone =
+    pub all_given : (Told Untold : FlowError → Type 0) (outcome : Outcome) (answer : Answer) (k : Came (Ok answer)) → outcome.answer ≡ answer → outcome.down ≡ down → Outcomed Told Untold tells alone s u es q plan block (Ok outcome)
+    all_given Told Untold outcome answer k same gone =
         let is_down : outcome.down ≡ down_in calls = gone ∙ i.down_are ∙ ap down_in (sym same_calls) in
-        outcomed tells alone s t u a b es q text accepted plan block found i.calls [] i.passed i.rows_are its_calling (inr are_all) (Ok answer) k (Ok outcome) k.unfailed exactly are_all (subst (All IsPassed) (sym same_calls) i.passed) is_down
+        outcomed tells alone s t u a b es q text accepted plan block found i.calls [] i.passed i.rows_are its_calling (inr are_all) (Ok answer) k Told Untold (Ok outcome) k.unfailed exactly are_all (subst (All IsPassed) (sym same_calls) i.passed) is_down
         (λ graphs its over.
         same
         ∙ its_answer tells alone s t u a b es q text accepted plan block found i.calls [] i.passed i.rows_are its_calling (inr are_all) (Ok answer) k answer refl graphs its over
         ∙ ap (λ (v : List Down). answer_of q (union graphs) its (places v)) (sym is_down)) k.whole k.faultless tt tt tt
 
-    pub all_refused : (why : FlowError) (e : FedError) (k : Came (Err (rows_error.Flow why))) → IsNamed es why e → Outcomed tells alone s u es q plan block (Err e)
-    all_refused why e k n =
-        let refused : HasBatchRefusal s u es plan found block k.wanted k.exchanges e =
-        (why, flow_cause_behind s t u i.calling.after_all k.exchanges k.exchanges (λ x m. m) es (units_in (tasks_with plan found)) block [] k.wanted why k.cause, n) in
-        let known : AreAllKnown calls (occurrences q) = record { are = are_all; known = passed_known calls (subst (All IsPassed) (sym same_calls) i.passed) } in
-        outcomed tells alone s t u a b es q text accepted plan block found i.calls [] i.passed i.rows_are its_calling (inr are_all) (Err (rows_error.Flow why)) k (Err e) tt tt tt tt tt tt tt tt (inl refused)
-        (failed_beside s t u es q block (units_in (tasks_with plan found)) k.wanted k.exchanges calls its_calling.counted known why e k.cause n) (inl refused)
+    known_calls : AreAllKnown calls (occurrences q)
+    known_calls = record { are = are_all; known = passed_known calls (subst (All IsPassed) (sym same_calls) i.passed) }
+
+    -- the cause, behind the occurrences
+    its_cause : (why : FlowError) (k : Came (Err (rows_error.Flow why))) → HasFlowCause s u es (units_in (tasks_with plan found)) block k.wanted k.exchanges why
+    its_cause why k = flow_cause_behind s t u i.calling.after_all k.exchanges k.exchanges (λ x m. m) es (units_in (tasks_with plan found)) block [] k.wanted why k.cause
+
+    pub all_refused : (Told Untold : FlowError → Type 0) (why : FlowError) (e : FedError) (k : Came (Err (rows_error.Flow why))) → IsNamed es why e → Told why → Outcomed Told Untold tells alone s u es q plan block (Err e)
+    all_refused Told Untold why e k n may =
+        let refused : HasBatchRefusal Told s u es plan found block k.wanted k.exchanges e = (why, its_cause why k, n, may) in
+        outcomed tells alone s t u a b es q text accepted plan block found i.calls [] i.passed i.rows_are its_calling (inr are_all) (Err (rows_error.Flow why)) k Told Untold (Err e) tt tt tt tt tt tt tt tt (inl refused)
+        (failed_beside s t u es q block (units_in (tasks_with plan found)) k.wanted k.exchanges calls its_calling.counted known_calls why e k.cause n) (inl refused)
+
+    -- memory ran out
+    pub all_lost : (Told Untold : FlowError → Type 0) (why : FlowError) (k : Came (Err (rows_error.Flow why))) → Told flow.Memory → Outcomed Told Untold tells alone s u es q plan block (Err fed.Memory)
+    all_lost Told Untold why k may =
+        let refused : HasBatchRefusal Told s u es plan found block k.wanted k.exchanges fed.Memory = (flow.Memory, tt, tt, may) in
+        outcomed tells alone s t u a b es q text accepted plan block found i.calls [] i.passed i.rows_are its_calling (inr are_all) (Err (rows_error.Flow why)) k Told Untold (Err fed.Memory) tt tt tt tt tt tt tt tt (inl refused) tt (inl refused)
+
+    -- The round is abandoned where the refusal names a member that is left out: what is known is what is where that is told.
+    pub all_abandoned : (why : FlowError) (k : Came (Err (rows_error.Flow why))) (l : Left) → IsLeftBy why l → IsMarked true es l.at → (r : Round) → r.left ≡ l ∷ [] → r.down ≡ places down → IsAbandoned tells alone s u es q plan block r
+    unfolding outcomed
+    all_abandoned why k l its marked r one gone =
+        let same = λ (it : FlowError). it ≡ why in
+        let told = named_for es why l its marked in
+        let refused : HasBatchRefusal same s u es plan found block k.wanted k.exchanges told.0 = (why, its_cause why k, told.1, refl) in
+        record {
+          why = why;
+          error = told.0;
+          named = told.1;
+          of_member = told.2;
+          left = l;
+          its = its;
+          optional = marked;
+          left_is = one;
+          went =
+              outcomed tells alone s t u a b es q text accepted plan block found i.calls [] i.passed i.rows_are its_calling (inr are_all) (Err (rows_error.Flow why)) k same same (Err told.0) tt tt tt tt tt tt tt tt (inl refused)
+              (failed_beside s t u es q block (units_in (tasks_with plan found)) k.wanted k.exchanges calls its_calling.counted known_calls why told.0 k.cause told.1) (inl refused);
+          cause = its_cause why k;
+          all_called = are_all;
+          passed = subst (All IsPassed) (sym same_calls) i.passed;
+          down_is = gone ∙ ap places i.down_are ∙ ap (λ (v : List Call). places (down_in v)) (sym same_calls);
+        }
 
   -- ---- one was refused
 
@@ -191,36 +239,48 @@ module _ (tells alone : Bool) (s t u : List Seen) (a : AllTell tells s) (b : All
     told_beside w (fed.UnknownService iri) told = tt
     told_beside w fed.Memory told = tt
 
-    told_refused : (v : Result Answer RowsError) (k : Came v) → k.failed ≡ 0 → k.left ≡ [] → All (IsBatchRead (Contains (units_in (tasks_with plan found)))) k.exchanges → (fe : FedError) → IsTold es e fe → Outcomed tells alone s u es q plan block (Err fe)
-    told_refused v k none whole read fe told =
-        outcomed tells alone s t u a b es q text accepted plan block found h.front (h.refused ∷ h.behind) h.passed h.rows_are h.calling (inr h.are) v k (Err fe) tt tt tt tt tt tt tt tt
-        (inr (refusal_so e fe (λ address. gain_laws.never_fall t u address k.went.after_all) refl told)) (told_beside e fe told)
-        (inr (record { whole = whole; read = read; exact = λ is. none_but_theirs tells alone s t u a b es q text accepted plan block found h.front (h.refused ∷ h.behind) h.passed h.rows_are h.calling (inr h.are) v k none h.exact is }))
+    -- the occurrence is told, where what was asked for beside it was given, or a batch was refused of which the like isn't told
+    told_refused : (Told Untold : FlowError → Type 0) (v : Result Answer RowsError) (k : Came v) (fe : FedError) → IsTold es e fe
+        → HasBatchEvent Untold s u es plan found block k.wanted k.exchanges ⊎ AreGiven alone s u their_calls (IsBatchRead (Contains (units_in (tasks_with plan found)))) k.left k.exchanges → Outcomed Told Untold tells alone s u es q plan block (Err fe)
+    told_refused Told Untold v k fe told given =
+        outcomed tells alone s t u a b es q text accepted plan block found h.front (h.refused ∷ h.behind) h.passed h.rows_are h.calling (inr h.are) v k Told Untold (Err fe) tt tt tt tt tt tt tt tt
+        (inr (refusal_so e fe (λ address. gain_laws.never_fall t u address k.went.after_all) refl told)) (told_beside e fe told) (inr given)
+
+    all_given_before : (v : Result Answer RowsError) (k : Came v) → k.failed ≡ 0 → k.left ≡ [] → All (IsBatchRead (Contains (units_in (tasks_with plan found)))) k.exchanges
+        → AreGiven alone s u their_calls (IsBatchRead (Contains (units_in (tasks_with plan found)))) k.left k.exchanges
+    all_given_before v k none whole read =
+        record { whole = whole; read = read; exact = λ is. none_but_theirs tells alone s t u a b es q text accepted plan block found h.front (h.refused ∷ h.behind) h.passed h.rows_are h.calling (inr h.are) v k none h.exact is }
 
     -- it was come to behind the runs before it, or these were all of them
-    pub told_behind : (k : Came (Err rows_error.Refused)) (fe : FedError) → IsTold es e fe → Outcomed tells alone s u es q plan block (Err fe)
-    told_behind k fe told = told_refused (Err rows_error.Refused) k k.unfailed k.whole k.faultless fe told
+    pub told_behind : (Told Untold : FlowError → Type 0) (k : Came (Err rows_error.Refused)) (fe : FedError) → IsTold es e fe → Outcomed Told Untold tells alone s u es q plan block (Err fe)
+    told_behind Told Untold k fe told = told_refused Told Untold (Err rows_error.Refused) k fe told (inr (all_given_before (Err rows_error.Refused) k k.unfailed k.whole k.faultless))
 
-    pub told_at_the_end : (answer : Answer) (k : Came (Ok answer)) (fe : FedError) → IsTold es e fe → Outcomed tells alone s u es q plan block (Err fe)
-    told_at_the_end answer k fe told = told_refused (Ok answer) k k.unfailed k.whole k.faultless fe told
+    pub told_at_the_end : (Told Untold : FlowError → Type 0) (answer : Answer) (k : Came (Ok answer)) (fe : FedError) → IsTold es e fe → Outcomed Told Untold tells alone s u es q plan block (Err fe)
+    told_at_the_end Told Untold answer k fe told = told_refused Told Untold (Ok answer) k fe told (inr (all_given_before (Ok answer) k k.unfailed k.whole k.faultless))
 
-    pub run_refused : (why : FlowError) (fe : FedError) (k : Came (Err (rows_error.Flow why))) → IsNamed es why fe → Outcomed tells alone s u es q plan block (Err fe)
-    run_refused why fe k n =
-        let refused : HasBatchRefusal s u es plan found block k.wanted k.exchanges fe =
-        (why, flow_cause_behind s t u h.calling.after_all k.exchanges k.exchanges (λ x m. m) es (units_in (tasks_with plan found)) block [] k.wanted why k.cause, n) in
-        outcomed tells alone s t u a b es q text accepted plan block found h.front (h.refused ∷ h.behind) h.passed h.rows_are h.calling (inr h.are) (Err (rows_error.Flow why)) k (Err fe) tt tt tt tt tt tt tt tt (inl refused)
+    its_run_cause : (why : FlowError) (k : Came (Err (rows_error.Flow why))) → HasFlowCause s u es (units_in (tasks_with plan found)) block k.wanted k.exchanges why
+    its_run_cause why k = flow_cause_behind s t u h.calling.after_all k.exchanges k.exchanges (λ x m. m) es (units_in (tasks_with plan found)) block [] k.wanted why k.cause
+
+    -- a run before it was refused, of which the like isn't told
+    pub told_instead : (Told Untold : FlowError → Type 0) (why : FlowError) (k : Came (Err (rows_error.Flow why))) (fe : FedError) → IsTold es e fe → Untold why → Outcomed Told Untold tells alone s u es q plan block (Err fe)
+    told_instead Told Untold why k fe told may = told_refused Told Untold (Err (rows_error.Flow why)) k fe told (inl (why, its_run_cause why k, may))
+
+    pub run_refused : (Told Untold : FlowError → Type 0) (why : FlowError) (fe : FedError) (k : Came (Err (rows_error.Flow why))) → IsNamed es why fe → Told why → Outcomed Told Untold tells alone s u es q plan block (Err fe)
+    run_refused Told Untold why fe k n may =
+        let refused : HasBatchRefusal Told s u es plan found block k.wanted k.exchanges fe = (why, its_run_cause why k, n, may) in
+        outcomed tells alone s t u a b es q text accepted plan block found h.front (h.refused ∷ h.behind) h.passed h.rows_are h.calling (inr h.are) (Err (rows_error.Flow why)) k Told Untold (Err fe) tt tt tt tt tt tt tt tt (inl refused)
         (failed_beside s t u es q block (units_in (tasks_with plan found)) k.wanted k.exchanges their_calls h.calling.counted known_all why fe k.cause n) (inl refused)
 
 -- ---- memory ran out while they were invoked
 
 pub lost_outcomed : (tells alone : Bool) (s t : List Seen) (a : AllTell tells s) (b : AllTell tells t) (es : List EndpointParts) (q : Query) (text : List ℕ) → Accepted text q → (plan : List Part) (block : ℕ) → AreLost tells alone s t es (occurrences q)
-    → Outcomed tells alone s t es q plan block (Err fed.Memory)
-lost_outcomed tells alone s t a b es q text accepted plan block h =
+    → (Told Untold : FlowError → Type 0) → Told flow.Memory → Outcomed Told Untold tells alone s t es q plan block (Err fed.Memory)
+lost_outcomed tells alone s t a b es q text accepted plan block h Told Untold may =
     let tasks = tasks_with plan [] in
     let k : Asked tells alone t t es tasks block (AnswerGiven es block tasks q) (AnswerDue es block tasks q) (Err (rows_error.Flow flow.Memory)) =
     unasked tells alone es tasks block (AnswerGiven es block tasks q) (AnswerDue es block tasks q) t
     (λ graphs served is right. no_run_sent es graphs block (stations q) (seeds q (union graphs) served.graphs served.down) (seeds_for_each q (union graphs) served.graphs served.down)) in
-    outcomed tells alone s t t a b es q text accepted plan block [] [] h.calls (All-nil IsPassed) refl h.calling h.called (Err (rows_error.Flow flow.Memory)) k (Err fed.Memory) tt tt tt tt tt tt tt tt (inr tt) tt (inl (flow.Memory, tt, tt))
+    outcomed tells alone s t t a b es q text accepted plan block [] [] h.calls (All-nil IsPassed) refl h.calling h.called (Err (rows_error.Flow flow.Memory)) k Told Untold (Err fed.Memory) tt tt tt tt tt tt tt tt (inr tt) tt (inl (flow.Memory, tt, tt, may))
 
 -- ---- the number in a reason
 

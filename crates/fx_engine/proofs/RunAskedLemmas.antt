@@ -1,7 +1,6 @@
 -- What a run sends and gives by its task.
-use Rattle.std.proofs.Common.{◌≡◌, ◌∙◌, ap, sym, subst, refl, ℕ, suc, ◌+◌, ◌<◌, ◌≤◌, Bool, true, false, List, [], ◌∷◌, map, drop, length, get_or, Ok, Err, All, Contains, arith, drop-cons, drop_of_length-le}
+use Rattle.std.proofs.Common.{◌≡◌, ◌∙◌, sym, subst, refl, ℕ, ◌+◌, ◌≤◌, Bool, true, false, List, [], ◌∷◌, map, drop, length, Ok, Err, All, Contains, drop_of_length-le}
 use Rattle.std.specs.List.{list_any}
-use Rattle.std.proofs.lemmas.List.{drop-drop}
 use Rattle.fx_terms.proofs.SetLemmas.{among_from, contains_from}
 use Rattle.fx_terms.specs.declared.triples.Triple.{Triple}
 use Rattle.fx_terms.specs.declared.patterns.Pattern.{Pattern}

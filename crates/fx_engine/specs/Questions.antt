@@ -1,5 +1,5 @@
 -- What comes of a query behind its occurrences of SERVICE.
-use Rattle.std.specs.Prelude.{ℕ, Bool, List, Result, All, length}
+use Rattle.std.specs.Prelude.{List, Result, Err, All, length}
 use Rattle.fx_algebra.specs.Solutions.{Bindings}
 use Rattle.fx_algebra.specs.declared.answers.Answer.{Answer}
 use Rattle.fx_plan.specs.declared.parts.Part.{Part}
@@ -9,12 +9,13 @@ use Rattle.fx_wire.specs.Exchanges.{Seen}
 use Rattle.fx_outcomes.specs.Calls.{occurrences}
 use Rattle.fx_engine.specs.RowsAsked.{CanBeAsked}
 use Rattle.fx_outcomes.specs.Invocations.{AreInvoked, IsStopped}
-use Rattle.fx_outcomes.specs.Outcomes.{AllTell, Outcomed}
+use Rattle.fx_outcomes.specs.Outcomes.{AllTell}
+use Rattle.fx_outcomes.specs.RoundEnds.{RoundEnded}
 use Rattle.fx_walks.specs.Tasks.{tasks_with}
 use Rattle.fx_engine.specs.Walks.{AnswerAsked}
 use Rattle.fx_traffic.specs.Gains.{WiresSeen}
 use Rattle.fx_outcomes.specs.declared.federated.FedError.{FedError}
-use Rattle.fx_outcomes.specs.declared.federated.Outcome.{Outcome}
+use Rattle.fx_outcomes.specs.declared.rounds.Ended.{Ended}
 use Rattle.fx_engine.specs.declared.questions.Question.{Question}
 use Rattle.fx_engine.specs.declared.rows.RowsError.{RowsError}
 
@@ -27,17 +28,17 @@ abbrev pub AnsweredBy : WiresSeen → Question → List Part → List (List Bind
 AnsweredBy w q plan rows answer = AnswerAsked w q.registry.now q.block (tasks_with plan rows) q.query.now answer
 
 -- its occurrences of SERVICE were invoked, and then its runs were asked for
-abbrev pub OutcomedBy : WiresSeen → Question → List Part → Result Outcome FedError → Type 0
-OutcomedBy w q plan outcome = Outcomed w.tells w.alone w.before w.after q.registry.now q.query.now plan q.block outcome
+abbrev pub EndedBy : WiresSeen → Question → List Part → Result Ended FedError → Type 0
+EndedBy w q plan result = RoundEnded q.leaves w.tells w.alone w.before w.after q.registry.now q.query.now plan q.block result
 
 -- so they were, if all occurrences of SERVICE had been invoked before and had these rows, and these of them were down
-abbrev pub OutcomedBehindAll : WiresSeen → Question → List Part → List Down → List (List Bindings) → Result Outcome FedError → Type 0
-OutcomedBehindAll w q plan down rows outcome =
+abbrev pub EndedBehindAll : WiresSeen → Question → List Part → List Down → List (List Bindings) → Result Ended FedError → Type 0
+EndedBehindAll w q plan down rows result =
     (start : List Seen) → AllTell w.tells start → AreInvoked w.tells w.alone start w.before q.registry.now (occurrences q.query.now) down rows
-    → Outcomed w.tells w.alone start w.after q.registry.now q.query.now plan q.block outcome
+    → RoundEnded q.leaves w.tells w.alone start w.after q.registry.now q.query.now plan q.block result
 
 -- and if the first of them had these rows, and the next, which isn't silent, had none for this reason
-abbrev pub OutcomedBehindStop : WiresSeen → Question → List Part → List (List Bindings) → ServiceError → Result Outcome FedError → Type 0
-OutcomedBehindStop w q plan rows why outcome =
+abbrev pub OutcomedBehindStop : WiresSeen → Question → List Part → List (List Bindings) → ServiceError → FedError → Type 0
+OutcomedBehindStop w q plan rows why error =
     (start : List Seen) → AllTell w.tells start → IsStopped w.tells w.alone start w.before q.registry.now (occurrences q.query.now) rows why
-    → Outcomed w.tells w.alone start w.after q.registry.now q.query.now plan q.block outcome
+    → RoundEnded q.leaves w.tells w.alone start w.after q.registry.now q.query.now plan q.block (Err error)

@@ -1,5 +1,5 @@
 -- Runs that begin with the one empty solution, asked for together: what each of their tasks has for requests, and what is found.
-use Rattle.std.specs.Prelude.{◌≡◌, ◌+◌, ◌&&◌, ℕ, Bool, true, false, List, [], ◌∷◌, ◌++◌, length, Contains, All, Result, Ok, Err, IsPermutation, drop}
+use Rattle.std.specs.Prelude.{◌≡◌, ◌+◌, ◌&&◌, ℕ, Bool, true, false, List, [], ◌∷◌, ◌++◌, length, Result, Ok, Err, IsPermutation}
 use Rattle.std.specs.List.{flat_map, list_all}
 use Rattle.std.specs.declared.vec.Vec.{Vec}
 use Rattle.std.specs.declared.alloc.Global.{Global}
@@ -25,7 +25,7 @@ use Rattle.fx_engine.specs.Asked.{Asked}
 use Rattle.fx_walks.specs.GroupsAsked.{AlternativesDue, AlternativesGiven, ElementDue, ElementGiven, EndDue, EndGiven, IsRunFound, is_run, own_patterns, run_task}
 use Rattle.fx_walks.specs.RunsSent.{IsSentForRun}
 use Rattle.fx_walks.specs.SectionSteps.{group_of}
-use Rattle.fx_walks.specs.Tasks.{AreNext, front_of}
+use Rattle.fx_walks.specs.Tasks.{AreNext}
 use Rattle.fx_engine.specs.declared.rows.RowsError.{RowsError}
 use Rattle.fx_engine.specs.declared.rows.RowsError.TheVariants as rows_error
 use Rattle.fx_walks.specs.declared.tasks.Task.{Task}

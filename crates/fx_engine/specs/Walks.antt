@@ -1,5 +1,5 @@
 -- What a walk through the groups of a query leaves of the wires, and what it gives.
-use Rattle.std.specs.Prelude.{ℕ, Bool, List, Result, All, Contains, length, map}
+use Rattle.std.specs.Prelude.{ℕ, Bool, List, Result, All, Contains, length}
 use Rattle.fx_algebra.specs.Solutions.{Bindings}
 use Rattle.fx_algebra.specs.declared.answers.Answer.{Answer}
 use Rattle.fx_algebra.specs.declared.queries.Element.{Element}

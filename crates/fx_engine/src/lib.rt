@@ -4,14 +4,20 @@
 mod answers;
 mod groups;
 mod hands;
+pub mod in_rounds;
 pub mod mediator;
 mod outcomes;
 mod questions;
+mod rounds;
 mod rows;
 mod together;
 mod walks;
 
-pub use fx_outcomes::{FedError, MemberName, Options, Outcome, fault_code, fault_words};
+pub use fx_outcomes::{
+    FedError, Left, LeftCause, MemberName, Options, Outcome, OutcomeInRounds, PlanInRounds, Round,
+    fault_code, fault_words,
+};
 pub use fx_pool::{BadReply, ReplyFault};
 pub use fx_services::{Down, DownCause};
+pub use in_rounds::{federate_in_rounds, federate_in_rounds_by, plan_in_rounds, plan_in_rounds_by};
 pub use mediator::{federate, federate_by, plan_parts, plan_parts_by};

@@ -14,7 +14,7 @@ use crate::questions::Question;
 use fx_algebra::{Query, Row, Solution, Unit};
 use fx_flows::{FlowError, run_flow};
 use fx_outcomes::choices::{Choice, choose_parts};
-use fx_outcomes::{FedError, Options, Outcome, named};
+use fx_outcomes::{Ended, FedError, Options, Outcome, named};
 use fx_outside::Endpoint;
 use fx_plan::Part;
 use fx_pool::{Job, JobReply, run_jobs};
@@ -142,10 +142,12 @@ fn federate_known<H: DoesJobs<W> + DoesFlows<W>, W: Wire>(
                 query,
                 registry,
                 block: options.block,
+                leaves: false,
             };
             match outcome_by_plan(hands, alloc, &question, parts, wires) {
                 Err(error) => Err(error),
-                Ok(outcome) => match cache.learn(probes, truths.as_slice()) {
+                Ok(Ended::Abandoned(_)) => unreachable!(),
+                Ok(Ended::Answered(outcome)) => match cache.learn(probes, truths.as_slice()) {
                     Err(Memory) => Err(FedError::Memory),
                     Ok(()) => Ok(outcome),
                 },

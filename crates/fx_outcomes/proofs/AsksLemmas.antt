@@ -1,34 +1,32 @@
 -- What asking for probes leaves of wires: all of them at once, or in pieces.
-use Rattle.std.proofs.Common.{◌≡◌, ◌∙◌, ap, sym, subst, refl, ℕ, ◌+◌, ◌<◌, ◌≤◌, Bool, List, [], ◌∷◌, ◌++◌, map, Some, None, IfOk, IfErr, Result, Ok, Err, All, Contains, IsPermutation, Option, length, slice_get, take, drop, take-append-drop, arith, append-nil, append_assoc}
+use Rattle.std.proofs.Common.{◌≡◌, ◌∙◌, ap, sym, subst, refl, ℕ, ◌+◌, ◌<◌, ◌≤◌, Bool, List, [], ◌++◌, map, Some, None, IfOk, IfErr, IsTrue, Result, Ok, Err, All, Contains, IsPermutation, Option, length, slice_get, take, drop, take-append-drop, arith, append-nil}
 use Rattle.std.specs.List.{AllByRecursion, zip}
 use Rattle.std.proofs.lemmas.List.{length-map, map-append}
-use Rattle.std.proofs.lemmas.List.Elements.{All-append, All-contains, All-from_recursion, All-weaker, recursion_from_All, Contains-append_left, Contains-append_right}
-use Rattle.std.proofs.lemmas.List.Sorted.{All-permutation, Contains-permutation, IsPermutation-append, IsPermutation-append_left, IsPermutation-refl, IsPermutation-trans}
+use Rattle.std.proofs.lemmas.List.Elements.{All-contains, All-drop, All-from_recursion, All-map, recursion_from_All}
+use Rattle.std.proofs.lemmas.List.Sorted.{All-permutation, Contains-permutation, IsPermutation-refl}
 use Rattle.fx_terms.specs.declared.triples.Triple.{Triple}
 use Rattle.fx_terms.proofs.SetLemmas.{Among, among_from, contains_from}
 use Rattle.fx_outside.specs.Endpoints.{EndpointParts}
 use Rattle.fx_spelling.specs.Printable.{IsTriple}
 use Rattle.fx_keys.specs.declared.probes.Probe.{Probe}
 use Rattle.fx_sources.specs.Sources as source
-use Rattle.fx_traffic.specs.Gains.{AreAfter, Tell, TellAll, faults_at}
-use Rattle.fx_traffic.specs.Sent.{Sent}
-use Rattle.fx_traffic.specs.Traffic.{AreAsksSent}
+use Rattle.fx_traffic.specs.Gains.{TellAll, faults_at}
 use Rattle.fx_traffic.proofs.GainLemmas.{gain_laws}
-use Rattle.fx_traffic.proofs.SentLemmas.{middle_changes, sent_laws}
+use Rattle.fx_traffic.proofs.SentLemmas.{sent_laws}
 use Rattle.fx_wire.specs.Exchanges.{Exchange, Seen}
 use Rattle.fx_pool.specs.Jobs.{AreDone, failures_at}
-use Rattle.fx_pool.specs.Runs.{WiresDid}
+use Rattle.fx_pool.specs.Runs.{AreOfJobs, WiresDid, jobs_at}
 use Rattle.fx_flows.specs.declared.flows.FlowError.{FlowError}
 use Rattle.fx_flows.specs.declared.flows.FlowError.TheVariants as flow
 use Rattle.fx_pool.specs.declared.jobs.JobReply.{JobReply}
 use Rattle.fx_pool.specs.declared.jobs.JobReply.TheVariants as reply
 use Rattle.fx_pool.proofs.WireLemmas.{after_itself}
 use Rattle.fx_services.proofs.InTurnLemmas.{did_in_turn, did_in_vain}
-use Rattle.fx_pool.proofs.RunLemmas.{behind}
+use Rattle.fx_pool.proofs.RunLemmas.{all_wanted, behind, jobs_both, of_both}
 use Rattle.fx_pool.specs.declared.jobs.Job.{Job}
 use Rattle.fx_outcomes.specs.AskSteps.{AreTruthsOf, IsRefusal, IsRefused, job_of}
-use Rattle.fx_outcomes.specs.Asks.{AskedAll, HasFailedAsk, HasProbeCause, IsAnsweredBy, IsAskCause, IsAskRead, IsProbeCause}
-use Rattle.fx_pool.proofs.WiresLemmas.{AllTell, all_after, gained_both, still_tell, still_tell_all}
+use Rattle.fx_outcomes.specs.Asks.{AskedAll, HasFailedAsk, HasProbeCause, IsAnsweredBy, IsAskRead}
+use Rattle.fx_pool.proofs.WiresLemmas.{AllTell}
 use Rattle.fx_outcomes.proofs.ProbeLemmas.{AllAmong, SplitAsks, all_answered, all_read, all_told, among_probes, as_many, asks_sent, cause, done_at, failed_counts, no_failures, split_asks}
 
 module _ (tells alone : Bool) (es : List EndpointParts) where
@@ -107,145 +105,163 @@ module _ (tells alone : Bool) (es : List EndpointParts) where
       failed = tt;
     }
 
-    -- the replies are truth values, or one of them is refused
-    pub asked_at_once : All (λ p. IsTriple p.key.pattern) ps → (rs : List JobReply) → WiresDid tells alone s t es (map job_of ps) (Some rs) → (r : Result (List Bool) FlowError) → AreTruthsOf ps rs r → AskedAll tells alone s t es ps r
-    asked_at_once triples rs h r k = record {
-      exchanges = h.exchanges;
-      gained = h.gained;
-      after_all = h.left;
-      quiet = λ is. quiet r k (h.exact is);
-      asked = ps;
-      unasked = [];
-      split = all_of ps;
-      wanted = parts.wanted;
-      left = parts.left;
-      texts = parts.texts;
-      sent = sent_laws.any_order parts.wanted parts.left ordered h.exchanges h.done.2 parts.sent;
-      whole = whole r k;
-      many = many r k;
-      faultless = faultless r k;
-      answered = answered r k;
-      told = told r k;
-      cause = cause_in r k;
-      failed = failed_in r k;
-    }
-      where
-        quiet : (o : Result (List Bool) FlowError) → AreTruthsOf ps rs o → ((address : List ℕ) → faults_at t address ≡ faults_at s address + failures_at es address (map job_of ps) rs)
-            → IfOk o (λ _. (address : List ℕ) → faults_at t address ≡ faults_at s address)
-        quiet (Ok truths) are f = λ address.
-            let zero : failures_at es address (map job_of ps) rs ≡ 0 = ap (failures_at es address (map job_of ps)) are ∙ no_failures es address ps truths in
-            let all : faults_at t address ≡ faults_at s address + failures_at es address (map job_of ps) rs = f address in
-            omega (arith, zero, all)
-        quiet (Err e) are f = tt
+    -- what the replies tell of a refusal
+    module _ (triples : All (λ p. IsTriple p.key.pattern) ps) (rs : List JobReply) (h : WiresDid tells alone s t es (map job_of ps) (Some rs)) where
+      -- the exchanges in the order of the probes
+      abbrev pub ordered : List Exchange
+      ordered = h.done.0
 
-        -- the exchanges in the order of the probes
-        ordered : List Exchange
-        ordered = h.done.0
+      abbrev pub parts : SplitAsks es ps rs ordered
+      parts = split_asks es ps rs ordered h.done.1
 
-        parts : SplitAsks es ps rs ordered
-        parts = split_asks es ps rs ordered h.done.1
+      pub among_all : AllAmong ordered h.exchanges
+      among_all x m = Contains-permutation ordered h.exchanges x h.done.2 m
 
-        among_all : AllAmong ordered h.exchanges
-        among_all x m = Contains-permutation ordered h.exchanges x h.done.2 m
+      refused : (e : FlowError) → IsRefused ps rs e → HasProbeCause s t es ps h.exchanges e
+      refused e it =
+          let m = among_from (zip ps rs) (it.probe, it.reply) it.among in
+          let d = done_at es ps rs ordered it.probe it.reply h.done.1 m in
+          let among : Contains ps it.probe = contains_from ps it.probe (among_probes es ps rs it.probe it.reply m) in
+          cause es it.probe d.own h.exchanges (λ x own. among_all x (d.more x own)) s t ps h.honest (All-contains (λ (p : Probe). IsTriple p.key.pattern) ps it.probe triples among) among it.reply e d.done
+          (λ failed.
+          let one : 1 ≤ failures_at es d.done.endpoint.iri (map job_of ps) rs = failed_counts es d.done.endpoint it.probe d.done.found ps rs (subst (λ (r : JobReply). Among (it.probe, r) (zip ps rs)) failed m) in
+          let more : faults_at s d.done.endpoint.iri + failures_at es d.done.endpoint.iri (map job_of ps) rs ≤ faults_at t d.done.endpoint.iri = h.counted d.done.endpoint.iri in
+          omega (arith, one, more))
+          it.refused
 
-        done : (truths : List Bool) → rs ≡ map (λ truth. reply.Truth truth) truths → AreDone es (map job_of ps) (map (λ truth. reply.Truth truth) truths) ordered
-        done truths are = subst (λ (v : List JobReply). AreDone es (map job_of ps) v ordered) are h.done.1
+      -- its cause
+      pub cause_of : (e : FlowError) → IsRefused ps rs e → HasProbeCause s t es ps h.exchanges e
+      cause_of (flow.Member at) it = refused (flow.Member at) it
+      cause_of (flow.BadReply at bad) it = refused (flow.BadReply at bad) it
+      cause_of (flow.RequestTooLong at size) it = refused (flow.RequestTooLong at size) it
+      cause_of flow.Memory it = tt
 
-        whole : (o : Result (List Bool) FlowError) → AreTruthsOf ps rs o → IfOk o (λ _. parts.left ≡ [])
-        whole (Ok truths) are = parts.none_left truths are
-        whole (Err e) are = tt
+      failed_one : (at : ℕ) (p : Probe) (r : JobReply) → Among (p, r) (zip ps rs) → IsRefusal p.at r (flow.Member at) → HasFailedAsk s t es ps parts.left (flow.Member at)
+      failed_one at p (reply.Truth truth) m is = absurd is
+      failed_one at p (reply.Found founds) m is = absurd is
+      failed_one at p (reply.Table rows) m is = absurd is
+      failed_one at p (reply.Bad bad) m is = absurd (no_bad is)
+        where
+          no_bad : flow.Member at ≡ flow.BadReply p.at bad → ⊥
+          no_bad e = cc
+      failed_one at p (reply.TooLong size) m is = absurd (not_long is)
+        where
+          not_long : flow.Member at ≡ flow.RequestTooLong p.at size → ⊥
+          not_long e = cc
+      failed_one at p reply.Failed m is =
+          let d = (done_at es ps rs ordered p reply.Failed h.done.1 m).done in
+          let one : 1 ≤ failures_at es d.endpoint.iri (map job_of ps) rs = failed_counts es d.endpoint p d.found ps rs m in
+          let more : faults_at s d.endpoint.iri + failures_at es d.endpoint.iri (map job_of ps) rs ≤ faults_at t d.endpoint.iri = h.counted d.endpoint.iri in
+          let same : at ≡ p.at = cc in (
+            d.endpoint,
+            ap (slice_get es) same ∙ d.found,
+            omega (arith, one, more),
+            record { probe = p; among = contains_from ps p (among_probes es ps rs p reply.Failed m); found = d.found; unsent = parts.unsent p d.endpoint m d.found },
+          )
 
-        many : (o : Result (List Bool) FlowError) → AreTruthsOf ps rs o → IfOk o (λ truths. length truths ≡ length ps)
-        many (Ok truths) are = sym (length-map truths (λ truth. reply.Truth truth)) ∙ ap length (sym are) ∙ as_many es ps rs ordered h.done.1
-        many (Err e) are = tt
+      -- where an exchange failed its ASK is left
+      pub failed_of : (e : FlowError) → IsRefused ps rs e → HasFailedAsk s t es ps parts.left e
+      failed_of (flow.Member at) it = failed_one at it.probe it.reply (among_from (zip ps rs) (it.probe, it.reply) it.among) it.refused
+      failed_of (flow.BadReply at bad) it = tt
+      failed_of (flow.RequestTooLong at size) it = tt
+      failed_of flow.Memory it = tt
 
-        faultless : (o : Result (List Bool) FlowError) → AreTruthsOf ps rs o → IfOk o (λ _. All (IsAskRead ps) h.exchanges)
-        faultless (Ok truths) are = All-permutation (IsAskRead ps) ordered h.exchanges h.done.2 (all_read es ps ps (λ p m. m) truths ordered (done truths are))
-        faultless (Err e) are = tt
+      -- where all replies are truth values there is none, each exchange was read, and none is left
+      pub all_quiet : (truths : List Bool) → rs ≡ map (λ truth. reply.Truth truth) truths → IsTrue alone → (address : List ℕ) → faults_at t address ≡ faults_at s address
+      all_quiet truths are is address =
+          let zero : failures_at es address (map job_of ps) rs ≡ 0 = ap (failures_at es address (map job_of ps)) are ∙ no_failures es address ps truths in
+          let all : faults_at t address ≡ faults_at s address + failures_at es address (map job_of ps) rs = h.exact is address in
+          omega (arith, zero, all)
 
-        answered : (o : Result (List Bool) FlowError) → AreTruthsOf ps rs o → IfOk o (λ truths. All (IsAnsweredBy es h.exchanges) (zip ps truths))
-        answered (Ok truths) are = All-from_recursion (IsAnsweredBy es h.exchanges) (zip ps truths) (all_answered es ps truths ordered h.exchanges among_all (done truths are))
-        answered (Err e) are = tt
+      pub all_faultless : (truths : List Bool) → rs ≡ map (λ truth. reply.Truth truth) truths → All (IsAskRead ps) h.exchanges
+      all_faultless truths are =
+          All-permutation (IsAskRead ps) ordered h.exchanges h.done.2
+          (all_read es ps ps (λ p m. m) truths ordered (subst (λ (v : List JobReply). AreDone es (map job_of ps) v ordered) are h.done.1))
 
-        told : (o : Result (List Bool) FlowError) → AreTruthsOf ps rs o → IfOk o (λ truths. (graphs : List (List Triple)) → TellAll s es graphs → All (source.Tells graphs) (zip ps truths))
-        told (Ok truths) are = λ graphs tells_all.
-            All-from_recursion (source.Tells graphs) (zip ps truths)
-            (all_told es s graphs tells_all ps truths ordered h.exchanges among_all h.honest (recursion_from_All (λ (p : Probe). IsTriple p.key.pattern) ps triples) (done truths are))
-        told (Err e) are = tt
+      -- the replies are truth values, or one of them is refused
+      pub asked_at_once : (r : Result (List Bool) FlowError) → AreTruthsOf ps rs r → AskedAll tells alone s t es ps r
+      asked_at_once r k = record {
+        exchanges = h.exchanges;
+        gained = h.gained;
+        after_all = h.left;
+        quiet = λ is. quiet r k is;
+        asked = ps;
+        unasked = [];
+        split = all_of ps;
+        wanted = parts.wanted;
+        left = parts.left;
+        texts = parts.texts;
+        sent = sent_laws.any_order parts.wanted parts.left ordered h.exchanges h.done.2 parts.sent;
+        whole = whole r k;
+        many = many r k;
+        faultless = faultless r k;
+        answered = answered r k;
+        told = told r k;
+        cause = cause_in r k;
+        failed = failed_in r k;
+      }
+        where
+          quiet : (o : Result (List Bool) FlowError) → AreTruthsOf ps rs o → IsTrue alone → IfOk o (λ _. (address : List ℕ) → faults_at t address ≡ faults_at s address)
+          quiet (Ok truths) are is = all_quiet truths are is
+          quiet (Err e) are is = tt
 
-        refused : (e : FlowError) → IsRefused ps rs e → HasProbeCause s t es ps h.exchanges e
-        refused e it =
-            let m = among_from (zip ps rs) (it.probe, it.reply) it.among in
-            let d = done_at es ps rs ordered it.probe it.reply h.done.1 m in
-            let among : Contains ps it.probe = contains_from ps it.probe (among_probes es ps rs it.probe it.reply m) in
-            cause es it.probe d.own h.exchanges (λ x own. among_all x (d.more x own)) s t ps h.honest (All-contains (λ (p : Probe). IsTriple p.key.pattern) ps it.probe triples among) among it.reply e d.done
-            (λ failed.
-            let one : 1 ≤ failures_at es d.done.endpoint.iri (map job_of ps) rs = failed_counts es d.done.endpoint it.probe d.done.found ps rs (subst (λ (r : JobReply). Among (it.probe, r) (zip ps rs)) failed m) in
-            let more : faults_at s d.done.endpoint.iri + failures_at es d.done.endpoint.iri (map job_of ps) rs ≤ faults_at t d.done.endpoint.iri = h.counted d.done.endpoint.iri in
-            omega (arith, one, more))
-            it.refused
+          done : (truths : List Bool) → rs ≡ map (λ truth. reply.Truth truth) truths → AreDone es (map job_of ps) (map (λ truth. reply.Truth truth) truths) ordered
+          done truths are = subst (λ (v : List JobReply). AreDone es (map job_of ps) v ordered) are h.done.1
 
-        cause_in : (o : Result (List Bool) FlowError) → AreTruthsOf ps rs o → IfErr o (HasProbeCause s t es ps h.exchanges)
-        cause_in (Ok truths) are = tt
-        cause_in (Err (flow.Member at)) are = refused (flow.Member at) are
-        cause_in (Err (flow.BadReply at bad)) are = refused (flow.BadReply at bad) are
-        cause_in (Err (flow.RequestTooLong at size)) are = refused (flow.RequestTooLong at size) are
-        cause_in (Err flow.Memory) are = tt
+          whole : (o : Result (List Bool) FlowError) → AreTruthsOf ps rs o → IfOk o (λ _. parts.left ≡ [])
+          whole (Ok truths) are = parts.none_left truths are
+          whole (Err e) are = tt
 
-        failed_one : (at : ℕ) (p : Probe) (r : JobReply) → Among (p, r) (zip ps rs) → IsRefusal p.at r (flow.Member at) → HasFailedAsk s t es ps parts.left (flow.Member at)
-        failed_one at p (reply.Truth truth) m is = absurd is
-        failed_one at p (reply.Found founds) m is = absurd is
-        failed_one at p (reply.Table rows) m is = absurd is
-        failed_one at p (reply.Bad bad) m is = absurd (no_bad is)
-          where
-            no_bad : flow.Member at ≡ flow.BadReply p.at bad → ⊥
-            no_bad e = cc
-        failed_one at p (reply.TooLong size) m is = absurd (not_long is)
-          where
-            not_long : flow.Member at ≡ flow.RequestTooLong p.at size → ⊥
-            not_long e = cc
-        failed_one at p reply.Failed m is =
-            let d = (done_at es ps rs ordered p reply.Failed h.done.1 m).done in
-            let one : 1 ≤ failures_at es d.endpoint.iri (map job_of ps) rs = failed_counts es d.endpoint p d.found ps rs m in
-            let more : faults_at s d.endpoint.iri + failures_at es d.endpoint.iri (map job_of ps) rs ≤ faults_at t d.endpoint.iri = h.counted d.endpoint.iri in
-            let same : at ≡ p.at = cc in (
-              d.endpoint,
-              ap (slice_get es) same ∙ d.found,
-              omega (arith, one, more),
-              record { probe = p; among = contains_from ps p (among_probes es ps rs p reply.Failed m); found = d.found; unsent = parts.unsent p d.endpoint m d.found },
-            )
+          many : (o : Result (List Bool) FlowError) → AreTruthsOf ps rs o → IfOk o (λ truths. length truths ≡ length ps)
+          many (Ok truths) are = sym (length-map truths (λ truth. reply.Truth truth)) ∙ ap length (sym are) ∙ as_many es ps rs ordered h.done.1
+          many (Err e) are = tt
 
-        failed_in : (o : Result (List Bool) FlowError) → AreTruthsOf ps rs o → IfErr o (HasFailedAsk s t es ps parts.left)
-        failed_in (Ok truths) are = tt
-        failed_in (Err (flow.Member at)) are = failed_one at are.probe are.reply (among_from (zip ps rs) (are.probe, are.reply) are.among) are.refused
-        failed_in (Err (flow.BadReply at bad)) are = tt
-        failed_in (Err (flow.RequestTooLong at size)) are = tt
-        failed_in (Err flow.Memory) are = tt
+          faultless : (o : Result (List Bool) FlowError) → AreTruthsOf ps rs o → IfOk o (λ _. All (IsAskRead ps) h.exchanges)
+          faultless (Ok truths) are = all_faultless truths are
+          faultless (Err e) are = tt
+
+          answered : (o : Result (List Bool) FlowError) → AreTruthsOf ps rs o → IfOk o (λ truths. All (IsAnsweredBy es h.exchanges) (zip ps truths))
+          answered (Ok truths) are = All-from_recursion (IsAnsweredBy es h.exchanges) (zip ps truths) (all_answered es ps truths ordered h.exchanges among_all (done truths are))
+          answered (Err e) are = tt
+
+          told : (o : Result (List Bool) FlowError) → AreTruthsOf ps rs o → IfOk o (λ truths. (graphs : List (List Triple)) → TellAll s es graphs → All (source.Tells graphs) (zip ps truths))
+          told (Ok truths) are = λ graphs tells_all.
+              All-from_recursion (source.Tells graphs) (zip ps truths)
+              (all_told es s graphs tells_all ps truths ordered h.exchanges among_all h.honest (recursion_from_All (λ (p : Probe). IsTriple p.key.pattern) ps triples) (done truths are))
+          told (Err e) are = tt
+
+          cause_in : (o : Result (List Bool) FlowError) → AreTruthsOf ps rs o → IfErr o (HasProbeCause s t es ps h.exchanges)
+          cause_in (Ok truths) are = tt
+          cause_in (Err (flow.Member at)) are = cause_of (flow.Member at) are
+          cause_in (Err (flow.BadReply at bad)) are = cause_of (flow.BadReply at bad) are
+          cause_in (Err (flow.RequestTooLong at size)) are = cause_of (flow.RequestTooLong at size) are
+          cause_in (Err flow.Memory) are = tt
+
+          failed_in : (o : Result (List Bool) FlowError) → AreTruthsOf ps rs o → IfErr o (HasFailedAsk s t es ps parts.left)
+          failed_in (Ok truths) are = tt
+          failed_in (Err (flow.Member at)) are = failed_of (flow.Member at) are
+          failed_in (Err (flow.BadReply at bad)) are = tt
+          failed_in (Err (flow.RequestTooLong at size)) are = tt
+          failed_in (Err flow.Memory) are = tt
 
   -- ---- in pieces
 
-  -- memory lacked for some of them, and the others weren't asked for
-  rest_left : (s t : List Seen) (ps rest : List Probe) → AskedAll tells alone s t es ps (Err flow.Memory) → AskedAll tells alone s t es (ps ++ rest) (Err flow.Memory)
-  rest_left s t ps rest h = record {
-    exchanges = h.exchanges;
-    gained = h.gained;
-    after_all = h.after_all;
-    quiet = λ is. tt;
-    asked = h.asked;
-    unasked = h.unasked ++ rest;
-    split = subst (λ (v : List Probe). IsPermutation v (ps ++ rest)) (append_assoc h.asked h.unasked rest) (IsPermutation-append_left rest (h.asked ++ h.unasked) ps h.split);
-    wanted = h.wanted;
-    left = h.left;
-    texts = h.texts;
-    sent = h.sent;
-    whole = tt;
-    many = tt;
-    faultless = tt;
-    answered = tt;
-    told = tt;
-    cause = tt;
-    failed = tt;
-  }
+  -- memory lacked for some jobs, and others weren't begun
+  not_on : (s t : List Seen) (js ks : List Job) → AllByRecursion (λ j. j.at < length es) ks → WiresDid tells alone s t es js None → WiresDid tells alone s t es (js ++ ks) None
+  not_on s t js ks within h =
+      let rest = all_wanted es ks within in
+      let none : AreOfJobs es ks [] = record { wanted = rest.0; of_jobs = rest.1; left = rest.0; sent = IsPermutation-refl rest.0 } in
+      record {
+        exchanges = h.exchanges;
+        gained = h.gained;
+        honest = h.honest;
+        left = h.left;
+        of_jobs = subst (AreOfJobs es (js ++ ks)) (append-nil h.exchanges) (of_both es js ks h.exchanges [] h.of_jobs none);
+        done = tt;
+        counted = tt;
+        few = λ is address. let few : faults_at t address ≤ faults_at s address + jobs_at es address js = h.few is address in omega (arith, few, jobs_both es address js ks);
+        exact = λ is. tt;
+      }
 
   -- the jobs of the first so many probes, of which the last are a piece
   abbrev pub Begun : List Seen → List Seen → List Probe → ℕ → Option (List JobReply) → Type 0
@@ -261,10 +277,15 @@ module _ (tells alone : Bool) (es : List EndpointParts) where
     some_more more d = in_turn (Some more) d
 
     -- memory lacked for a piece, or behind it
-    pub lost_in : WiresDid tells alone t u es (map job_of piece) None → AskedAll tells alone s u es probes (Err flow.Memory)
-    lost_in d =
-        subst (λ (v : List Probe). AskedAll tells alone s u es v (Err flow.Memory)) (take-append-drop m probes)
-        (rest_left s u (take m probes) (drop m probes) (asked_in_vain s u (take m probes) (in_turn None d)))
+    module _ (within : All (λ p. p.at < length es) probes) where
+      pub lost_in : WiresDid tells alone t u es (map job_of piece) None → WiresDid tells alone s u es (map job_of probes) None
+      lost_in d =
+          let rest = drop m probes in
+          subst (λ (v : List Probe). WiresDid tells alone s u es (map job_of v) None) (take-append-drop m probes)
+          (subst (λ (v : List Job). WiresDid tells alone s u es v None) (sym (map-append job_of (take m probes) rest))
+          (not_on s u (map job_of (take m probes)) (map job_of rest)
+          (recursion_from_All (λ (j : Job). j.at < length es) (map job_of rest) (All-map (λ (j : Job). j.at < length es) job_of rest (All-drop (λ (p : Probe). p.at < length es) m probes within)))
+          (in_turn None d)))
 
-    pub lost_behind : (more : List JobReply) → WiresDid tells alone t u es (map job_of piece) (Some more) → AskedAll tells alone s u es probes (Err flow.Memory)
-    lost_behind more d = lost_in (did_in_vain tells alone es t u (map job_of piece) more d)
+      pub lost_behind : (more : List JobReply) → WiresDid tells alone t u es (map job_of piece) (Some more) → WiresDid tells alone s u es (map job_of probes) None
+      lost_behind more d = lost_in (did_in_vain tells alone es t u (map job_of piece) more d)

@@ -5,12 +5,16 @@ pub mod ChoiceLemmas
 pub mod DownLemmas
 pub mod GatherLemmas
 pub mod InvocationLemmas
+pub mod KeptLemmas
+pub mod KeptPlanLemmas
 pub mod KnownLemmas
 pub mod MediationLemmas
+pub mod MembersLemmas
 pub mod OccurrenceLemmas
 pub mod ProbeLemmas
 pub mod RepliesLemmas
 pub mod RunsSentLemmas
 pub mod ServableLemmas
+pub mod SortingLemmas
 pub mod TaskLemmas
 pub mod TruthLemmas

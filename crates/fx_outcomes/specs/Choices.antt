@@ -1,7 +1,9 @@
 -- Which parts a query has by what the probes of its patterns came to.
-use Rattle.std.specs.Prelude.{◌≡◌, ◌≢◌, ◌++◌, false, Bool, List, All, AllPairs, Result, Ok, Err, length}
+use Rattle.std.specs.Prelude.{◌≡◌, ◌≢◌, ◌++◌, false, Bool, List, All, AllPairs, Result, Ok, Err, filter, length, map}
 use Rattle.fx_outside.specs.Endpoints.{EndpointParts}
+use Rattle.fx_algebra.specs.Units.{is_kept}
 use Rattle.fx_algebra.specs.declared.queries.Query.{Query}
+use Rattle.fx_keys.specs.declared.probes.Probe.{Probe}
 use Rattle.fx_plan.specs.Explained.{HasMembers}
 use Rattle.fx_flows.specs.declared.flows.FlowError.{FlowError}
 use Rattle.fx_sources.specs.Probes.{Entry, chosen, is_held, missing, told}
@@ -21,3 +23,16 @@ pub record IsChoice (endpoints : List EndpointParts) (q : Query) (entries : List
 abbrev pub answers_in : Result Choice FlowError → Result (List Bool) FlowError
 answers_in (Ok choice) = Ok choice.truths.items
 answers_in (Err e) = Err e
+
+-- ---- what is known of kept members
+
+-- the entries of members that are kept
+abbrev pub of_members : List Bool → List Entry → List Entry
+of_members kept entries = filter (λ e. is_kept kept e.0.at) entries
+
+-- their probes, and their answers
+abbrev pub probes_in : List Entry → List Probe
+probes_in entries = map (λ e. e.0) entries
+
+abbrev pub truths_of : List Entry → List Bool
+truths_of entries = map (λ e. e.1) entries

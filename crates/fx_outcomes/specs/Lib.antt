@@ -3,7 +3,11 @@ pub mod Asks
 pub mod Calls
 pub mod Choices
 pub mod FaultTexts
+pub mod InRounds
 pub mod Invocations
 pub mod Mediation
 pub mod Order
 pub mod Outcomes
+pub mod RoundEnds
+pub mod Rounds
+pub mod Sorting

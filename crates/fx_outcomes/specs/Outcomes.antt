@@ -43,13 +43,18 @@ HasRefusal before after endpoints calls (fed.RequestTooLong name size) = AtNamed
 HasRefusal before after endpoints calls fed.Memory = Unit {0}
 HasRefusal before after endpoints calls e = ⊥
 
--- a batch of the plan's units was refused, at the endpoint that has the name
-abbrev pub HasBatchRefusal : List Seen → List Seen → List EndpointParts → List Part → List (List Bindings) → ℕ → List Sent → List Exchange → FedError → Type 0
-HasBatchRefusal before after endpoints plan found block texts xs e = (why : FlowError) × HasFlowCause before after endpoints (units_in (tasks_with plan found)) block texts xs why × IsNamed endpoints why e
+-- a batch of the plan's units was refused, at the endpoint that has the name, for which a refusal may be told
+abbrev pub HasBatchRefusal : (FlowError → Type 0) → List Seen → List Seen → List EndpointParts → List Part → List (List Bindings) → ℕ → List Sent → List Exchange → FedError → Type 0
+HasBatchRefusal Told before after endpoints plan found block texts xs e =
+    (why : FlowError) × HasFlowCause before after endpoints (units_in (tasks_with plan found)) block texts xs why × IsNamed endpoints why e × Told why
+
+-- a batch of them was refused at an endpoint that may be left out, and the refusal isn't told
+abbrev pub HasBatchEvent : (FlowError → Type 0) → List Seen → List Seen → List EndpointParts → List Part → List (List Bindings) → ℕ → List Sent → List Exchange → Type 0
+HasBatchEvent Untold before after endpoints plan found block texts xs = (why : FlowError) × HasFlowCause before after endpoints (units_in (tasks_with plan found)) block texts xs why × Untold why
 
 -- the one or the other
-abbrev pub HasOutcomeCause : List Seen → List Seen → List EndpointParts → List Part → List (List Bindings) → ℕ → List Call → List Sent → List Exchange → FedError → Type 0
-HasOutcomeCause before after endpoints plan found block calls texts xs e = HasBatchRefusal before after endpoints plan found block texts xs e ⊎ HasRefusal before after endpoints calls e
+abbrev pub HasOutcomeCause : (FlowError → Type 0) → List Seen → List Seen → List EndpointParts → List Part → List (List Bindings) → ℕ → List Call → List Sent → List Exchange → FedError → Type 0
+HasOutcomeCause Told before after endpoints plan found block calls texts xs e = HasBatchRefusal Told before after endpoints plan found block texts xs e ⊎ HasRefusal before after endpoints calls e
 
 -- the number that the reason names is that of an endpoint
 abbrev pub IsPlacedAt : ℕ → ServiceError → Type 0
@@ -91,8 +96,9 @@ pub record IsPlannedOver (before : List Seen) (endpoints : List EndpointParts) (
   pub plan_is : plan ≡ parts_with (sources graphs) q
 
 -- The occurrences of SERVICE of a query were invoked over wires, and then its runs were asked for by a plan, from the rows that the occurrences gave: what was
--- exchanged for the one and for the other, and what is known of both.
-pub record Outcomed (tells alone : Bool) (before after : List Seen) (endpoints : List EndpointParts) (q : Query) (plan : List Part) (block : ℕ) (result : Result Outcome FedError) : Type 0 where
+-- exchanged for the one and for the other, and what is known of both. A batch's refusal is told where Told says so of it; one of which Untold does ends the asking, too, behind an
+-- occurrence that is refused.
+pub record Outcomed (Told Untold : FlowError → Type 0) (tells alone : Bool) (before after : List Seen) (endpoints : List EndpointParts) (q : Query) (plan : List Part) (block : ℕ) (result : Result Outcome FedError) : Type 0 where
   pub found : List (List Bindings)
   pub exchanges : List Exchange
   pub gained : IsTrue tells → HaveGained before after exchanges
@@ -119,6 +125,6 @@ pub record Outcomed (tells alone : Bool) (before after : List Seen) (endpoints :
       → (down : List ℕ) → AgreesWith down calls → AreRunsSent endpoints graphs block (stations q) (seeds q (union graphs) services down) texts
   pub answer : IfOk result (λ outcome. (graphs : List (List Triple)) (services : List ℕ → List Triple) → IsPlannedOver before endpoints q plan graphs services
       → outcome.answer ≡ answer q (union graphs) services (places outcome.down))
-  pub cause : IfErr result (HasOutcomeCause before after endpoints plan found block calls texts of_runs)
+  pub cause : IfErr result (HasOutcomeCause Told before after endpoints plan found block calls texts of_runs)
   pub own_failure : IfErr result (FailedBeside before after endpoints q calls)
-  pub in_turn : IfErr result (λ e. HasBatchRefusal before after endpoints plan found block texts of_runs e ⊎ AreGiven alone before after calls (IsBatchRead (Contains (units_in (tasks_with plan found)))) left of_runs)
+  pub in_turn : IfErr result (λ e. HasBatchRefusal Told before after endpoints plan found block texts of_runs e ⊎ (HasBatchEvent Untold before after endpoints plan found block texts of_runs ⊎ AreGiven alone before after calls (IsBatchRead (Contains (units_in (tasks_with plan found)))) left of_runs))

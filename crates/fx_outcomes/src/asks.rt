@@ -39,21 +39,41 @@ pub fn ask_all<H: DoesJobs<W>, W: Wire>(
     requires triples { All (λ p. IsTriple p.key.pattern) probes.now }
     ensures { AskedAllOver (seen W.Wire wires.old wires.new) endpoints.now probes.now (truths_in result) }
 {
+    match replies_to(hands, alloc, probes, endpoints, wires) {
+        Err(Memory) => Err(FlowError::Memory),
+        Ok(replies) => truths_of(alloc, probes, replies),
+    }
+}
+
+// The replies to probes, which are asked for in pieces.
+pub(crate) fn replies_to<H: DoesJobs<W>, W: Wire>(
+    hands: &H,
+    alloc: Global,
+    probes: &[Probe],
+    endpoints: &[Endpoint],
+    wires: &mut [W],
+) -> Result<Vec<JobReply>, Memory>
+    requires hands { H.does hands.now }
+    requires wired { (0 < length wires.old) × (length wires.old ≤ 16) }
+    requires sendable { All (λ e. is_sendable e ≡ true) endpoints.now }
+    requires within { All (λ p. p.at < length endpoints.now) probes.now }
+    ensures { WiresDidOver (seen W.Wire wires.old wires.new) endpoints.now (map spec.job_of probes.now) (all_replies result) }
+{
     let mut replies = Vec::new(alloc);
     let mut start = 0;
     while start < probes.len() {
         let end = start + (probes.len() - start).min(MOST);
         match ask_some(hands, alloc, &probes[start..end], endpoints, wires) {
-            Err(Memory) => return Err(FlowError::Memory),
+            Err(Memory) => return Err(Memory),
             Ok(mut more) => {
                 if replies.append(&mut more).is_err() {
-                    return Err(FlowError::Memory);
+                    return Err(Memory);
                 }
             }
         }
         start = end;
     }
-    truths_of(alloc, probes, replies)
+    Ok(replies)
 }
 
 // The replies to probes that are asked for at once.
@@ -128,7 +148,7 @@ fn truths_of(
 }
 
 // The truth value that the reply of an endpoint is, or the refusal.
-fn truth_of(at: u32, reply: JobReply) -> Result<bool, FlowError>
+pub(crate) fn truth_of(at: u32, reply: JobReply) -> Result<bool, FlowError>
     requires { IsForAsk reply }
     ensures { IsTruthOf at reply result }
 {

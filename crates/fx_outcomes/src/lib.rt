@@ -7,10 +7,13 @@ pub mod fault_texts;
 pub mod federated;
 mod gathering;
 pub mod invocations;
+pub mod members;
+pub mod rounds;
 
 pub use fault_texts::{fault_code, fault_words};
 pub use federated::{FedError, MemberName, Options, Outcome, name_at, named};
 use fx_terms::shareable;
+pub use rounds::{Answers, Ended, Left, LeftCause, OutcomeInRounds, PlanInRounds, Round, left_by};
 
 /// Every type that a federation takes or gives may be shared between threads and sent to them.
 pub fn all_shareable() {
@@ -18,4 +21,7 @@ pub fn all_shareable() {
     shareable::<Outcome>();
     shareable::<MemberName>();
     shareable::<FedError>();
+    shareable::<Round>();
+    shareable::<OutcomeInRounds>();
+    shareable::<PlanInRounds>();
 }

@@ -1,4 +1,4 @@
-use Rattle.std.proofs.Common.{◌∙◌, ◌⊎◌, ◌++◌, ap, refl, sym, subst, List, Bool, length, map, Ok, Err}
+use Rattle.std.proofs.Common.{◌∙◌, ◌⊎◌, ◌++◌, ap, refl, sym, subst, false, List, Bool, length, map, Ok, Err}
 use Rattle.std.specs.Prelude.{All, Contains}
 use Rattle.std.specs.List.{zip}
 use Rattle.fx_outside.specs.Endpoints.{EndpointParts}
@@ -8,6 +8,8 @@ use Rattle.fx_keys.specs.declared.probes.Probe.{Probe}
 use Rattle.fx_sources.specs.Probes.{Entry, learned, members_of, missing, told}
 use Rattle.fx_engine.specs.RowsAsked.{CanBeAsked}
 use Rattle.fx_outcomes.specs.Mediation.{IsNamed, IsPlaced}
+use Rattle.fx_outcomes.specs.RoundEnds.{RoundEnded}
+use Rattle.fx_outcomes.specs.declared.rounds.Ended.{Ended}
 use Rattle.fx_walks.specs.Tasks.{tasks_with}
 use Rattle.fx_engine.proofs.AskableLemmas.{by_members, tasks_can_be_asked}
 use Rattle.fx_engine.proofs.AskedLemmas.{all_tell}
@@ -72,8 +74,10 @@ returns-in-Err-learn g c =
     let truths = c.in-Ok.field-0.truths.items in
     let entries = told (missing q n old) truths ++ old in
     let are = c.in-Ok.ensures.chosen.parts_are in
+    let ended =
+    subst (λ (x : Ended). RoundEnded false tells g.W.Wire.counts_alone (map see c.choose_parts.new.wires) (map see c.outcome_by_plan.new.wires) es q c.in-Ok.field-0.parts.items c.args.options.block (Ok x)) c.in-Ok-Answered.field-0-is c.in-Ok-Answered.ensures in
     federated_lost tells g.W.Wire.counts_alone (map see c.args.wires.now) (map see c.choose_parts.new.wires) es q old c.requires.known c.args.options.block (map see c.outcome_by_plan.new.wires) (all_tell see tells told_so c.args.wires.now) (all_tell see tells told_so c.choose_parts.new.wires) truths
-    c.in-Ok.ensures.asked c.in-Ok.field-0.parts.items are (Ok c.in-Ok-outcome_by_plan.outcome) c.in-Ok-outcome_by_plan.ensures
+    c.in-Ok.ensures.asked c.in-Ok.field-0.parts.items are (Ok c.in-Ok-Answered.outcome) ended
     (λ found. subst (λ (v : List Part). All (CanBeAsked n) (tasks_with v found)) (sym are) (tasks_can_be_asked c.requires.spellable.0 q c.requires.spellable.1 n entries found)) new
     (subst (λ (v : List Probe). All (λ (x : Entry). Contains old x ⊎ Contains (zip v truths) x) new) c.in-Ok.ensures.chosen.probes_are
     (subst (λ (v : List Bool). All (λ (x : Entry). Contains old x ⊎ Contains (zip c.in-Ok.field-0.probes.items v) x) new) c.as_slice.ensures.value c.in-Err-learn.ensures.kept))
@@ -91,9 +95,11 @@ returns g c =
     let truths = c.in-Ok.field-0.truths.items in
     let entries = told (missing q n old) truths ++ old in
     let are = c.in-Ok.ensures.chosen.parts_are in
+    let ended =
+    subst (λ (x : Ended). RoundEnded false tells g.W.Wire.counts_alone (map see c.choose_parts.new.wires) (map see c.outcome_by_plan.new.wires) es q c.in-Ok.field-0.parts.items c.args.options.block (Ok x)) c.in-Ok-Answered.field-0-is c.in-Ok-Answered.ensures in
     federated_given tells g.W.Wire.counts_alone (map see c.args.wires.now) (map see c.choose_parts.new.wires) es q old c.requires.known c.args.options.block (map see c.outcome_by_plan.new.wires) (all_tell see tells told_so c.args.wires.now) (all_tell see tells told_so c.choose_parts.new.wires) truths
-    c.in-Ok.ensures.asked c.in-Ok.field-0.parts.items are (Ok c.in-Ok-outcome_by_plan.outcome) c.in-Ok-outcome_by_plan.ensures
-    (λ found. subst (λ (v : List Part). All (CanBeAsked n) (tasks_with v found)) (sym are) (tasks_can_be_asked c.requires.spellable.0 q c.requires.spellable.1 n entries found)) c.in-Ok-outcome_by_plan.outcome refl new
+    c.in-Ok.ensures.asked c.in-Ok.field-0.parts.items are (Ok c.in-Ok-Answered.outcome) ended
+    (λ found. subst (λ (v : List Part). All (CanBeAsked n) (tasks_with v found)) (sym are) (tasks_can_be_asked c.requires.spellable.0 q c.requires.spellable.1 n entries found)) c.in-Ok-Answered.outcome refl new
     (c.in-Ok-learn.ensures.learned
     ∙ ap (λ (v : List Probe). learned old v c.as_slice.result.now) c.in-Ok.ensures.chosen.probes_are
     ∙ ap (learned old (missing q n old)) c.as_slice.ensures.value)

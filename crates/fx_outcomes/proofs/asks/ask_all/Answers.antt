@@ -1,90 +1,25 @@
-use Rattle.std.proofs.Common.{rules, ◌≡◌, ◌+◌, ◌++◌, sym, subst, List, [], Some, All, map, slice_range, take, arith}
-use Rattle.std.proofs.lemmas.List.{take_all}
+use Rattle.std.proofs.Common.{map}
 use Rattle.std.proofs.lemmas.List.Elements.{All-from_recursion}
-use Rattle.fx_keys.specs.declared.probes.Probe.{Probe}
-use Rattle.fx_pool.specs.Runs.{WiresDid}
-use Rattle.fx_pool.specs.declared.jobs.JobReply.{JobReply}
-use Rattle.fx_pool.proofs.WiresLemmas.{all_tell}
-use Rattle.fx_services.proofs.InTurnLemmas.{did_nothing}
-use Rattle.fx_services.proofs.PieceLemmas.{are_some}
-use Rattle.fx_outcomes.specs.AskSteps.{IsForAsk, job_of, truths_in}
-use Rattle.fx_outcomes.proofs.AsksLemmas.{Begun, asked_at_once, lost_behind, lost_in, some_more}
+use Rattle.fx_outcomes.specs.AskSteps.{IsForAsk, truths_in}
+use Rattle.fx_outcomes.proofs.AsksLemmas.{asked_at_once, asked_in_vain}
 use Rattle.fx_outcomes.proofs.ProbeLemmas.{all_for_ask, as_many}
 use Rattle.fx_outcomes.proofs.asks.ask_all.Goals as goal
-
-pub loop-start-init : goal.loop-start-init
-loop-start-init g c =
-    let see = map g.W.Wire.seen c.args.wires.now in
-    record {
-      within = omega arith;
-      begun =
-          subst (λ (v : List JobReply). Begun g.W.Wire.tells_log g.W.Wire.counts_alone c.args.endpoints.now see see c.args.probes.now 0 (Some v)) (sym c.new-replies.ensures.items)
-          (did_nothing g.W.Wire.tells_log g.W.Wire.counts_alone c.args.endpoints.now see);
-    }
-
-pub ask_some-requires-clause-few : goal.ask_some-requires-clause-few
-ask_some-requires-clause-few g c = (are_some c.args.probes.now c.loop-start.start c.min.result c.loop-start-test.true c.min.ensures).few
 
 pub returns-in-Err : goal.returns-in-Err
 returns-in-Err g c =
     let see = g.W.Wire.seen in
-    let told_so = g.met.W.Wire.told in
-    let ps = c.args.probes.now in
-    let k = c.loop-start.start in
-    let n = c.min.result in
-    let it = are_some ps k n c.loop-start-test.true c.min.ensures in
-    lost_in g.W.Wire.tells_log g.W.Wire.counts_alone c.args.endpoints.now (map see c.args.wires.now) (map see c.loop-start.wires) (map see c.ask_some.new.wires)
-    (all_tell see g.W.Wire.tells_log told_so c.args.wires.now) (all_tell see g.W.Wire.tells_log told_so c.loop-start.wires) ps k (k + n) (slice_range ps k (k + n)) it.front c.loop-start.replies.items c.loop-start.invariant.begun c.in-Err.ensures
-
-pub returns-then-is_err : goal.returns-then-is_err
-returns-then-is_err g c =
-    let see = g.W.Wire.seen in
-    let told_so = g.met.W.Wire.told in
-    let ps = c.args.probes.now in
-    let k = c.loop-start.start in
-    let n = c.min.result in
-    let it = are_some ps k n c.loop-start-test.true c.min.ensures in
-    lost_behind g.W.Wire.tells_log g.W.Wire.counts_alone c.args.endpoints.now (map see c.args.wires.now) (map see c.loop-start.wires) (map see c.ask_some.new.wires)
-    (all_tell see g.W.Wire.tells_log told_so c.args.wires.now) (all_tell see g.W.Wire.tells_log told_so c.loop-start.wires) ps k (k + n) (slice_range ps k (k + n)) it.front c.loop-start.replies.items c.loop-start.invariant.begun c.in-Ok.more.items c.in-Ok.ensures
-
-pub loop-start-preserved : goal.loop-start-preserved
-loop-start-preserved g c =
-    let see = g.W.Wire.seen in
-    let told_so = g.met.W.Wire.told in
-    let ps = c.args.probes.now in
-    let k = c.loop-start.start in
-    let n = c.min.result in
-    let it = are_some ps k n c.loop-start-test.true c.min.ensures in
-    let joined : c.append.new.self.items ≡ c.loop-start.replies.items ++ c.in-Ok.more.items = search rules in
-    record {
-      within = it.within;
-      begun =
-          subst (λ (v : List JobReply). Begun g.W.Wire.tells_log g.W.Wire.counts_alone c.args.endpoints.now (map see c.args.wires.now) (map see c.ask_some.new.wires) ps (k + n) (Some v)) (sym joined)
-          (some_more g.W.Wire.tells_log g.W.Wire.counts_alone c.args.endpoints.now (map see c.args.wires.now) (map see c.loop-start.wires) (map see c.ask_some.new.wires)
-          (all_tell see g.W.Wire.tells_log told_so c.args.wires.now) (all_tell see g.W.Wire.tells_log told_so c.loop-start.wires) ps k (k + n) (slice_range ps k (k + n)) it.front c.loop-start.replies.items c.loop-start.invariant.begun c.in-Ok.more.items c.in-Ok.ensures);
-    }
+    asked_in_vain g.W.Wire.tells_log g.W.Wire.counts_alone c.args.endpoints.now (map see c.args.wires.now) (map see c.replies_to.new.wires) c.args.probes.now c.in-Err.ensures
 
 pub truths_of-requires-clause-many : goal.truths_of-requires-clause-many
-truths_of-requires-clause-many g c =
-    let ps = c.args.probes.now in
-    let see = g.W.Wire.seen in
-    let whole : take c.loop-start.start ps ≡ ps = take_all c.loop-start.start ps (omega arith) in
-    let did = subst (λ (v : List Probe). WiresDid g.W.Wire.tells_log g.W.Wire.counts_alone (map see c.args.wires.now) (map see c.loop-start.wires) c.args.endpoints.now (map job_of v) (Some c.loop-start.replies.items)) whole c.loop-start.invariant.begun in
-    as_many c.args.endpoints.now ps c.loop-start.replies.items did.done.0 did.done.1
+truths_of-requires-clause-many g c = as_many c.args.endpoints.now c.args.probes.now c.in-Ok.replies.items c.in-Ok.ensures.done.0 c.in-Ok.ensures.done.1
 
 pub truths_of-requires-clause-asked : goal.truths_of-requires-clause-asked
 truths_of-requires-clause-asked g c =
-    let ps = c.args.probes.now in
-    let see = g.W.Wire.seen in
-    let whole : take c.loop-start.start ps ≡ ps = take_all c.loop-start.start ps (omega arith) in
-    let did = subst (λ (v : List Probe). WiresDid g.W.Wire.tells_log g.W.Wire.counts_alone (map see c.args.wires.now) (map see c.loop-start.wires) c.args.endpoints.now (map job_of v) (Some c.loop-start.replies.items)) whole c.loop-start.invariant.begun in
-    All-from_recursion IsForAsk c.loop-start.replies.items (all_for_ask c.args.endpoints.now ps c.loop-start.replies.items did.done.0 did.done.1)
+    let rs = c.in-Ok.replies.items in
+    All-from_recursion IsForAsk rs (all_for_ask c.args.endpoints.now c.args.probes.now rs c.in-Ok.ensures.done.0 c.in-Ok.ensures.done.1)
 
-pub returns : goal.returns
-returns g c =
-    let ps = c.args.probes.now in
+pub returns-in-Ok : goal.returns-in-Ok
+returns-in-Ok g c =
     let see = g.W.Wire.seen in
-    let whole : take c.loop-start.start ps ≡ ps = take_all c.loop-start.start ps (omega arith) in
-    asked_at_once g.W.Wire.tells_log g.W.Wire.counts_alone c.args.endpoints.now (map see c.args.wires.now) (map see c.loop-start.wires) ps c.requires.triples c.loop-start.replies.items
-    (subst (λ (v : List Probe). WiresDid g.W.Wire.tells_log g.W.Wire.counts_alone (map see c.args.wires.now) (map see c.loop-start.wires) c.args.endpoints.now (map job_of v) (Some c.loop-start.replies.items)) whole c.loop-start.invariant.begun)
+    asked_at_once g.W.Wire.tells_log g.W.Wire.counts_alone c.args.endpoints.now (map see c.args.wires.now) (map see c.replies_to.new.wires) c.args.probes.now c.requires.triples c.in-Ok.replies.items c.in-Ok.ensures
     (truths_in c.truths_of.result) c.truths_of.ensures

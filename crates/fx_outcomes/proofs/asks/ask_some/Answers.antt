@@ -1,6 +1,5 @@
 use Rattle.std.proofs.Common.{◌≡◌, ◌∙◌, ◌<◌, sym, subst, List, All, map, length}
 use Rattle.std.proofs.lemmas.List.Elements.{All-map}
-use Rattle.fx_pool.specs.Runs.{WiresDid, all_replies}
 use Rattle.fx_pool.specs.declared.jobs.Job.{Job}
 use Rattle.fx_pool.proofs.OrderLemmas.{nothing_done}
 use Rattle.fx_outcomes.specs.AskSteps.{job_of}

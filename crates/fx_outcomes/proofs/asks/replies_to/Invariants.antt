@@ -1,6 +1,6 @@
 use Rattle.std.proofs.Common.{◌-◌, ◌≤◌, Some, length, map}
 use Rattle.fx_outcomes.proofs.AsksLemmas.{Begun}
-use Rattle.fx_outcomes.proofs.asks.ask_all.Given as goal
+use Rattle.fx_outcomes.proofs.asks.replies_to.Given as goal
 
 abbrev pub invariant-loop-start : goal.invariant-loop-start
 invariant-loop-start g l = record {

@@ -1,0 +1,12 @@
+use Rattle.std.proofs.Common.{map, refl, sym, inl, inr, ◌∙◌}
+use Rattle.fx_outcomes.specs.declared.federated.FedError.TheVariants as fed
+use Rattle.fx_engine.proofs.InRoundsLemmas.{unplanned_in_rounds}
+use Rattle.fx_engine.proofs.in_rounds.plan_in_rounds_by.Goals as goal
+
+pub returns-in-Err : goal.returns-in-Err
+returns-in-Err g c = unplanned_in_rounds g.W.Wire.tells_log g.W.Wire.counts_alone (map g.W.Wire.seen c.args.wires.now) c.args.registry.now c.args.query.now c.args.cache.now fed.Memory tt (inl refl)
+
+pub returns-in-Ok-Some : goal.returns-in-Ok-Some
+returns-in-Ok-Some g c =
+    unplanned_in_rounds g.W.Wire.tells_log g.W.Wire.counts_alone (map g.W.Wire.seen c.args.wires.now) c.args.registry.now c.args.query.now c.args.cache.now (fed.UnknownService c.in-Ok-Some.iri)
+    (sym c.in-Ok-Some.ensures ∙ c.in-Ok-Some.field-0-is) (inr (c.in-Ok-Some.iri, refl))
