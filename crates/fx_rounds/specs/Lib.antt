@@ -1,0 +1,4 @@
+pub mod Counts
+pub mod Gained
+pub mod LeftOut
+pub mod Licences
