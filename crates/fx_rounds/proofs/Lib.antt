@@ -4,3 +4,5 @@ pub mod KeptAskedLemmas
 pub mod LeftOutLemmas
 pub mod LicenceLemmas
 pub mod ReplyLemmas
+pub mod SumLemmas
+pub mod TrafficLemmas

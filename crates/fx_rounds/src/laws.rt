@@ -3,6 +3,8 @@ ghost use Rattle.fx_rounds.specs.Counts.{LicencesCount, NumbersAreTold};
 ghost use Rattle.fx_rounds.specs.Gained.{RoundsHaveGained};
 ghost use Rattle.fx_rounds.specs.LeftOut.{AnswersWent, KeptAreAsked, MembersAreLeftOnce};
 ghost use Rattle.fx_rounds.specs.Licences.{AnswersAreLicensed, LicencesInAnyOrder};
+ghost use Rattle.fx_rounds.specs.Sums.{FaultsAndRefusalsAreEnough};
+ghost use Rattle.fx_rounds.specs.Traffic.{RoundsAreTraffic};
 
 /// What was exchanged in all, where wires tell it: the ASKs, each round that was abandoned, and the last one. What that leaves of the wires
 /// is what exchanges leave of them.
@@ -46,4 +48,15 @@ pub fn licences_count()
 /// long was down since its exchange failed or its reply was bad.
 pub fn numbers_are_told()
     ensures { NumbersAreTold }
+{}
+
+/// With an answer, the faults that were counted at an address and the exchanges there that have a bad reply are, together, at least as many as the members that were left out and the occurrences that are down
+/// there for such a reason, and the occurrences that were down in rounds that were abandoned.
+pub fn faults_and_refusals_are_enough()
+    ensures { FaultsAndRefusalsAreEnough }
+{}
+
+/// Where the graphs are told, each round sent a part of the query's traffic over the graphs of the members that were kept in it, and no ASK.
+pub fn rounds_are_traffic()
+    ensures { RoundsAreTraffic }
 {}
