@@ -9,7 +9,7 @@ TOP = os.path.dirname(os.path.dirname(os.path.abspath(__file__)))
 PAGE = f"{TOP}/docs/THEOREM.md"
 CLAIMS = f"{TOP}/docs/CLAIMS.md"
 # What CLAIMS says of the counts.
-SAID = "from it {} definitions of this repository can be reached, from a licence of a silent SERVICE {}, as `tools/reach` counts them"
+SAID = "from it {} definitions of this repository can be reached, from what an answer rests on {}, as `tools/reach` counts them"
 BLOCK = re.compile(r"^`(crates/[^`]+)`\n```antt\n(.*?)^```$", re.M | re.S)
 
 

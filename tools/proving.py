@@ -23,7 +23,7 @@ MINUTES = {
     "fx_grammar": 0.4, "fx_turtle": 2, "fx_spelling": 0.3, "fx_depths": 0.1, "fx_trees": 1.3, "fx_expressions": 2.2, "fx_groups": 1.2, "fx_heads": 0.7,
     "fx_syntax": 1.3, "fx_print": 1.4, "fx_results": 2.1, "fx_expr": 2.6, "fx_solutions": 2.1, "fx_store": 1.8, "fx_evaluation": 3, "fx_member": 1,
     "fx_keys": 0.6, "fx_sources": 2.3, "fx_plan": 2.1, "fx_steps": 0.1, "fx_renaming": 0.2, "fx_founds": 0.6, "fx_bound": 2.3, "fx_values": 2, "fx_traffic": 0.1, "fx_pool": 2.2,
-    "fx_flows": 2.4, "fx_side_by_side": 0.9, "fx_walks": 0.8, "fx_services": 1.1, "fx_outcomes": 1.2,
+    "fx_flows": 2.4, "fx_side_by_side": 0.9, "fx_walks": 0.8, "fx_services": 1.1, "fx_outcomes": 1.2, "fx_rounds": 0.6,
     "fx_engine": 2.2, "fx_local": 2, "fx_commands": 2.7, "fx_program": 0.9, "fedx": 3,
 }
 

@@ -1,9 +1,10 @@
 -- The query of `count_rows` is accepted from its text, and has no SERVICE; and what the members give for it is counted.
 use Rattle.std.proofs.Common.{◌≡◌, ◌∙◌, ap, sym, subst, refl, ℕ, zero, suc, ◌<◌, ◌≤◌, true, false, List, [], ◌∷◌, ◌++◌, map, length, max, codes, Some, None, Ok, Err, inl, inr, arith}
-use Rattle.std.specs.Prelude.{Result, nat_le, bytes_eq, if◌then◌else◌}
+use Rattle.std.specs.Prelude.{All, Result, nat_le, bytes_eq, if◌then◌else◌}
 use Rattle.std.specs.List.{flat_map, list_all}
 use Rattle.std.specs.Str.{IsAscii}
 use Rattle.std.proofs.lemmas.Bool.{and_parts}
+use Rattle.std.proofs.lemmas.List.Elements.{All-from_recursion}
 use Rattle.std.proofs.lemmas.Bool.Decides.{nat_tests}
 use Rattle.std.proofs.lemmas.Str.{IsUtf8-from_ascii, chars-IsAscii}
 use Rattle.fx_terms.specs.Datatypes.{xsd_integer}
@@ -45,10 +46,12 @@ use Rattle.fx_services.specs.declared.noted.DownCause.TheVariants as cause
 use Rattle.fx_outcomes.specs.declared.federated.FedError.{FedError}
 use Rattle.fx_outcomes.specs.declared.federated.FedError.TheVariants as fed
 use Rattle.fx_outcomes.specs.declared.federated.Outcome.{Outcome}
+use Rattle.fx_outcomes.specs.declared.rounds.OutcomeInRounds.{OutcomeInRounds}
 use Rattle.fx_commands.specs.Counting.{IsOfMember, IsRowCount, WasCounted, age, first_address, generated_elements, generated_members, generated_query, generated_text, is_young, knows, linked, rows_in, second_address, thirty}
+use Rattle.fx_commands.specs.Asking.{IsUnmarked}
 use Rattle.fx_commands.specs.MemberSteps.{IsAnswered}
 use Rattle.fx_commands.proofs.QueryLemmas.{known_from_nothing}
-use Rattle.fx_commands.proofs.SilentLemmas.{no_refused}
+use Rattle.fx_rounds.proofs.DownLemmas.{no_refused}
 
 -- ---- the elements of the query
 
@@ -304,24 +307,28 @@ module _ (w : WiresSeen) (entries : List Entry) where
 
 -- ---- what is counted
 
-none_given : (outcome : Outcome) → Ok outcome ≡ Err fed.Memory → ⊥
-none_given outcome h = cc
+none_given : (all : OutcomeInRounds) → Ok all ≡ Err fed.Memory → ⊥
+none_given all h = cc
 
-the_want : (r : Result Outcome FedError) (e : FedError) → r ≡ Err e → r ≡ Err fed.Memory → e ≡ fed.Memory
+the_want : (r : Result OutcomeInRounds FedError) (e : FedError) → r ≡ Err e → r ≡ Err fed.Memory → e ≡ fed.Memory
 the_want r e a b = cc
 
-pub counted : (w : WiresSeen) (outcome : Outcome) (count : ℕ) → count ≡ length (rows_in outcome.answer) → IsAnswered w generated_members generated_query 15 (Ok outcome) → IsRowCount w.before count
-counted w outcome count is (inl none) = absurd (none_given outcome none.1)
-counted w outcome count is (inr given) = subst (IsRowCount w.before) (sym is) (row_count w given.0 outcome given.1)
+-- queries can't do without any of the members
+unmarked : All IsUnmarked generated_members
+unmarked = All-from_recursion IsUnmarked generated_members (refl, (refl, (refl, tt)))
 
-pub was_counted : (w : WiresSeen) (outcome : Outcome) (count : ℕ) → count ≡ length (rows_in outcome.answer) → IsAnswered w generated_members generated_query 15 (Ok outcome) → WasCounted w (Ok count)
-was_counted w outcome count is (inl none) = absurd (none_given outcome none.1)
-was_counted w outcome count is (inr given) = inr (given.0, Ok outcome, given.1, ap Ok is)
+pub counted : (w : WiresSeen) (all : OutcomeInRounds) (count : ℕ) → count ≡ length (rows_in all.outcome.answer) → IsAnswered w generated_members generated_query 15 (Ok all) → IsRowCount w.before count
+counted w all count is (inl none) = absurd (none_given all none.1)
+counted w all count is (inr given) = subst (IsRowCount w.before) (sym is) (row_count w given.entries all.outcome (given.in_one unmarked))
+
+pub was_counted : (w : WiresSeen) (all : OutcomeInRounds) (count : ℕ) → count ≡ length (rows_in all.outcome.answer) → IsAnswered w generated_members generated_query 15 (Ok all) → WasCounted w (Ok count)
+was_counted w all count is (inl none) = absurd (none_given all none.1)
+was_counted w all count is (inr given) = inr (given.entries, Ok all.outcome, given.in_one unmarked, ap Ok is)
 
 pub was_refused : (w : WiresSeen) (e : FedError) → IsAnswered w generated_members generated_query 15 (Err e) → WasCounted w (Err e)
 was_refused w e (inl none) = inl (none.0, ap Err (the_want (Err e) e refl none.1))
-was_refused w e (inr given) = inr (given.0, Err e, given.1, refl)
+was_refused w e (inr given) = inr (given.entries, Err e, given.in_one unmarked, refl)
 
 pub refused_by : (w : WiresSeen) (e : FedError) → IsAnswered w generated_members generated_query 15 (Err e) → IsOfMember e
 refused_by w e (inl none) = subst IsOfMember (sym (the_want (Err e) e refl none.1)) tt
-refused_by w e (inr given) = of_member w given.0 e given.1
+refused_by w e (inr given) = of_member w given.entries e (given.in_one unmarked)

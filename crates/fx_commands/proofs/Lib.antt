@@ -1,6 +1,7 @@
-pub mod SilentLemmas
+pub mod FaultLemmas
 pub mod QueryLemmas
 pub mod ExplainLemmas
 pub mod CountingLemmas
 pub mod MembersLemmas
+pub mod UnmarkedLemmas
 pub mod GeneratorLemmas

@@ -7,7 +7,7 @@ use Rattle.fx_terms.specs.declared.triples.Triple.{Triple}
 use Rattle.fx_algebra.specs.declared.queries.Query.{Query}
 use Rattle.fx_grammar.specs.Accepted.{Accepted}
 use Rattle.fx_results.specs.Documents.{document}
-use Rattle.fx_sources.specs.Registries.{read_registry}
+use Rattle.fx_sources.specs.Registries.{IsRegistry, read_registry}
 use Rattle.fx_sources.specs.Sources as source
 use Rattle.fx_sources.specs.declared.errors.RegistryError.TheVariants as error
 use Rattle.fx_traffic.specs.Gains.{TellAll, WiresSeen}
@@ -15,7 +15,9 @@ use Rattle.fx_wire.specs.Exchanges.{Seen}
 use Rattle.fx_outcomes.specs.Mediation.{AreKnown}
 use Rattle.fx_outcomes.specs.declared.federated.FedError.{FedError}
 use Rattle.fx_outcomes.specs.declared.federated.FedError.TheVariants as fed
-use Rattle.fx_outcomes.specs.declared.federated.Outcome.{Outcome}
+use Rattle.fx_outcomes.specs.declared.rounds.OutcomeInRounds.{OutcomeInRounds}
+use Rattle.fx_rounds.specs.LeftOut.{left_in}
+use Rattle.fx_rounds.proofs.AnsweredLemmas.{answers_rest_on_this}
 use Rattle.fx_local.specs.Limits.{query_limit, registry_limit}
 use Rattle.fx_local.specs.declared.refusals.QueryRefusal.{QueryRefusal}
 use Rattle.fx_local.specs.declared.refusals.QueryRefusal.TheVariants as query
@@ -26,14 +28,13 @@ use Rattle.fx_local.specs.declared.statuses.Status.TheVariants as status
 use Rattle.fx_commands.specs.Asking.{IsRefusedBefore}
 use Rattle.fx_commands.specs.FedRefusals.{IsGivenEnd, fed_line, fed_status_of}
 use Rattle.fx_local.specs.Files.{FileRead, IsRegistryFile}
-use Rattle.fx_commands.specs.MemberLines.{down_lines}
+use Rattle.fx_commands.specs.MemberLines.{answer_lines}
 use Rattle.fx_local.specs.LocalSteps.{GivesQuery, IsDocumentWritten, IsLineReported, query_line}
 use Rattle.fx_commands.specs.MemberSteps.{IsAnswerDone, IsAnswerReported, IsAnswered, IsWant}
 use Rattle.fx_local.specs.RegistryFiles.{GivesRegistry, registry_line}
 use Rattle.fx_commands.specs.Query.{IsOutcomeWritten, IsQueryDone, IsQueryReported, IsUnionAnswer, IsUnionAnswerOf, IsUnionDocument}
 use Rattle.fx_local.specs.RefusalStatuses.{query_status, registry_status}
 use Rattle.fx_local.specs.Sinks.{IsCutShort, SinkWritten, Wrote}
-use Rattle.fx_commands.proofs.SilentLemmas.{are_down}
 
 -- ---- files
 
@@ -166,45 +167,49 @@ query_not_done query.Memory h = cc
 pub known_from_nothing : (wires : List Seen) (es : List EndpointParts) (graphs : List (List Triple)) → TellAll wires es graphs → AreKnown wires es [] graphs
 known_from_nothing wires es graphs told = record { told = told; entries_are = All-nil (source.Tells graphs) }
 
-none_given : (outcome : Outcome) → Ok outcome ≡ Err fed.Memory → ⊥
-none_given outcome h = cc
+none_given : (all : OutcomeInRounds) → Ok all ≡ Err fed.Memory → ⊥
+none_given all h = cc
 
--- the answer that the members gave is that over the union
-pub union_document : (w : WiresSeen) (es : List EndpointParts) (asked : Query) (block : ℕ) (outcome : Outcome) (text : List ℕ) → IsAnswered w es asked block (Ok outcome) → text ≡ document outcome.answer → IsUnionDocument w.before es asked text
-union_document w es asked block outcome text (inl none) is = absurd (none_given outcome none.1)
-union_document w es asked block outcome text (inr given) is = (
-  outcome.down,
-  are_down w.tells w.alone w.before w.after es asked given.0 block outcome given.1,
-  λ graphs told services serve. is ∙ ap document (given.1.answer graphs (known_from_nothing w.before es graphs told) services serve),
-)
+-- the answer that the members gave is that over the union of the graphs of those that are kept
+pub union_document : (w : WiresSeen) (es : List EndpointParts) (asked : Query) (block : ℕ) (all : OutcomeInRounds) (text : List ℕ) → IsRegistry es → IsAnswered w es asked block (Ok all) → text ≡ document all.outcome.answer → IsUnionDocument w.before es asked text
+union_document w es asked block all text registry (inl none) is = absurd (none_given all none.1)
+union_document w es asked block all text registry (inr given) is =
+    let rests = answers_rest_on_this w es asked given.entries block all given.alike registry given.in_rounds in (
+      left_in all.abandoned,
+      rests.0,
+      all.outcome.down,
+      rests.1.left_out,
+      rests.1.down,
+      λ graphs told services serve. is ∙ ap document (rests.2 graphs told services serve),
+    )
 
 -- ---- reports
 
 -- what the members gave is written
-pub given_reported : (w : WiresSeen) (es : List EndpointParts) (asked : Query) (block : ℕ) (outcome : Outcome) (s : Status) (text : List ℕ) → IsAnswered w es asked block (Ok outcome) → IsGivenEnd (down_lines outcome.down) s text → IsAnswerReported w es asked block s text
-given_reported w es asked block outcome s text (inl none) end = absurd (none_given outcome none.1)
-given_reported w es asked block outcome s text (inr given) end = inr (Ok outcome, given, end)
+pub given_reported : (w : WiresSeen) (es : List EndpointParts) (asked : Query) (block : ℕ) (all : OutcomeInRounds) (s : Status) (text : List ℕ) → IsRegistry es → IsAnswered w es asked block (Ok all) → IsGivenEnd (answer_lines es all) s text → IsAnswerReported w es asked block s text
+given_reported w es asked block all s text registry (inl none) end = absurd (none_given all none.1)
+given_reported w es asked block all s text registry (inr given) end = inr (Ok all, registry, given, end)
 
-pub given_done : (w : WiresSeen) (es : List EndpointParts) (asked : Query) (block : ℕ) (outcome : Outcome) (out err : SinkWritten) → IsAnswered w es asked block (Ok outcome) → IsOutcomeWritten outcome out err → IsAnswerDone w es asked block out err
-given_done w es asked block outcome out err (inl none) wrote = absurd (none_given outcome none.1)
-given_done w es asked block outcome out err (inr given) wrote = (outcome, given, wrote)
+pub given_done : (w : WiresSeen) (es : List EndpointParts) (asked : Query) (block : ℕ) (all : OutcomeInRounds) (out err : SinkWritten) → IsRegistry es → IsAnswered w es asked block (Ok all) → IsOutcomeWritten es all out err → IsAnswerDone w es asked block out err
+given_done w es asked block all out err registry (inl none) wrote = absurd (none_given all none.1)
+given_done w es asked block all out err registry (inr given) wrote = (all, registry, given, wrote)
 
 -- a refusal by the members is reported
-pub refusal_reported : (w : WiresSeen) (es : List EndpointParts) (asked : Query) (block : ℕ) (e : FedError) (s : Status) → s ≡ fed_status_of e → IsAnswered w es asked block (Err e) → IsAnswerReported w es asked block s (fed_line e)
-refusal_reported w es asked block e s is (inl none) = let same = the_want (Err e) e refl none.1 in inl (none.0, (is ∙ ap fed_status_of same, ap fed_line same))
+pub refusal_reported : (w : WiresSeen) (es : List EndpointParts) (asked : Query) (block : ℕ) (e : FedError) (s : Status) → IsRegistry es → s ≡ fed_status_of e → IsAnswered w es asked block (Err e) → IsAnswerReported w es asked block s (fed_line e)
+refusal_reported w es asked block e s registry is (inl none) = let same = the_want (Err e) e refl none.1 in inl (none.0, (is ∙ ap fed_status_of same, ap fed_line same))
   where
-    the_want : (r : Result Outcome FedError) (e : FedError) → r ≡ Err e → r ≡ Err fed.Memory → e ≡ fed.Memory
+    the_want : (r : Result OutcomeInRounds FedError) (e : FedError) → r ≡ Err e → r ≡ Err fed.Memory → e ≡ fed.Memory
     the_want r e a b = cc
-refusal_reported w es asked block e s is (inr given) = inr (Err e, given, (is, refl))
+refusal_reported w es asked block e s registry is (inr given) = inr (Err e, registry, given, (is, refl))
 
 -- ---- by the files
 
 pub answer_reported : (w : WiresSeen) (r q : FileRead) (es : List EndpointParts) (asked : Query) (block : ℕ) (s : Status) (text : List ℕ) → GivesRegistry r (Ok es) → GivesQuery q (Ok asked) → IsAnswerReported w es asked block s text → IsQueryReported w r q block s text
 answer_reported w r q es asked block s text g h (inl (none, want)) = inl (none, want_before r q s text want)
-answer_reported w r q es asked block s text g h (inr (result, (entries, federated), end)) = inr (result, record { endpoints = es; registered = g; asked = asked; accepted = h; entries = entries; federated = federated }, end)
+answer_reported w r q es asked block s text g h (inr (result, registry, federated, end)) = inr (result, record { endpoints = es; registered = g; registry = registry; asked = asked; accepted = h; federated = federated }, end)
 
 pub query_done : (w : WiresSeen) (r q : FileRead) (es : List EndpointParts) (asked : Query) (block : ℕ) (out err : SinkWritten) → GivesRegistry r (Ok es) → GivesQuery q (Ok asked) → IsAnswerDone w es asked block out err → IsQueryDone w r q block out err
-query_done w r q es asked block out err g h (outcome, (entries, federated), wrote) = (outcome, record { endpoints = es; registered = g; asked = asked; accepted = h; entries = entries; federated = federated }, wrote)
+query_done w r q es asked block out err g h (all, registry, federated, wrote) = (all, record { endpoints = es; registered = g; registry = registry; asked = asked; accepted = h; federated = federated }, wrote)
 
 pub a_union : (wires : List Seen) (r q : FileRead) (es : List EndpointParts) (asked : Query) (text : List ℕ) → GivesRegistry r (Ok es) → GivesQuery q (Ok asked) → IsUnionDocument wires es asked text → IsUnionAnswer wires r q text
 a_union wires r q es asked text g h k = pick r.content g

@@ -6,5 +6,4 @@ pub mod Generator
 pub mod GeneratorSteps
 pub mod MemberSteps
 pub mod Query
-pub mod Silent
 pub mod MemberLines

@@ -1,36 +1,41 @@
 -- What `fedx query` does.
-use Rattle.std.specs.Prelude.{◌≡◌, ◌⊎◌, ◌+◌, ℕ, List, [], ◌++◌, IfSome, IsTrue, Ok, Result}
+use Rattle.std.specs.Prelude.{◌≡◌, ◌⊎◌, ◌+◌, ◌≤◌, ℕ, Bool, List, [], ◌++◌, All, IfSome, IsTrue, Ok, Result}
 use Rattle.fx_outside.specs.Endpoints.{EndpointParts}
 use Rattle.fx_terms.specs.declared.triples.Triple.{Triple}
 use Rattle.fx_algebra.specs.Answers.{answer}
 use Rattle.fx_algebra.specs.Graphs.{union}
+use Rattle.fx_algebra.specs.Units.{of_kept}
 use Rattle.fx_algebra.specs.declared.queries.Query.{Query}
 use Rattle.fx_grammar.specs.Accepted.{Accepted}
 use Rattle.fx_results.specs.Documents.{document}
-use Rattle.fx_sources.specs.Probes.{Entry}
-use Rattle.fx_sources.specs.Registries.{read_registry}
+use Rattle.fx_sources.specs.Registries.{IsRegistry, read_registry}
 use Rattle.fx_traffic.specs.Gains.{TellAll, WiresSeen, faults_at}
 use Rattle.fx_wire.specs.Exchanges.{Seen}
-use Rattle.fx_outcomes.specs.Mediation.{Federated, Serve}
+use Rattle.fx_outcomes.specs.Mediation.{Serve}
+use Rattle.fx_outcomes.specs.declared.federated.FedError.{FedError}
+use Rattle.fx_outcomes.specs.declared.rounds.Left.{Left}
+use Rattle.fx_outcomes.specs.declared.rounds.OutcomeInRounds.{OutcomeInRounds}
+use Rattle.fx_outcomes.specs.declared.rounds.Round.{Round}
+use Rattle.fx_rounds.specs.Down.{AreDown}
+use Rattle.fx_rounds.specs.LeftOut.{AreLeftOut, LeavesSomebody, left_in}
+use Rattle.fx_rounds.specs.Licences.{downs_failed, lefts_failed}
 use Rattle.fx_services.specs.Noted.{places}
 use Rattle.fx_services.specs.declared.noted.Down.{Down}
-use Rattle.fx_outcomes.specs.declared.federated.FedError.{FedError}
-use Rattle.fx_outcomes.specs.declared.federated.Outcome.{Outcome}
 use Rattle.fx_local.specs.declared.statuses.Status.{Status}
-use Rattle.fx_commands.specs.Asking.{IsUnasked, IsRefusedBefore}
+use Rattle.fx_commands.specs.Asking.{IsUnasked, IsRefusedBefore, WasAsked}
 use Rattle.fx_commands.specs.FedRefusals.{IsEnd}
 use Rattle.fx_local.specs.Files.{FileRead, IsQueryOf, IsRegistryOf}
-use Rattle.fx_commands.specs.MemberLines.{down_lines}
-use Rattle.fx_commands.specs.Silent.{AreDown, wires_failed}
+use Rattle.fx_commands.specs.MemberLines.{answer_lines, down_lines, left_lines}
 use Rattle.fx_local.specs.Sinks.{SinkWritten, Wrote}
 
 -- ---- the answer over the union
 
--- Some occurrences of SERVICE SILENT are down. Where the graphs of all endpoints are told, the text is the document of the query's answer over their union, where each IRI
--- that is the address of an endpoint has its graph.
+-- Members are left out that may be, each once, and occurrences of SERVICE SILENT are down. Where the graphs of all endpoints are told, the text is the document of the query's answer over the union of
+-- those of the other members, where each IRI that is the address of an endpoint has its graph.
 abbrev pub IsUnionDocument : List Seen → List EndpointParts → Query → List ℕ → Type 0
 IsUnionDocument wires endpoints q text =
-    (noted : List Down) × AreDown q noted × ((graphs : List (List Triple)) → TellAll wires endpoints graphs → (services : List ℕ → List Triple) → Serve services endpoints graphs → text ≡ document (answer q (union graphs) services (places noted)))
+    (left : List Left) × (kept : List Bool) × (noted : List Down) × AreLeftOut endpoints left kept × AreDown q noted
+    × ((graphs : List (List Triple)) → TellAll wires endpoints graphs → (services : List ℕ → List Triple) → Serve services endpoints graphs → text ≡ document (answer q (union (of_kept kept graphs)) services (places noted)))
 
 -- of the endpoints of a registry and the query of a text
 pub record IsUnionAnswerOf (wires : List Seen) (registry query text : List ℕ) : Type 0 where
@@ -46,21 +51,21 @@ IsUnionAnswer wires r q text = IfSome r.content (λ registry. IfSome q.content (
 
 -- ---- statuses
 
--- The members of the registry were asked for the query with a new cache, in batches of so many rows at most: what was exchanged, what the members
+-- The members of the registry were asked for the query in rounds, with a new cache, in batches of so many rows at most: what was exchanged, what the members
 -- gave, and else the cause at the one that the refusal names.
-pub record IsFederated (w : WiresSeen) (r q : FileRead) (block : ℕ) (result : Result Outcome FedError) : Type 0 where
+pub record IsFederated (w : WiresSeen) (r q : FileRead) (block : ℕ) (result : Result OutcomeInRounds FedError) : Type 0 where
   pub endpoints : List EndpointParts
   pub registered : IsRegistryOf r endpoints
+  pub registry : IsRegistry endpoints
   pub asked : Query
   pub accepted : IsQueryOf q asked
-  pub entries : List Entry
-  pub federated : Federated w.tells w.alone w.before w.after endpoints asked [] entries block result
+  pub federated : WasAsked w endpoints asked block result
 
 -- the cause of each status, and its lines on standard error: nothing is asked where a file is refused
 abbrev pub IsQueryReported : WiresSeen → FileRead → FileRead → ℕ → Status → List ℕ → Type 0
 IsQueryReported w r q block s text =
     (IsUnasked w × IsRefusedBefore r q s text)
-    ⊎ ((result : Result Outcome FedError) × IsFederated w r q block result × IsEnd (λ outcome. down_lines outcome.down) result s text)
+    ⊎ ((result : Result OutcomeInRounds FedError) × (f : IsFederated w r q block result) × IsEnd (answer_lines f.endpoints) result s text)
 
 -- what each status leaves on standard output: the document, a front of it where a write failed, and else nothing new
 abbrev pub IsQueryWritten : List Seen → FileRead → FileRead → Status → List ℕ → List ℕ → Type 0
@@ -68,23 +73,31 @@ IsQueryWritten wires r q s old new = Wrote (IsUnionAnswer wires r q) s old new
 
 -- ---- a query that is done
 
--- standard output gained the document of what the members gave, and standard error a line for each occurrence that is down in it
-abbrev pub IsOutcomeWritten : Outcome → SinkWritten → SinkWritten → Type 0
-IsOutcomeWritten outcome out err = (IsTrue out.tells → out.new ≡ out.old ++ document outcome.answer) × (IsTrue err.tells → err.new ≡ err.old ++ down_lines outcome.down)
+-- standard output gained the document of what the members gave, and standard error a line for each member that is left out, and for each occurrence that is down in it
+abbrev pub IsOutcomeWritten : List EndpointParts → OutcomeInRounds → SinkWritten → SinkWritten → Type 0
+IsOutcomeWritten endpoints all out err = (IsTrue out.tells → out.new ≡ out.old ++ document all.outcome.answer) × (IsTrue err.tells → err.new ≡ err.old ++ answer_lines endpoints all)
 
 -- the members gave something, and this was written
 abbrev pub IsQueryDone : WiresSeen → FileRead → FileRead → ℕ → SinkWritten → SinkWritten → Type 0
-IsQueryDone w r q block out err = (outcome : Outcome) × IsFederated w r q block (Ok outcome) × IsOutcomeWritten outcome out err
+IsQueryDone w r q block out err = (all : OutcomeInRounds) × (f : IsFederated w r q block (Ok all)) × IsOutcomeWritten f.endpoints all out err
 
--- For a query, at each address as many faults were counted as lines on standard error say of it that the wire failed, each for an occurrence of SERVICE SILENT of this query.
-pub record CountsDownBy (asked : Query) (before after : List Seen) (err : SinkWritten) : Type 0 where
+-- For a query, at each address as many faults were counted at least as lines on standard error say of it that the wire failed, each for a member that is left out or for an occurrence of SERVICE SILENT
+-- of this query; and where no member is left out, no more.
+pub record CountsDownBy (endpoints : List EndpointParts) (asked : Query) (before after : List Seen) (err : SinkWritten) : Type 0 where
+  pub rounds : List Round
   pub noted : List Down
+  pub kept : List Bool
+  pub left_out : AreLeftOut endpoints (left_in rounds) kept
+  pub leave : All LeavesSomebody rounds
   pub down : AreDown asked noted
-  pub lines : IsTrue err.tells → err.new ≡ err.old ++ down_lines noted
-  pub counted : (address : List ℕ) → faults_at after address ≡ faults_at before address + wires_failed address noted
+  pub lines : IsTrue err.tells → err.new ≡ err.old ++ (left_lines endpoints rounds ++ down_lines noted)
+  pub counted : (address : List ℕ) → faults_at before address + (lefts_failed endpoints address (left_in rounds) + downs_failed address noted) ≤ faults_at after address
+  pub exact : rounds ≡ [] → (address : List ℕ) → faults_at after address ≡ faults_at before address + downs_failed address noted
 
--- so it is of the query of a file
-pub record CountsDown (q : FileRead) (before after : List Seen) (err : SinkWritten) : Type 0 where
+-- so it is of the registry and the query of files
+pub record CountsDown (r q : FileRead) (before after : List Seen) (err : SinkWritten) : Type 0 where
+  pub endpoints : List EndpointParts
+  pub registered : IsRegistryOf r endpoints
   pub asked : Query
   pub accepted : IsQueryOf q asked
-  pub counts : CountsDownBy asked before after err
+  pub counts : CountsDownBy endpoints asked before after err

@@ -7,7 +7,7 @@ ghost use Rattle.fx_commands.specs.MemberSteps.{IsAnswered};
 
 use crate::federated::outcome;
 use fx_algebra::{Answer, Query};
-use fx_engine::{FedError, Outcome};
+use fx_engine::{FedError, OutcomeInRounds};
 use fx_sources::{Registry, RegistryError};
 use fx_syntax::{SyntaxError, parse};
 use fx_terms::{Boxed, Memory};
@@ -23,7 +23,7 @@ const BLOCK: u32 = 15;
 /// `http://127.0.0.1:9000/sparql`, and the same with 9001 and 9002:
 /// `SELECT ?a ?c WHERE { ?a <http://g/knows> ?b . ?b <http://g/knows> ?c . ?c <http://g/age> ?n FILTER ( ?n < 30 ) }`.
 ///
-/// The members are asked over the wires, with a new cache, in batches of 15 rows. The errors come as those of `federate`, but for `Service` and `UnknownService`,
+/// The members are asked over the wires, with a new cache, in batches of 15 rows. The errors come as those of `federate_in_rounds`, but for `Service` and `UnknownService`,
 /// which never come.
 pub fn count_rows<R: Threads + Wait + Sync, W: Wire + Send>(
     rt: &R,
@@ -41,7 +41,7 @@ pub fn count_rows<R: Threads + Wait + Sync, W: Wire + Send>(
     ensures wired { AreAfter (map W.seen wires.old) (map W.seen wires.new) }
 {
     match over_members(rt, alloc, wires) {
-        Ok(outcome) => Ok(rows_of(&outcome.answer)),
+        Ok(all) => Ok(rows_of(&all.outcome.answer)),
         Err(error) => Err(error),
     }
 }
@@ -61,7 +61,7 @@ fn over_members<R: Threads + Wait + Sync, W: Wire + Send>(
     rt: &R,
     alloc: Global,
     wires: &mut [W],
-) -> Result<Outcome, FedError>
+) -> Result<OutcomeInRounds, FedError>
     requires wired { (0 < length wires.old) × (length wires.old ≤ 16) }
     ensures answered { IsAnswered (wires_seen W.tells_log W.counts_alone W.seen wires.old wires.new) generated_members generated_query 15 result }
     ensures wired { AreAfter (map W.seen wires.old) (map W.seen wires.new) }
@@ -77,7 +77,7 @@ fn over<R: Threads + Wait + Sync, W: Wire + Send>(
     alloc: Global,
     members: &Registry,
     wires: &mut [W],
-) -> Result<Outcome, FedError>
+) -> Result<OutcomeInRounds, FedError>
     requires wired { (0 < length wires.old) × (length wires.old ≤ 16) }
     ensures answered { IsAnswered (wires_seen W.tells_log W.counts_alone W.seen wires.old wires.new) members.now generated_query 15 result }
     ensures wired { AreAfter (map W.seen wires.old) (map W.seen wires.new) }

@@ -6,6 +6,7 @@ pub mod explained;
 pub mod federated;
 pub mod generated;
 mod generator;
+mod lines;
 pub mod refusals;
 
 pub use counting::count_rows;

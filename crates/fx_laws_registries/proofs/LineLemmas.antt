@@ -12,7 +12,7 @@ use Rattle.url.specs.Parts.{Parts, nonempty_host}
 use Rattle.fx_outside.specs.Endpoints.{EndpointParts, endpoint_of, flagged, is_sendable}
 use Rattle.fx_outside.specs.declared.endpoints.Flags.{Flags}
 use Rattle.fx_sources.specs.Addresses.{endpoint_at, is_iri, is_name, is_plain}
-use Rattle.fx_sources.specs.Lines.{entry, entry_at, entry_of, flagged_entry, flags_of, is_comment, is_values, line_of, line_of_words, named_line, no_flags, words}
+use Rattle.fx_sources.specs.Lines.{entry, entry_at, entry_of, flagged_entry, flags_of, is_comment, is_optional, is_values, line_of, line_of_words, named_line, no_flags, words}
 use Rattle.fx_sources.specs.declared.lines.Line.{Line}
 use Rattle.fx_sources.specs.declared.lines.Line.TheVariants.{Entry, Malformed, Passed}
 use Rattle.fx_laws_registries.specs.Lines.{AreFlags, IsEntry, IsEntryLine, IsOfWords, IsPassedLine, LinesAreReadByTheirWords}
@@ -44,9 +44,6 @@ none_is (Some x) e = absurd (cc)
 
 -- ---- entries
 
-abbrev values_flag : Bool → Flags
-values_flag b = record { optional = false; values = b }
-
 of_entry : (o : Option EndpointParts) (flags : Flags) (e : EndpointParts) → entry_of o flags ≡ Entry e → (p : EndpointParts) × (o ≡ Some p) × (is_sendable p ≡ true) × (flagged flags p ≡ e)
 of_entry None flags e h = absurd (cc)
 of_entry (Some p) flags e h = by (is_sendable p) refl h
@@ -61,12 +58,12 @@ of_entry (Some p) flags e h = by (is_sendable p) refl h
 abbrev host_of : Parts → Option (List ℕ)
 host_of url = option_map host_text (nonempty_host url)
 
-module _ (name address : List ℕ) (b : Bool) (e : EndpointParts) where
+module _ (name address : List ℕ) (flags : Flags) (e : EndpointParts) where
   of_host : (url : Parts) → is_name name ≡ true → is_iri address ≡ true → parse_url None address ≡ Ok url → is_plain url ≡ true
-      → (o : Option (Host (List ℕ))) → nonempty_host url ≡ o → entry_of (endpoint_at name address url (option_map host_text o)) (values_flag b) ≡ Entry e → IsEntry name address b e
-  of_host url n i r p None h k = let t = of_entry None (values_flag b) e k in let no = t.1 in absurd (cc)
+      → (o : Option (Host (List ℕ))) → nonempty_host url ≡ o → entry_of (endpoint_at name address url (option_map host_text o)) flags ≡ Entry e → IsEntry name address flags e
+  of_host url n i r p None h k = let t = of_entry None flags e k in let no = t.1 in absurd (cc)
   of_host url n i r p (Some host) h k =
-      let t = of_entry (Some (endpoint_of name address (host_text host) (unwrap_or url.port 80) url.path)) (values_flag b) e k in
+      let t = of_entry (Some (endpoint_of name address (host_text host) (unwrap_or url.port 80) url.path)) flags e k in
       let facts = five (bytes_eq url.scheme (codes "http")) (length url.username == 0) (length url.password == 0) (is_none url.query) (is_none url.fragment) p in
       record {
         named = n;
@@ -80,7 +77,7 @@ module _ (name address : List ℕ) (b : Bool) (e : EndpointParts) where
         fragment = none_is url.fragment facts.4;
         host = host;
         has_host = h;
-        is = sym t.3 ∙ ap (flagged (values_flag b)) (sym (out t.0 t.1));
+        is = sym t.3 ∙ ap (flagged flags) (sym (out t.0 t.1));
         sendable = ap is_sendable (sym t.3) ∙ t.2;
       }
     where
@@ -88,33 +85,33 @@ module _ (name address : List ℕ) (b : Bool) (e : EndpointParts) where
       out p m = cc
 
   of_plain : (url : Parts) → is_name name ≡ true → is_iri address ≡ true → parse_url None address ≡ Ok url → (c : Bool) → is_plain url ≡ c
-      → (if c then entry_of (endpoint_at name address url (host_of url)) (values_flag b) else Malformed) ≡ Entry e → IsEntry name address b e
+      → (if c then entry_of (endpoint_at name address url (host_of url)) flags else Malformed) ≡ Entry e → IsEntry name address flags e
   of_plain url n i r true p k = of_host url n i r p (nonempty_host url) refl k
   of_plain url n i r false p k = absurd (cc)
 
-  of_url : is_name name ≡ true → is_iri address ≡ true → (r : Parsed Parts) → parse_url None address ≡ r → entry_at name address r (values_flag b) ≡ Entry e → IsEntry name address b e
+  of_url : is_name name ≡ true → is_iri address ≡ true → (r : Parsed Parts) → parse_url None address ≡ r → entry_at name address r flags ≡ Entry e → IsEntry name address flags e
   of_url n i (Ok url) r k = of_plain url n i r (is_plain url) refl k
   of_url n i (Err w) r k = absurd (cc)
 
-  entry_there : entry name address (values_flag b) ≡ Entry e → IsEntry name address b e
+  entry_there : entry name address flags ≡ Entry e → IsEntry name address flags e
   unfolding entry
   entry_there k = by (is_name name) refl (is_iri address) refl k
     where
-      by : (c : Bool) → is_name name ≡ c → (d : Bool) → is_iri address ≡ d → (if c && d then entry_at name address (parse_url None address) (values_flag b) else Malformed) ≡ Entry e → IsEntry name address b e
+      by : (c : Bool) → is_name name ≡ c → (d : Bool) → is_iri address ≡ d → (if c && d then entry_at name address (parse_url None address) flags else Malformed) ≡ Entry e → IsEntry name address flags e
       by true n true i h = of_url n i (parse_url None address) refl h
       by true n false i h = absurd (cc)
       by false n d i h = absurd (cc)
 
-  entry_from : IsEntry name address b e → entry name address (values_flag b) ≡ Entry e
+  entry_from : IsEntry name address flags e → entry name address flags ≡ Entry e
   unfolding entry
   entry_from t =
       let p = endpoint_of name address (host_text t.host) (unwrap_or t.url.port 80) t.url.path in
-      ap (λ (c : Bool). if c && is_iri address then entry_at name address (parse_url None address) (values_flag b) else Malformed) t.named
-      ∙ (ap (λ (c : Bool). if c then entry_at name address (parse_url None address) (values_flag b) else Malformed) t.iri
-      ∙ (ap (λ (r : Parsed Parts). entry_at name address r (values_flag b)) t.reads
-      ∙ (ap (λ (c : Bool). if c then entry_of (endpoint_at name address t.url (host_of t.url)) (values_flag b) else Malformed) plain
-      ∙ (ap (λ (o : Option (Host (List ℕ))). entry_of (endpoint_at name address t.url (option_map host_text o)) (values_flag b)) t.has_host
-      ∙ (ap (λ (c : Bool). if c then Entry (flagged (values_flag b) p) else Malformed) (ap is_sendable (sym t.is) ∙ t.sendable)
+      ap (λ (c : Bool). if c && is_iri address then entry_at name address (parse_url None address) flags else Malformed) t.named
+      ∙ (ap (λ (c : Bool). if c then entry_at name address (parse_url None address) flags else Malformed) t.iri
+      ∙ (ap (λ (r : Parsed Parts). entry_at name address r flags) t.reads
+      ∙ (ap (λ (c : Bool). if c then entry_of (endpoint_at name address t.url (host_of t.url)) flags else Malformed) plain
+      ∙ (ap (λ (o : Option (Host (List ℕ))). entry_of (endpoint_at name address t.url (option_map host_text o)) flags) t.has_host
+      ∙ (ap (λ (c : Bool). if c then Entry (flagged flags p) else Malformed) (ap is_sendable (sym t.is) ∙ t.sendable)
       ∙ ap Entry (sym t.is))))))
     where
       plain : is_plain t.url ≡ true
@@ -125,35 +122,99 @@ module _ (name address : List ℕ) (b : Bool) (e : EndpointParts) where
 
 -- ---- flags
 
+abbrev flags_are : (optional values : Bool) → Flags
+flags_are o v = record { optional = o; values = v }
+
+-- one word more
+abbrev next : Bool → Bool → Flags → Option Flags
+next optional values flags =
+    if optional && not flags.optional then Some (record { optional = true; values = flags.values })
+    else if values && not flags.values then Some (record { optional = flags.optional; values = true })
+    else None
+
+abbrev more : List (List ℕ) → Option Flags → Option Flags
+more rest o = option_and_then (λ f. flags_of f rest) o
+
+ends_with : (f flags : Flags) → Some f ≡ Some flags → flags ≡ f
+ends_with f flags h = cc
+
+none_more : (rest : List (List ℕ)) (flags : Flags) → more rest None ≡ Some flags → ⊥
+none_more rest flags h = absurd (cc)
+
+is_the_word : (word text : List ℕ) → bytes_eq word text ≡ true → word ≡ text
+is_the_word word text h = (bytes_decides word text).0 h
+
+-- behind both no word adds one
+behind_both : (rest : List (List ℕ)) (flags : Flags) → flags_of (flags_are true true) rest ≡ Some flags → (rest ≡ []) × (flags ≡ flags_are true true)
+behind_both [] flags h = (refl, ends_with (flags_are true true) flags h)
+behind_both (word ∷ rest) flags h = absurd (by (is_optional word) (is_values word) h)
+  where
+    by : (o v : Bool) → more rest (next o v (flags_are true true)) ≡ Some flags → ⊥
+    by true true k = none_more rest flags k
+    by true false k = none_more rest flags k
+    by false true k = none_more rest flags k
+    by false false k = none_more rest flags k
+
+-- behind one the other may stand
+behind_optional : (rest : List (List ℕ)) (flags : Flags) → flags_of (flags_are true false) rest ≡ Some flags
+    → ((rest ≡ []) × (flags ≡ flags_are true false)) ⊎ ((rest ≡ codes "values" ∷ []) × (flags ≡ flags_are true true))
+behind_optional [] flags h = inl (refl, ends_with (flags_are true false) flags h)
+behind_optional (word ∷ rest) flags h = by (is_optional word) (is_values word) refl h
+  where
+    found : is_values word ≡ true → flags_of (flags_are true true) rest ≡ Some flags
+        → ((word ∷ rest ≡ []) × (flags ≡ flags_are true false)) ⊎ ((word ∷ rest ≡ codes "values" ∷ []) × (flags ≡ flags_are true true))
+    found v k = let t = behind_both rest flags k in inr (ap (λ (w : List ℕ). w ∷ rest) (is_the_word word (codes "values") v) ∙ ap (λ (r : List (List ℕ)). codes "values" ∷ r) t.0, t.1)
+
+    by : (o v : Bool) → is_values word ≡ v → more rest (next o v (flags_are true false)) ≡ Some flags
+        → ((word ∷ rest ≡ []) × (flags ≡ flags_are true false)) ⊎ ((word ∷ rest ≡ codes "values" ∷ []) × (flags ≡ flags_are true true))
+    by true true is k = found is k
+    by false true is k = found is k
+    by true false is k = absurd (none_more rest flags k)
+    by false false is k = absurd (none_more rest flags k)
+
+behind_values : (rest : List (List ℕ)) (flags : Flags) → flags_of (flags_are false true) rest ≡ Some flags
+    → ((rest ≡ []) × (flags ≡ flags_are false true)) ⊎ ((rest ≡ codes "optional" ∷ []) × (flags ≡ flags_are true true))
+behind_values [] flags h = inl (refl, ends_with (flags_are false true) flags h)
+behind_values (word ∷ rest) flags h = by (is_optional word) refl (is_values word) h
+  where
+    by : (o : Bool) → is_optional word ≡ o → (v : Bool) → more rest (next o v (flags_are false true)) ≡ Some flags
+        → ((word ∷ rest ≡ []) × (flags ≡ flags_are false true)) ⊎ ((word ∷ rest ≡ codes "optional" ∷ []) × (flags ≡ flags_are true true))
+    by true is v k = let t = behind_both rest flags k in inr (ap (λ (w : List ℕ). w ∷ rest) (is_the_word word (codes "optional") is) ∙ ap (λ (r : List (List ℕ)). codes "optional" ∷ r) t.0, t.1)
+    by false is true k = absurd (none_more rest flags k)
+    by false is false k = absurd (none_more rest flags k)
+
+-- flags by their two parts
+abbrev Name : List (List ℕ) → Flags → Type 0
+Name words flags = AreFlags words flags.optional flags.values
+
 -- the flags that words name
-more_flags : (b : Bool) (rest : List (List ℕ)) (flags : Flags) → flags_of (values_flag b) rest ≡ Some flags → b ≡ true → (rest ≡ []) × (flags ≡ values_flag true)
-more_flags b [] flags h t = (refl, inside h ∙ ap values_flag t)
+flags_there : (rest : List (List ℕ)) (flags : Flags) → flags_of no_flags rest ≡ Some flags → Name rest flags
+flags_there [] flags h = subst (Name []) (sym (ends_with no_flags flags h)) refl
+flags_there (word ∷ rest) flags h = by (is_optional word) refl (is_values word) refl h
   where
-    inside : Some (values_flag b) ≡ Some flags → flags ≡ values_flag b
-    inside k = cc
-more_flags true (word ∷ rest) flags h t = absurd (no_more (is_values word) h)
-  where
-    no_more : (c : Bool) → option_and_then (λ more. flags_of more rest) (if c && not true then Some (values_flag true) else None) ≡ Some flags → ⊥
-    no_more true k = absurd (cc)
-    no_more false k = absurd (cc)
-more_flags false (word ∷ rest) flags h t = absurd (cc)
+    optional_first : is_optional word ≡ true → ((rest ≡ []) × (flags ≡ flags_are true false)) ⊎ ((rest ≡ codes "values" ∷ []) × (flags ≡ flags_are true true)) → Name (word ∷ rest) flags
+    optional_first is (inl t) =
+        subst (Name (word ∷ rest)) (sym t.1) (ap (λ (w : List ℕ). w ∷ rest) (is_the_word word (codes "optional") is) ∙ ap (λ (r : List (List ℕ)). codes "optional" ∷ r) t.0)
+    optional_first is (inr t) =
+        subst (Name (word ∷ rest)) (sym t.1) (inl (ap (λ (w : List ℕ). w ∷ rest) (is_the_word word (codes "optional") is) ∙ ap (λ (r : List (List ℕ)). codes "optional" ∷ r) t.0))
 
-flags_there : (rest : List (List ℕ)) (flags : Flags) → flags_of no_flags rest ≡ Some flags → (b : Bool) × AreFlags rest b × (flags ≡ values_flag b)
-flags_there [] flags h = (false, inl (refl, refl), inside h)
-  where
-    inside : Some no_flags ≡ Some flags → flags ≡ no_flags
-    inside k = cc
-flags_there (word ∷ rest) flags h = by (is_values word) refl h
-  where
-    by : (c : Bool) → is_values word ≡ c → option_and_then (λ more. flags_of more rest) (if c && not false then Some (values_flag true) else None) ≡ Some flags → (b : Bool) × AreFlags (word ∷ rest) b × (flags ≡ values_flag b)
-    by true v k =
-        let t = more_flags true rest flags k refl in
-        (true, inr (ap (λ (w : List ℕ). w ∷ rest) ((bytes_decides word (codes "values")).0 v) ∙ ap (λ (r : List (List ℕ)). codes "values" ∷ r) t.0, refl), t.1)
-    by false v k = absurd (cc)
+    values_first : is_values word ≡ true → ((rest ≡ []) × (flags ≡ flags_are false true)) ⊎ ((rest ≡ codes "optional" ∷ []) × (flags ≡ flags_are true true)) → Name (word ∷ rest) flags
+    values_first is (inl t) =
+        subst (Name (word ∷ rest)) (sym t.1) (ap (λ (w : List ℕ). w ∷ rest) (is_the_word word (codes "values") is) ∙ ap (λ (r : List (List ℕ)). codes "values" ∷ r) t.0)
+    values_first is (inr t) =
+        subst (Name (word ∷ rest)) (sym t.1) (inr (ap (λ (w : List ℕ). w ∷ rest) (is_the_word word (codes "values") is) ∙ ap (λ (r : List (List ℕ)). codes "values" ∷ r) t.0))
 
-flags_from : (rest : List (List ℕ)) (b : Bool) → AreFlags rest b → flags_of no_flags rest ≡ Some (values_flag b)
-flags_from rest b (inl t) = ap (flags_of no_flags) t.0 ∙ ap (λ (c : Bool). Some (values_flag c)) (sym t.1)
-flags_from rest b (inr t) = ap (flags_of no_flags) t.0 ∙ ap (λ (c : Bool). Some (values_flag c)) (sym t.1)
+    by : (o : Bool) → is_optional word ≡ o → (v : Bool) → is_values word ≡ v → more rest (next o v no_flags) ≡ Some flags → Name (word ∷ rest) flags
+    by true is v also k = optional_first is (behind_optional rest flags k)
+    by false is true also k = values_first also (behind_values rest flags k)
+    by false is false also k = absurd (none_more rest flags k)
+
+flags_from_parts : (rest : List (List ℕ)) (o v : Bool) → AreFlags rest o v → flags_of no_flags rest ≡ Some (flags_are o v)
+flags_from_parts rest false false t = ap (flags_of no_flags) t
+flags_from_parts rest true false t = ap (flags_of no_flags) t
+flags_from_parts rest false true t = ap (flags_of no_flags) t
+flags_from_parts rest true true (inl t) = ap (flags_of no_flags) t
+flags_from_parts rest true true (inr t) = ap (flags_of no_flags) t
 
 -- ---- lines
 
@@ -173,25 +234,23 @@ no_comment (c ∷ cs) h = by (c == 35) refl
 record AreEntryWords (those : List (List ℕ)) (e : EndpointParts) : Type 0 where
   name : List ℕ
   address : List ℕ
-  flags : List (List ℕ)
-  are : those ≡ name ∷ address ∷ flags
-  named : AreFlags flags e.values
-  is : IsEntry name address e.values e
+  behind : List (List ℕ)
+  flags : Flags
+  are : those ≡ name ∷ address ∷ behind
+  named : AreFlags behind flags.optional flags.values
+  is : IsEntry name address flags e
 
 entry_words : (name address : List ℕ) (rest : List (List ℕ)) (e : EndpointParts) (o : Option Flags) → flags_of no_flags rest ≡ o → flagged_entry name address o ≡ Entry e → AreEntryWords (name ∷ address ∷ rest) e
 entry_words name address rest e None f h = absurd (cc)
-entry_words name address rest e (Some flags) f h =
-    let t = flags_there rest flags f in
-    let k = entry_there name address t.0 e (ap (entry name address) (sym t.2) ∙ h) in
-    let same : e.values ≡ t.0 = ap (λ (x : EndpointParts). x.values) k.is in
-    record {
-      name = name;
-      address = address;
-      flags = rest;
-      are = refl;
-      named = subst (AreFlags rest) (sym same) t.1;
-      is = subst (λ (c : Bool). IsEntry name address c e) (sym same) k;
-    }
+entry_words name address rest e (Some flags) f h = record {
+  name = name;
+  address = address;
+  behind = rest;
+  flags = flags;
+  are = refl;
+  named = flags_there rest flags f;
+  is = entry_there name address flags e h;
+}
 
 words_there : (those : List (List ℕ)) (e : EndpointParts) → line_of_words those ≡ Entry e → AreEntryWords those e
 words_there [] e h = absurd (cc)
@@ -222,16 +281,16 @@ entry_line_there : (line : List ℕ) (e : EndpointParts) → line_of line ≡ En
 entry_line_there line e h =
     let t = line_there line (Entry e) h (λ k. differ k) in
     let w = words_there (words line) e t.1 in
-    record { name = w.name; address = w.address; flags = w.flags; utf8 = t.0; of_words = of_its_words line (w.name ∷ w.address ∷ w.flags) w.are; are_flags = w.named; entry = w.is }
+    record { name = w.name; address = w.address; behind = w.behind; flags = w.flags; utf8 = t.0; of_words = of_its_words line (w.name ∷ w.address ∷ w.behind) w.are; are_flags = w.named; entry = w.is }
   where
     differ : Entry e ≡ Malformed → ⊥
     differ k = absurd (cc)
 
 entry_line_from : (line : List ℕ) (e : EndpointParts) → IsEntryLine line e → line_of line ≡ Entry e
 entry_line_from line e t =
-    line_from line (t.name ∷ t.address ∷ t.flags) t.utf8 t.of_words
-    ∙ (ap (λ (b : Bool). if b then Passed else named_line t.name (t.address ∷ t.flags)) (no_comment t.name t.entry.named)
-    ∙ (ap (flagged_entry t.name t.address) (flags_from t.flags e.values t.are_flags) ∙ entry_from t.name t.address e.values e t.entry))
+    line_from line (t.name ∷ t.address ∷ t.behind) t.utf8 t.of_words
+    ∙ (ap (λ (b : Bool). if b then Passed else named_line t.name (t.address ∷ t.behind)) (no_comment t.name t.entry.named)
+    ∙ (ap (flagged_entry t.name t.address) (flags_from_parts t.behind t.flags.optional t.flags.values t.are_flags) ∙ entry_from t.name t.address t.flags e t.entry))
 
 -- ---- lines that are passed over
 

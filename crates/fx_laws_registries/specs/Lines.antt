@@ -8,6 +8,7 @@ use Rattle.url.specs.Parser.{parse_url}
 use Rattle.url.specs.Parts.{Parts, nonempty_host}
 use Rattle.fx_terms.specs.Blanks.{is_blank}
 use Rattle.fx_outside.specs.Endpoints.{EndpointParts, is_sendable}
+use Rattle.fx_outside.specs.declared.endpoints.Flags.{Flags}
 use Rattle.fx_sources.specs.Addresses.{is_iri, is_name}
 use Rattle.fx_sources.specs.Lines.{line_of, words}
 use Rattle.fx_sources.specs.declared.lines.Line.TheVariants.{Entry, Passed}
@@ -33,12 +34,16 @@ IsOfWords (word ∷ others) line = (gap : List ℕ) × (rest : List ℕ) × (lin
 
 -- ---- entries
 
--- the words behind a name and an address: none, or the flag of endpoints that take a batch of rows as VALUES
-abbrev pub AreFlags : List (List ℕ) → Bool → Type 0
-AreFlags flags values = ((flags ≡ []) × (values ≡ false)) ⊎ ((flags ≡ codes "values" ∷ []) × (values ≡ true))
+-- words are those of flags: `optional` of endpoints that queries may do without, `values` of those that take a batch of rows as VALUES; each
+-- stands once, in any order
+abbrev pub AreFlags : List (List ℕ) → (optional values : Bool) → Type 0
+AreFlags words false false = words ≡ []
+AreFlags words true false = words ≡ codes "optional" ∷ []
+AreFlags words false true = words ≡ codes "values" ∷ []
+AreFlags words true true = (words ≡ codes "optional" ∷ codes "values" ∷ []) ⊎ (words ≡ codes "values" ∷ codes "optional" ∷ [])
 
--- an endpoint of a name and an address, with its flag
-pub record IsEntry (name address : List ℕ) (takes_values : Bool) (e : EndpointParts) : Type 0 where
+-- an endpoint of a name and an address, with its flags
+pub record IsEntry (name address : List ℕ) (flags : Flags) (e : EndpointParts) : Type 0 where
   pub named : is_name name ≡ true
   pub iri : is_iri address ≡ true
   -- the address reads as a URL with the scheme http and a host, without a user, a password, a query and a fragment
@@ -52,18 +57,19 @@ pub record IsEntry (name address : List ℕ) (takes_values : Bool) (e : Endpoint
   pub host : Host (List ℕ)
   pub has_host : nonempty_host url ≡ Some host
   -- the address is kept as it is written; host, port and target are what it reads, and the port is 80 where it has none
-  pub is : e ≡ record { name = name; iri = address; host = host_text host; port = unwrap_or url.port 80; target = url.path; optional = false; values = takes_values }
+  pub is : e ≡ record { name = name; iri = address; host = host_text host; port = unwrap_or url.port 80; target = url.path; optional = flags.optional; values = flags.values }
   -- a request can be written for it
   pub sendable : is_sendable e ≡ true
 
 pub record IsEntryLine (line : List ℕ) (e : EndpointParts) : Type 0 where
   pub name : List ℕ
   pub address : List ℕ
-  pub flags : List (List ℕ)
+  pub behind : List (List ℕ)
+  pub flags : Flags
   pub utf8 : is_utf8 line ≡ true
-  pub of_words : IsOfWords (name ∷ address ∷ flags) line
-  pub are_flags : AreFlags flags e.values
-  pub entry : IsEntry name address e.values e
+  pub of_words : IsOfWords (name ∷ address ∷ behind) line
+  pub are_flags : AreFlags behind flags.optional flags.values
+  pub entry : IsEntry name address flags e
 
 -- ---- lines that are passed over
 

@@ -11,8 +11,8 @@ pub fn words_stand_between_blanks()
     ensures { WordsStandBetweenBlanks }
 {}
 
-/// A line is an entry exactly where its words are a name, the address of an endpoint that a request can be written for, and no flag or the flag
-/// `values`; the endpoint has this name and address, and the host, port and target that the address reads. A line is passed over exactly
+/// A line is an entry exactly where its words are a name, the address of an endpoint that a request can be written for, and flags, `optional` and
+/// `values`, each once at most and in any order; the endpoint has these, this name and address, and the host, port and target that the address reads. A line is passed over exactly
 /// where it has no word, or its first word begins with `#`. Any other line is malformed.
 pub fn lines_are_read_by_their_words()
     ensures { LinesAreReadByTheirWords }

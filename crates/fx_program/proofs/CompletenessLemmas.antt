@@ -41,7 +41,7 @@ use Rattle.fx_commands.specs.FedRefusals.{fed_status_of}
 use Rattle.fx_local.specs.Limits.{graph_limit, query_limit, registry_limit}
 use Rattle.fx_local.specs.declared.statuses.Status.{Status}
 use Rattle.fx_local.specs.declared.statuses.Status.TheVariants as status
-use Rattle.fx_commands.specs.Asking.{IsRefusedBefore}
+use Rattle.fx_commands.specs.Asking.{IsRefusedBefore, IsUnmarked, WasAsked, WasPlanned}
 use Rattle.fx_program.specs.Completeness.{Completes, AreAsksShort, AreRepliesShort, AreTextsShort, AreWell, IsDoneOrWant, IsReadWell, IsWrittenWell}
 use Rattle.fx_words.specs.Commands.{Asked, over_file, over_members, planned, served, generated}
 use Rattle.fx_commands.specs.Explain.{IsExplainReported}
@@ -51,7 +51,7 @@ use Rattle.fx_local.specs.GraphTexts.{IsGraphFault, IsGraphText, is_turtle}
 use Rattle.fx_local.specs.declared.refusals.GraphFault.{GraphFault}
 use Rattle.fx_local.specs.Files.{FileRead, Holds, IsNoGraph, IsNoQuery, IsNoRegistry, IsQueryThat, IsTooLong}
 use Rattle.fx_program.specs.Headline.{IsTold}
-use Rattle.fx_commands.specs.MemberLines.{down_lines}
+use Rattle.fx_commands.specs.MemberLines.{answer_lines, plan_lines}
 use Rattle.fx_local.specs.Local.{HasPlain, IsReported}
 use Rattle.fx_commands.specs.Query.{IsQueryReported}
 use Rattle.fx_local.specs.Serving.{IsMemberReported}
@@ -232,21 +232,22 @@ query_refused w es asked graphs graph_at entries block (fed.RequestTooLong name 
 query_refused w es asked graphs graph_at entries block (fed.UnknownService iri) s is known are_told serve given well replies asks texts = absurd (no_unknown iri (sym given.known ∙ known))
 query_refused w es asked graphs graph_at entries block fed.Memory s is known are_told serve given well replies asks texts = inr is
 
-query_asked : (w : WiresSeen) (es others : List EndpointParts) (asked other : Query) (graphs : List (List Triple)) (graph_at : List ℕ → List Triple) (entries : List Entry) (block : ℕ) (e : FedError) (s : Status) → others ≡ es → other ≡ asked → s ≡ fed_status_of e → unknown_of es asked ≡ None
-    → TellAll w.before es graphs → Serve graph_at es graphs → Federated w.tells w.alone w.before w.after others other [] entries block (Err e) → AreWell w es → AreRepliesShort w → AreAsksShort es asked → AreTextsShort es graphs graph_at block asked → IsDoneOrWant s
-query_asked w es others asked other graphs graph_at entries block e s a b is known are_told serve fed =
-    query_refused w es asked graphs graph_at entries block e s is known are_told serve
-    (subst (λ (v : Query). Federated w.tells w.alone w.before w.after es v [] entries block (Err e)) b (subst (λ (l : List EndpointParts). Federated w.tells w.alone w.before w.after l other [] entries block (Err e)) a fed))
+-- where no member may be left out there is one round
+query_asked : (w : WiresSeen) (es others : List EndpointParts) (asked other : Query) (graphs : List (List Triple)) (graph_at : List ℕ → List Triple) (block : ℕ) (e : FedError) (s : Status) → others ≡ es → other ≡ asked → s ≡ fed_status_of e → All IsUnmarked es → unknown_of es asked ≡ None
+    → TellAll w.before es graphs → Serve graph_at es graphs → WasAsked w others other block (Err e) → AreWell w es → AreRepliesShort w → AreAsksShort es asked → AreTextsShort es graphs graph_at block asked → IsDoneOrWant s
+query_asked w es others asked other graphs graph_at block e s a b is unmarked known are_told serve given =
+    let was = subst (λ (v : Query). WasAsked w es v block (Err e)) b (subst (λ (l : List EndpointParts). WasAsked w l other block (Err e)) a given) in
+    query_refused w es asked graphs graph_at was.entries block e s is known are_told serve (was.in_one unmarked)
 
 pub query_completes : (w : WiresSeen) (r q : FileRead) (block : ℕ) (s : Status) (text : List ℕ) (out err : SinkWritten) (P : List ℕ → Type 0) → IsQueryReported w r q block s text → (s ≡ status.WriteFault → IsCutShort P out err)
-    → (es : List EndpointParts) (asked : Query) (graphs : List (List Triple)) (graph_at : List ℕ → List Triple) → IsTold w r q es asked graphs → Serve graph_at es graphs → unknown_of es asked ≡ None
+    → (es : List EndpointParts) (asked : Query) (graphs : List (List Triple)) (graph_at : List ℕ → List Triple) → IsTold w r q es asked graphs → Serve graph_at es graphs → All IsUnmarked es → unknown_of es asked ≡ None
     → IsReadWell r → IsReadWell q → AreWell w es → IsWrittenWell out → IsWrittenWell err → AreRepliesShort w → AreAsksShort es asked → AreTextsShort es graphs graph_at block asked → IsDoneOrWant s
-query_completes w r q block s text out err P (inl (none, before)) cut es asked graphs graph_at told serve known a b well written lines replies asks texts = before_asking r q es asked s text told.registry told.query a b before
-query_completes w r q block s text out err P (inr (Ok outcome, federated, end)) cut es asked graphs graph_at told serve known a b well written lines replies asks texts =
-    given_ends (down_lines outcome.down) s text (λ is. none_cut P out err written lines (cut is)) end
-query_completes w r q block s text out err P (inr (Err e, federated, end)) cut es asked graphs graph_at told serve known a b well written lines replies asks texts =
-    query_asked w es federated.endpoints asked federated.asked graphs graph_at federated.entries block e s (registry_told r es federated.endpoints told.registry federated.registered) (query_told q asked federated.asked told.query federated.accepted)
-    end.0 known told.graphs_are serve federated.federated well replies asks texts
+query_completes w r q block s text out err P (inl (none, before)) cut es asked graphs graph_at told serve unmarked known a b well written lines replies asks texts = before_asking r q es asked s text told.registry told.query a b before
+query_completes w r q block s text out err P (inr (Ok all, federated, end)) cut es asked graphs graph_at told serve unmarked known a b well written lines replies asks texts =
+    given_ends (answer_lines federated.endpoints all) s text (λ is. none_cut P out err written lines (cut is)) end
+query_completes w r q block s text out err P (inr (Err e, federated, end)) cut es asked graphs graph_at told serve unmarked known a b well written lines replies asks texts =
+    query_asked w es federated.endpoints asked federated.asked graphs graph_at block e s (registry_told r es federated.endpoints told.registry federated.registered) (query_told q asked federated.asked told.query federated.accepted)
+    end.0 unmarked known told.graphs_are serve federated.federated well replies asks texts
 
 -- ---- `explain`
 
@@ -262,20 +263,21 @@ plan_refused w es asked graphs entries (fed.RequestTooLong name size) s is known
 plan_refused w es asked graphs entries (fed.UnknownService iri) s is known told fed well replies asks = absurd (no_unknown iri (sym fed.known ∙ known))
 plan_refused w es asked graphs entries fed.Memory s is known told fed well replies asks = inr is
 
-plan_asked : (w : WiresSeen) (es others : List EndpointParts) (asked other : Query) (graphs : List (List Triple)) (entries : List Entry) (e : FedError) (s : Status) → others ≡ es → other ≡ asked → s ≡ fed_status_of e → unknown_of es asked ≡ None → TellAll w.before es graphs
-    → Planned w.tells w.alone w.before w.after others other [] entries (Err e) → AreWell w es → AreRepliesShort w → AreAsksShort es asked → IsDoneOrWant s
-plan_asked w es others asked other graphs entries e s a b is known told fed =
-    plan_refused w es asked graphs entries e s is known told
-    (subst (λ (v : Query). Planned w.tells w.alone w.before w.after es v [] entries (Err e)) b (subst (λ (l : List EndpointParts). Planned w.tells w.alone w.before w.after l other [] entries (Err e)) a fed))
+plan_asked : (w : WiresSeen) (es others : List EndpointParts) (asked other : Query) (graphs : List (List Triple)) (e : FedError) (s : Status) → others ≡ es → other ≡ asked → s ≡ fed_status_of e → All IsUnmarked es → unknown_of es asked ≡ None → TellAll w.before es graphs
+    → WasPlanned w others other (Err e) → AreWell w es → AreRepliesShort w → AreAsksShort es asked → IsDoneOrWant s
+plan_asked w es others asked other graphs e s a b is unmarked known told given =
+    let was = subst (λ (v : Query). WasPlanned w es v (Err e)) b (subst (λ (l : List EndpointParts). WasPlanned w l other (Err e)) a given) in
+    plan_refused w es asked graphs was.entries e s is known told (was.in_one unmarked)
 
-pub explain_completes : (w : WiresSeen) (r q : FileRead) (s : Status) (text : List ℕ) (out : SinkWritten) → IsExplainReported w r q s text → (s ≡ status.WriteFault → sink.HasFailed out)
-    → (es : List EndpointParts) (asked : Query) (graphs : List (List Triple)) → IsTold w r q es asked graphs → unknown_of es asked ≡ None
-    → IsReadWell r → IsReadWell q → AreWell w es → IsWrittenWell out → AreRepliesShort w → AreAsksShort es asked → IsDoneOrWant s
-explain_completes w r q s text out (inl (none, before)) cut es asked graphs told known a b well written replies asks = before_asking r q es asked s text told.registry told.query a b before
-explain_completes w r q s text out (inr (Ok parts, made, end)) cut es asked graphs told known a b well written replies asks = given_ends [] s text (λ is. written (cut is)) end
-explain_completes w r q s text out (inr (Err e, made, end)) cut es asked graphs told known a b well written replies asks =
-    plan_asked w es made.endpoints asked made.asked graphs made.entries e s (registry_told r es made.endpoints told.registry made.registered) (query_told q asked made.asked told.query made.accepted)
-    end.0 known told.graphs_are made.planned well replies asks
+pub explain_completes : (w : WiresSeen) (r q : FileRead) (s : Status) (text : List ℕ) (out err : SinkWritten) (P : List ℕ → Type 0) → IsExplainReported w r q s text → (s ≡ status.WriteFault → IsCutShort P out err)
+    → (es : List EndpointParts) (asked : Query) (graphs : List (List Triple)) → IsTold w r q es asked graphs → All IsUnmarked es → unknown_of es asked ≡ None
+    → IsReadWell r → IsReadWell q → AreWell w es → IsWrittenWell out → IsWrittenWell err → AreRepliesShort w → AreAsksShort es asked → IsDoneOrWant s
+explain_completes w r q s text out err P (inl (none, before)) cut es asked graphs told unmarked known a b well written lines replies asks = before_asking r q es asked s text told.registry told.query a b before
+explain_completes w r q s text out err P (inr (Ok p, made, end)) cut es asked graphs told unmarked known a b well written lines replies asks =
+    given_ends (plan_lines made.endpoints p) s text (λ is. none_cut P out err written lines (cut is)) end
+explain_completes w r q s text out err P (inr (Err e, made, end)) cut es asked graphs told unmarked known a b well written lines replies asks =
+    plan_asked w es made.endpoints asked made.asked graphs e s (registry_told r es made.endpoints told.registry made.registered) (query_told q asked made.asked told.query made.accepted)
+    end.0 unmarked known told.graphs_are made.planned well replies asks
 
 -- ---- `local`
 
@@ -330,8 +332,8 @@ making_completes s text out end cut written = given_ends [] s text (λ is. writt
 
 pub want_completes : (read : List ℕ → FileRead) (w : WiresSeen) (door later : DoorSeen) (asked : Option Asked) (out err : SinkWritten) → Completes read w door later asked status.NoMemory out err
 want_completes read w door later None out err = tt
-want_completes read w door later (Some (over_members r q workers block)) out err = λ es asked graphs graph_at told serve known a b well written lines replies asks texts. inr refl
-want_completes read w door later (Some (planned r q)) out err = λ es asked graphs told known a b well written replies asks. inr refl
+want_completes read w door later (Some (over_members r q workers block)) out err = λ es asked graphs graph_at told serve unmarked known a b well written lines replies asks texts. inr refl
+want_completes read w door later (Some (planned r q)) out err = λ es asked graphs told unmarked known a b well written lines replies asks. inr refl
 want_completes read w door later (Some (over_file g q)) out err = λ graph asked h k silent a b well lines. inr refl
 want_completes read w door later (Some (served g address count)) out err = λ graph h a same lines. inr refl
 want_completes read w door later (Some (generated n)) out err = λ written. inr refl

@@ -42,7 +42,7 @@ use Rattle.fx_outcomes.proofs.DownLemmas.{down_at, has_gone}
 use Rattle.fx_services.proofs.NotedLemmas.{apart_below, the_same}
 use Rattle.fx_walks.proofs.RegisteredLemmas.{registered_by, unregistered_by}
 use Rattle.fx_program.specs.Completeness.{AreRepliesShort, AreTextsShort, AreWell}
-use Rattle.fx_commands.specs.Silent.{unregistered}
+use Rattle.fx_rounds.specs.Down.{unregistered}
 use Rattle.fx_outcomes.proofs.CallLemmas.{first_of}
 use Rattle.fx_program.proofs.HeadlineLemmas.{of_query}
 use Rattle.fx_commands.proofs.QueryLemmas.{known_from_nothing}

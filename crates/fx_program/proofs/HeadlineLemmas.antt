@@ -1,5 +1,5 @@
 -- The theorem of `run` from what its commands report and write.
-use Rattle.std.proofs.Common.{◌≡◌, ◌∙◌, ap, sym, subst, ℕ, ◌≤◌, ◌<◌, ◌⊎◌, List, [], ◌++◌, map, Option, Some, None, Ok, Err, length, inl, inr, arith, take, IsTrue}
+use Rattle.std.proofs.Common.{◌≡◌, ◌∙◌, ap, sym, subst, ℕ, ◌≤◌, ◌<◌, ◌⊎◌, Bool, false, List, [], ◌++◌, map, Option, Some, None, Ok, Err, length, inl, inr, arith, take, IsTrue}
 use Rattle.std.specs.Prelude.{Contains, IfSome}
 use Rattle.std.proofs.lemmas.List.{take_all}
 use Rattle.fx_terms.specs.declared.triples.Triple.{Triple}
@@ -9,7 +9,7 @@ use Rattle.fx_outside.specs.Streams.{AppendsFront}
 use Rattle.fx_algebra.specs.Answers.{answer, no_graphs}
 use Rattle.fx_algebra.specs.Graphs.{union}
 use Rattle.fx_algebra.specs.Occurrences.{services}
-use Rattle.fx_algebra.specs.Units.{sources}
+use Rattle.fx_algebra.specs.Units.{of_kept, sources}
 use Rattle.fx_algebra.specs.declared.answers.Answer.{Answer}
 use Rattle.fx_algebra.specs.declared.queries.Query.{Query}
 use Rattle.fx_algebra.proofs.MemberLemmas.{among_map}
@@ -17,21 +17,29 @@ use Rattle.fx_grammar.specs.Accepted.{Accepted}
 use Rattle.fx_grammar.proofs.OneQuery.{one_query_holds}
 use Rattle.fx_results.specs.Documents.{document}
 use Rattle.fx_plan.specs.Explained.{explained}
-use Rattle.fx_sources.specs.Probes.{Entry}
-use Rattle.fx_sources.specs.Registries.{read_registry}
+use Rattle.fx_plan.specs.declared.parts.Part.{Part}
+use Rattle.fx_sources.specs.Registries.{IsRegistry, read_registry}
 use Rattle.fx_traffic.specs.Gains.{TellAll, WiresSeen, faults_at}
 use Rattle.fx_outcomes.specs.Calls.{AreAllOrNone, Call, occurrences}
 use Rattle.fx_services.specs.Beside.{Occurrence}
-use Rattle.fx_outcomes.specs.Mediation.{Federated, Serve}
+use Rattle.fx_outcomes.specs.Mediation.{Serve}
 use Rattle.fx_walks.specs.Sections.{parts_with}
 use Rattle.fx_services.specs.declared.noted.Down.{Down}
 use Rattle.fx_outcomes.specs.declared.federated.FedError.TheVariants as fed
-use Rattle.fx_outcomes.specs.declared.federated.Outcome.{Outcome}
+use Rattle.fx_outcomes.specs.declared.rounds.OutcomeInRounds.{OutcomeInRounds}
+use Rattle.fx_outcomes.specs.declared.rounds.PlanInRounds.{PlanInRounds}
+use Rattle.fx_outcomes.specs.declared.rounds.Round.{Round}
+use Rattle.fx_rounds.specs.Answered.{AreLicensed, IsPlanLicensed}
+use Rattle.fx_rounds.specs.Refused.{IsFirstFailed}
+use Rattle.fx_rounds.proofs.AnsweredLemmas.{answers_rest_on_this}
+use Rattle.fx_rounds.proofs.PlannedLemmas.{no_plan_service_fails, plan_members_failed, plans_rest_on_this}
+use Rattle.fx_rounds.proofs.RefusedLemmas.{members_failed, services_failed}
 use Rattle.fx_local.specs.Limits.{graph_limit, query_limit, registry_limit}
 use Rattle.fx_local.specs.declared.statuses.Status.{Status}
 use Rattle.fx_local.specs.declared.statuses.Status.TheVariants as status
 use Rattle.fx_words.specs.Commands.{Asked, over_file, over_members, planned, served, generated}
-use Rattle.fx_commands.specs.Explain.{IsExplainReported, IsExplainWritten}
+use Rattle.fx_commands.specs.Asking.{WasAsked, WasPlanned}
+use Rattle.fx_commands.specs.Explain.{IsExplainDone, IsExplainReported, IsPlanWritten}
 use Rattle.fx_local.proofs.GraphTextLemmas.{one_graph}
 use Rattle.fx_local.specs.GraphTexts.{IsGraphText, is_turtle}
 use Rattle.fx_local.specs.Files.{FileRead, Holds, IsQueryOf, IsQueryThat, IsRegistryOf}
@@ -39,14 +47,11 @@ use Rattle.fx_commands.specs.FedRefusals.{IsGivenEnd}
 use Rattle.fx_commands.specs.Generator.{summary}
 use Rattle.fx_program.specs.Headline.{AreWritten, Headline, IsTold, NamesFailed}
 use Rattle.fx_local.specs.Lines.{Gains}
-use Rattle.fx_commands.specs.MemberLines.{down_lines, member_failed, service_failed}
+use Rattle.fx_commands.specs.MemberLines.{down_lines, left_lines, member_failed, service_failed}
 use Rattle.fx_local.specs.Local.{HasLines, IsWritten}
 use Rattle.fx_commands.specs.Query.{IsOutcomeWritten, IsQueryDone, IsQueryReported}
 use Rattle.fx_local.specs.Services.{all_numbers, silent_lines}
-use Rattle.fx_commands.specs.Silent.{AreLicensed, IsFirstFailed}
 use Rattle.fx_local.specs.Sinks.{SinkWritten, Wrote}
-use Rattle.fx_commands.proofs.QueryLemmas.{fed_not_done, known_from_nothing}
-use Rattle.fx_commands.proofs.SilentLemmas.{are_licensed, first_failed}
 
 -- ---- what is told
 
@@ -67,9 +72,9 @@ nothing_more old new text front is = front.1 ∙ ap (λ (t : List ℕ). old ++ t
 
 -- ---- `query`
 
--- an endpoint has the line of a refusal for an exchange that failed
+-- an endpoint has the line of a refusal for an exchange that failed: one that mustn't be left out, or one of a SERVICE without SILENT
 abbrev pub IsFailureLine : WiresSeen → List EndpointParts → Query → EndpointParts → List ℕ → Type 0
-IsFailureLine w es asked e line = (line ≡ member_failed e.name) ⊎ (IsFirstFailed w es asked e.iri × (line ≡ service_failed e.iri))
+IsFailureLine w es asked e line = ((e.optional ≡ false) × (line ≡ member_failed e.name)) ⊎ (IsFirstFailed w es asked e.iri × (line ≡ service_failed e.iri))
 
 -- the endpoint that a refusal names, and its line
 abbrev FailedAt : WiresSeen → List EndpointParts → (EndpointParts → List ℕ → Type 0) → List ℕ → Type 0
@@ -80,27 +85,27 @@ pub of_query : (asked : Query) (calls : List Call) (c : Call) → AreAllOrNone c
 of_query asked calls c (inl none) among = absurd (among_from [] c (subst (λ (l : List Call). Contains l c) none among))
 of_query asked calls c (inr are) among = subst (λ (l : List Occurrence). Contains l c.of) are (contains_from (map (λ (x : Call). x.of) calls) c.of (among_map (λ (x : Call). x.of) c calls (among_from calls c among)))
 
-failed_at : (w : WiresSeen) (es others : List EndpointParts) (asked other : Query) (entries : List Entry) (block : ℕ) (iri address : List ℕ) → others ≡ es → other ≡ asked → address ≡ iri
-    → Federated w.tells w.alone w.before w.after others other [] entries block (Err (fed.Service iri)) → IsFirstFailed w es asked address
-failed_at w es others asked other entries block iri address a b c given =
-    subst (IsFirstFailed w es asked) (sym c)
-    (subst (λ (v : Query). IsFirstFailed w es v iri) b (subst (λ (l : List EndpointParts). IsFirstFailed w l other iri) a (first_failed w others other entries block iri given)))
+failed_at : (w : WiresSeen) (es others : List EndpointParts) (asked other : Query) (iri address : List ℕ) → others ≡ es → other ≡ asked → address ≡ iri → IsFirstFailed w others other iri → IsFirstFailed w es asked address
+failed_at w es others asked other iri address a b c first =
+    subst (IsFirstFailed w es asked) (sym c) (subst (λ (v : Query). IsFirstFailed w es v iri) b (subst (λ (l : List EndpointParts). IsFirstFailed w l other iri) a first))
 
 query_failed : (w : WiresSeen) (r q : FileRead) (block : ℕ) (text : List ℕ) (es : List EndpointParts) (asked : Query) → Holds r registry_limit (λ content. read_registry content ≡ Ok es) → Holds q query_limit (λ content. Accepted content asked)
     → IsQueryReported w r q block status.EndpointFault text → FailedAt w es (IsFailureLine w es asked) text
 query_failed w r q block text es asked h k (inl (none, before)) = absurd before
-query_failed w r q block text es asked h k (inr (Ok outcome, federated, end)) = absurd end
+query_failed w r q block text es asked h k (inr (Ok all, federated, end)) = absurd end
 query_failed w r q block text es asked h k (inr (Err (fed.Member name), federated, end)) =
-    let at = federated.federated.cause.1 in
-    (at.0, subst (λ (l : List EndpointParts). Contains l at.0) (registry_told r es federated.endpoints h federated.registered) at.1, at.3, inl (end.1 ∙ ap member_failed (sym at.2)))
+    let was = federated.federated in
+    let at = members_failed w federated.endpoints federated.asked was.entries block name was.in_rounds in
+    (at.0, subst (λ (l : List EndpointParts). Contains l at.0) (registry_told r es federated.endpoints h federated.registered) at.1, at.3.1, inl (at.3.0, end.1 ∙ ap member_failed (sym at.2)))
 query_failed w r q block text es asked h k (inr (Err (fed.Service iri), federated, end)) =
-    let cause = federated.federated.cause in
-    let e = cause.1.0 in
+    let was = federated.federated in
+    let failed = services_failed w federated.endpoints federated.asked was.entries block iri was.alike was.in_rounds in
+    let its = failed.0.0 in
     let same = registry_told r es federated.endpoints h federated.registered in (
-      e,
-      subst (λ (l : List EndpointParts). Contains l e) same cause.1.1,
-      subst (λ (a : List ℕ). faults_at w.before a < faults_at w.after a) (sym cause.1.2) cause.2,
-      inr (failed_at w es federated.endpoints asked federated.asked federated.entries block iri e.iri same (query_told q asked federated.asked k federated.accepted) cause.1.2 federated.federated, end.1 ∙ ap service_failed (sym cause.1.2)),
+      its.0,
+      subst (λ (l : List EndpointParts). Contains l its.0) same its.1,
+      subst (λ (a : List ℕ). faults_at w.before a < faults_at w.after a) (sym its.2) failed.0.1,
+      inr (failed_at w es federated.endpoints asked federated.asked iri its.0.iri same (query_told q asked federated.asked k federated.accepted) its.2 failed.1, end.1 ∙ ap service_failed (sym its.2)),
     )
 query_failed w r q block text es asked h k (inr (Err (fed.BadReply name bad), federated, end)) = absurd (other end.0)
   where
@@ -120,34 +125,39 @@ query_failed w r q block text es asked h k (inr (Err fed.Memory, federated, end)
     other h = cc
 
 -- with `Done`
-abbrev IsAnswerOver : WiresSeen → List EndpointParts → Query → List (List Triple) → (List ℕ → List Triple) → ℕ → SinkWritten → SinkWritten → Type 0
-IsAnswerOver w es asked graphs graph_at block out err = (noted : List Down) × AreLicensed w es asked block noted × AreWritten (document (answer asked (union graphs) graph_at (map (λ d. d.place) noted))) (down_lines noted) out err
+abbrev IsAnswerWritten : WiresSeen → List EndpointParts → Query → List (List Triple) → (List ℕ → List Triple) → ℕ → SinkWritten → SinkWritten → Type 0
+IsAnswerWritten w es asked graphs graph_at block out err =
+    (rounds : List Round) × (kept : List Bool) × (noted : List Down) × AreLicensed w es asked block kept rounds noted
+    × AreWritten (document (answer asked (union (of_kept kept graphs)) graph_at (map (λ d. d.place) noted))) (left_lines es rounds ++ down_lines noted) out err
 
-answer_is : (w : WiresSeen) (es : List EndpointParts) (asked : Query) (graphs : List (List Triple)) (graph_at : List ℕ → List Triple) (block : ℕ) (entries : List Entry) (outcome : Outcome) (out err : SinkWritten) → TellAll w.before es graphs → Serve graph_at es graphs
-    → Federated w.tells w.alone w.before w.after es asked [] entries block (Ok outcome) → IsOutcomeWritten outcome out err → IsAnswerOver w es asked graphs graph_at block out err
-answer_is w es asked graphs graph_at block entries outcome out err told serve fed wrote = (
-  outcome.down,
-  are_licensed w es asked entries block outcome fed,
-  (
-    λ tells. wrote.0 tells ∙ ap (λ (a : Answer). out.old ++ document a) (fed.answer graphs (known_from_nothing w.before es graphs told) graph_at serve),
-    wrote.1,
-  ),
-)
+answer_is : (w : WiresSeen) (es : List EndpointParts) (asked : Query) (graphs : List (List Triple)) (graph_at : List ℕ → List Triple) (block : ℕ) (all : OutcomeInRounds) (out err : SinkWritten) → TellAll w.before es graphs → Serve graph_at es graphs
+    → IsRegistry es → WasAsked w es asked block (Ok all) → IsOutcomeWritten es all out err → IsAnswerWritten w es asked graphs graph_at block out err
+answer_is w es asked graphs graph_at block all out err told serve registry was wrote =
+    let rests = answers_rest_on_this w es asked was.entries block all was.alike registry was.in_rounds in (
+      all.abandoned,
+      rests.0,
+      all.outcome.down,
+      rests.1,
+      (
+        λ tells. wrote.0 tells ∙ ap (λ (a : Answer). out.old ++ document a) (rests.2 graphs told graph_at serve),
+        wrote.1,
+      ),
+    )
 
-query_answered : (w : WiresSeen) (r q : FileRead) (es others : List EndpointParts) (asked other : Query) (graphs : List (List Triple)) (graph_at : List ℕ → List Triple) (block : ℕ) (entries : List Entry) (outcome : Outcome) (out err : SinkWritten) → others ≡ es → other ≡ asked
-    → TellAll w.before es graphs → Serve graph_at es graphs → Federated w.tells w.alone w.before w.after others other [] entries block (Ok outcome) → IsOutcomeWritten outcome out err → IsAnswerOver w es asked graphs graph_at block out err
-query_answered w r q es others asked other graphs graph_at block entries outcome out err a b told serve fed =
-    answer_is w es asked graphs graph_at block entries outcome out err told serve
-    (subst (λ (v : Query). Federated w.tells w.alone w.before w.after es v [] entries block (Ok outcome)) b (subst (λ (l : List EndpointParts). Federated w.tells w.alone w.before w.after l other [] entries block (Ok outcome)) a fed))
+query_answered : (w : WiresSeen) (es others : List EndpointParts) (asked other : Query) (graphs : List (List Triple)) (graph_at : List ℕ → List Triple) (block : ℕ) (all : OutcomeInRounds) (out err : SinkWritten) → others ≡ es → other ≡ asked
+    → TellAll w.before es graphs → Serve graph_at es graphs → IsRegistry others → WasAsked w others other block (Ok all) → IsOutcomeWritten others all out err → IsAnswerWritten w es asked graphs graph_at block out err
+query_answered w es others asked other graphs graph_at block all out err a b told serve registry was wrote =
+    answer_is w es asked graphs graph_at block all out err told serve (subst IsRegistry a registry) (subst (λ (v : Query). WasAsked w es v block (Ok all)) b (subst (λ (l : List EndpointParts). WasAsked w l other block (Ok all)) a was))
+    (subst (λ (l : List EndpointParts). IsOutcomeWritten l all out err) a wrote)
 
 pub query_headline : (w : WiresSeen) (r q : FileRead) (block : ℕ) (s : Status) (text : List ℕ) (out err : SinkWritten) → IsQueryReported w r q block s text → (IsTrue err.tells → Gains err.old err.new err.before err.after text) → (s ≡ status.Done → IsQueryDone w r q block out err)
     → (es : List EndpointParts) (asked : Query) (graphs : List (List Triple)) (graph_at : List ℕ → List Triple) → IsTold w r q es asked graphs → Serve graph_at es graphs
-    → (s ≡ status.Done → IsAnswerOver w es asked graphs graph_at block out err) × NamesFailed w es (IsFailureLine w es asked) s err
+    → (s ≡ status.Done → IsAnswerWritten w es asked graphs graph_at block out err) × NamesFailed w es (IsFailureLine w es asked) s err
 query_headline w r q block s text out err reported gains given es asked graphs graph_at told serve = (
   λ is.
       let done = given is in
       let fed = done.1 in
-      query_answered w r q es fed.endpoints asked fed.asked graphs graph_at block fed.entries done.0 out err (registry_told r es fed.endpoints told.registry fed.registered) (query_told q asked fed.asked told.query fed.accepted) told.graphs_are serve fed.federated done.2,
+      query_answered w es fed.endpoints asked fed.asked graphs graph_at block done.0 out err (registry_told r es fed.endpoints told.registry fed.registered) (query_told q asked fed.asked told.query fed.accepted) told.graphs_are serve fed.registry fed.federated done.2,
   λ failed.
       let at = query_failed w r q block text es asked told.registry told.query (subst (λ (v : Status). IsQueryReported w r q block v text) failed reported) in
       (at.0, text, at.1, at.2, at.3, gains),
@@ -155,19 +165,18 @@ query_headline w r q block s text out err reported gains given es asked graphs g
 
 -- ---- `explain`
 
-explain_done : (w : WiresSeen) (r q : FileRead) (text : List ℕ) → IsExplainReported w r q status.Done text → text ≡ []
-explain_done w r q text (inl (none, before)) = absurd before
-explain_done w r q text (inr (Ok parts, made, end)) = end
-explain_done w r q text (inr (Err e, made, end)) = absurd (fed_not_done e (sym end.0))
+-- an endpoint has the line of a refusal: one that mustn't be left out
+abbrev IsMemberLine : EndpointParts → List ℕ → Type 0
+IsMemberLine e line = (e.optional ≡ false) × (line ≡ member_failed e.name)
 
-explain_failed : (w : WiresSeen) (r q : FileRead) (text : List ℕ) (es : List EndpointParts) → Holds r registry_limit (λ content. read_registry content ≡ Ok es) → IsExplainReported w r q status.EndpointFault text
-    → FailedAt w es (λ e line. line ≡ member_failed e.name) text
+explain_failed : (w : WiresSeen) (r q : FileRead) (text : List ℕ) (es : List EndpointParts) → Holds r registry_limit (λ content. read_registry content ≡ Ok es) → IsExplainReported w r q status.EndpointFault text → FailedAt w es IsMemberLine text
 explain_failed w r q text es h (inl (none, before)) = absurd before
-explain_failed w r q text es h (inr (Ok parts, made, end)) = absurd end
+explain_failed w r q text es h (inr (Ok p, made, end)) = absurd end
 explain_failed w r q text es h (inr (Err (fed.Member name), made, end)) =
-    let at = made.planned.cause.1 in
-    (at.0, subst (λ (l : List EndpointParts). Contains l at.0) (registry_told r es made.endpoints h made.registered) at.1, at.3, end.1 ∙ ap member_failed (sym at.2))
-explain_failed w r q text es h (inr (Err (fed.Service iri), made, end)) = absurd made.planned.cause
+    let was = made.planned in
+    let at = plan_members_failed w made.endpoints made.asked was.entries name was.in_rounds in
+    (at.0, subst (λ (l : List EndpointParts). Contains l at.0) (registry_told r es made.endpoints h made.registered) at.1, at.3.1, (at.3.0, end.1 ∙ ap member_failed (sym at.2)))
+explain_failed w r q text es h (inr (Err (fed.Service iri), made, end)) = absurd (no_plan_service_fails w made.endpoints made.asked made.planned.entries iri made.planned.in_rounds)
 explain_failed w r q text es h (inr (Err (fed.BadReply name bad), made, end)) = absurd (other end.0)
   where
     other : status.EndpointFault ≡ status.BadReply → ⊥
@@ -185,28 +194,35 @@ explain_failed w r q text es h (inr (Err fed.Memory, made, end)) = absurd (other
     other : status.EndpointFault ≡ status.NoMemory → ⊥
     other h = cc
 
-explain_wrote : (w : WiresSeen) (r q : FileRead) (es : List EndpointParts) (asked : Query) (graphs : List (List Triple)) (s : Status) (old new : List ℕ) → IsTold w r q es asked graphs → s ≡ status.Done → IsExplainWritten w.before r q s old new
-    → new ≡ old ++ explained (parts_with (sources graphs) asked) es
-explain_wrote w r q es asked graphs s old new told done h =
-    let wrote = subst (λ (v : Status). IsExplainWritten w.before r q v old new) done h in
-    let inner = of_told _ r.content told.registry.0 told.registry.1 wrote.1 in
-    let answers = of_told _ q.content told.query.0 told.query.1 inner in
-    let same_members = same_registry told.registry.0 es answers.endpoints told.registry.3 answers.registered in
-    let same_asked = one_query_holds told.query.0 answers.asked asked answers.accepted told.query.3 in
-    wrote.2
-    ∙ ap (λ (t : List ℕ). old ++ t) (
-    answers.text_is graphs (subst (λ (l : List EndpointParts). TellAll w.before l graphs) (sym same_members) told.graphs_are)
-    ∙ ap (λ (v : Query). explained (parts_with (sources graphs) v) answers.endpoints) same_asked
-    ∙ ap (λ (l : List EndpointParts). explained (parts_with (sources graphs) asked) l) same_members)
+-- with `Done`
+abbrev IsPlanPrinted : WiresSeen → List EndpointParts → Query → List (List Triple) → SinkWritten → SinkWritten → Type 0
+IsPlanPrinted w es asked graphs out err =
+    (rounds : List Round) × (kept : List Bool) × IsPlanLicensed w es asked kept rounds × AreWritten (explained (parts_with (sources (of_kept kept graphs)) asked) es) (left_lines es rounds) out err
 
-pub explain_headline : (w : WiresSeen) (r q : FileRead) (s : Status) (text : List ℕ) (out err : SinkWritten) → IsExplainReported w r q s text → (IsTrue err.tells → Gains err.old err.new err.before err.after text) → (IsTrue out.tells → IsExplainWritten w.before r q s out.old out.new)
-    → (es : List EndpointParts) (asked : Query) (graphs : List (List Triple)) → IsTold w r q es asked graphs
-    → (s ≡ status.Done → AreWritten (explained (parts_with (sources graphs) asked) es) [] out err) × NamesFailed w es (λ e line. line ≡ member_failed e.name) s err
-explain_headline w r q s text out err reported gains wrote es asked graphs told = (
-  λ done. (
-    λ tells. explain_wrote w r q es asked graphs s out.old out.new told done (wrote tells),
-    λ tells. nothing_more err.old err.new text (gains tells).front (explain_done w r q text (subst (λ (v : Status). IsExplainReported w r q v text) done reported)),
-  ),
+plan_is : (w : WiresSeen) (es : List EndpointParts) (asked : Query) (graphs : List (List Triple)) (p : PlanInRounds) (out err : SinkWritten) → TellAll w.before es graphs → IsRegistry es → WasPlanned w es asked (Ok p) → IsPlanWritten es p out err → IsPlanPrinted w es asked graphs out err
+plan_is w es asked graphs p out err told registry was wrote =
+    let rests = plans_rest_on_this w es asked was.entries p registry was.in_rounds in (
+      p.abandoned,
+      rests.0,
+      rests.1,
+      (
+        λ tells. wrote.0 tells ∙ ap (λ (parts : List Part). out.old ++ explained parts es) (rests.2 graphs told),
+        wrote.1,
+      ),
+    )
+
+plan_printed : (w : WiresSeen) (es others : List EndpointParts) (asked other : Query) (graphs : List (List Triple)) (p : PlanInRounds) (out err : SinkWritten) → others ≡ es → other ≡ asked → TellAll w.before es graphs → IsRegistry others → WasPlanned w others other (Ok p) → IsPlanWritten others p out err
+    → IsPlanPrinted w es asked graphs out err
+plan_printed w es others asked other graphs p out err a b told registry was wrote =
+    plan_is w es asked graphs p out err told (subst IsRegistry a registry) (subst (λ (v : Query). WasPlanned w es v (Ok p)) b (subst (λ (l : List EndpointParts). WasPlanned w l other (Ok p)) a was)) (subst (λ (l : List EndpointParts). IsPlanWritten l p out err) a wrote)
+
+pub explain_headline : (w : WiresSeen) (r q : FileRead) (s : Status) (text : List ℕ) (out err : SinkWritten) → IsExplainReported w r q s text → (IsTrue err.tells → Gains err.old err.new err.before err.after text) → (s ≡ status.Done → IsExplainDone w r q out err)
+    → (es : List EndpointParts) (asked : Query) (graphs : List (List Triple)) → IsTold w r q es asked graphs → (s ≡ status.Done → IsPlanPrinted w es asked graphs out err) × NamesFailed w es IsMemberLine s err
+explain_headline w r q s text out err reported gains given es asked graphs told = (
+  λ is.
+      let done = given is in
+      let made = done.1 in
+      plan_printed w es made.endpoints asked made.asked graphs done.0 out err (registry_told r es made.endpoints told.registry made.registered) (query_told q asked made.asked told.query made.accepted) told.graphs_are made.registry made.planned done.2,
   λ failed.
       let at = explain_failed w r q text es told.registry (subst (λ (v : Status). IsExplainReported w r q v text) failed reported) in
       (at.0, text, at.1, at.2, at.3, gains),

@@ -2,11 +2,11 @@
 use Rattle.std.proofs.Common.{◌≡◌, sym, subst, refl, ℕ, List, [], Option, Some, None, inl}
 use Rattle.fx_outside.specs.Doors.{DoorSeen}
 use Rattle.fx_local.specs.declared.statuses.Status.TheVariants as status
-use Rattle.fx_traffic.specs.Gains.{WiresSeen, faults_at}
+use Rattle.fx_traffic.specs.Gains.{WiresSeen}
 use Rattle.fx_wire.specs.Exchanges.{Seen}
 use Rattle.fx_commands.specs.Asking.{IsUnasked}
 use Rattle.fx_words.specs.Commands.{Asked, over_file, over_members, planned, served, generated}
-use Rattle.fx_commands.specs.Explain.{IsExplainReported, IsExplainWritten}
+use Rattle.fx_commands.specs.Explain.{CountsLeft, IsExplainReported, IsExplainWritten, IsExplanation}
 use Rattle.fx_commands.specs.FedRefusals.{IsGivenEnd}
 use Rattle.fx_local.specs.Files.{FileRead}
 use Rattle.fx_commands.specs.Generator.{summary}
@@ -74,9 +74,12 @@ plan_written read before asked r q s old new is h = subst (λ o. Writes read bef
 pub members_cut : (read : List ℕ → FileRead) (before : List Seen) (asked : Option Asked) (r q : List ℕ) (workers block : ℕ) (out err : SinkWritten) → asked ≡ Some (over_members r q workers block) → IsCutShort (IsUnionAnswer before (read r) (read q)) out err → FailsToWrite read before asked out err
 members_cut read before asked r q workers block out err is h = subst (λ o. FailsToWrite read before o out err) (sym is) h
 
+pub plan_cut : (read : List ℕ → FileRead) (before : List Seen) (asked : Option Asked) (r q : List ℕ) (out err : SinkWritten) → asked ≡ Some (planned r q) → IsCutShort (IsExplanation before (read r) (read q)) out err → FailsToWrite read before asked out err
+plan_cut read before asked r q out err is h = subst (λ o. FailsToWrite read before o out err) (sym is) h
+
 -- ---- the faults that are counted
 
--- a command that asks no members, or prints a plan, counts none
+-- a command that asks no members counts none
 pub file_counts : (read : List ℕ → FileRead) (asked : Option Asked) (wires : List Seen) (err : SinkWritten) (g q : List ℕ) → asked ≡ Some (over_file g q) → CountsEndpoints read asked wires wires err
 file_counts read asked wires err g q is = subst (λ o. CountsEndpoints read o wires wires err) (sym is) (λ address. refl)
 
@@ -86,8 +89,9 @@ serving_counts read asked wires err g a n is = subst (λ o. CountsEndpoints read
 pub making_counts : (read : List ℕ → FileRead) (asked : Option Asked) (wires : List Seen) (err : SinkWritten) (n : ℕ) → asked ≡ Some (generated n) → CountsEndpoints read asked wires wires err
 making_counts read asked wires err n is = subst (λ o. CountsEndpoints read o wires wires err) (sym is) (λ address. refl)
 
-pub plan_counts : (read : List ℕ → FileRead) (asked : Option Asked) (before after : List Seen) (err : SinkWritten) (r q : List ℕ) → asked ≡ Some (planned r q) → ((address : List ℕ) → faults_at after address ≡ faults_at before address) → CountsEndpoints read asked before after err
+-- one that asks members counts what its lines say at least
+pub plan_counts : (read : List ℕ → FileRead) (asked : Option Asked) (before after : List Seen) (err : SinkWritten) (r q : List ℕ) → asked ≡ Some (planned r q) → CountsLeft (read r) before after err → CountsEndpoints read asked before after err
 plan_counts read asked before after err r q is h = subst (λ o. CountsEndpoints read o before after err) (sym is) h
 
-pub members_counts : (read : List ℕ → FileRead) (asked : Option Asked) (before after : List Seen) (err : SinkWritten) (r q : List ℕ) (workers block : ℕ) → asked ≡ Some (over_members r q workers block) → CountsDown (read q) before after err → CountsEndpoints read asked before after err
+pub members_counts : (read : List ℕ → FileRead) (asked : Option Asked) (before after : List Seen) (err : SinkWritten) (r q : List ℕ) (workers block : ℕ) → asked ≡ Some (over_members r q workers block) → CountsDown (read r) (read q) before after err → CountsEndpoints read asked before after err
 members_counts read asked before after err r q workers block is h = subst (λ o. CountsEndpoints read o before after err) (sym is) h

@@ -1,14 +1,16 @@
 -- What a run leaves of all wires, where it uses some of them.
-use Rattle.std.proofs.Common.{◌≡◌, ◌∙◌, ap, sym, subst, ℕ, ◌+◌, Bool, List, [], ◌∷◌, ◌++◌, map, take, drop, length, min, arith}
+use Rattle.std.proofs.Common.{◌≡◌, ◌∙◌, ap, sym, subst, ℕ, ◌+◌, ◌≤◌, Bool, List, [], ◌∷◌, ◌++◌, map, take, drop, length, min, arith}
 use Rattle.std.proofs.lemmas.List.{drop_min, map-append, take-append-drop, take_min}
 use Rattle.fx_traffic.specs.Gains.{AreAfter, WiresSeen, faults_at, wires_seen}
 use Rattle.fx_traffic.proofs.GainLemmas.{gain_laws}
 use Rattle.fx_wire.specs.Exchanges.{Seen}
 use Rattle.fx_pool.proofs.WireLemmas.{after_itself}
 use Rattle.fx_local.specs.Files.{FileRead}
+use Rattle.fx_commands.specs.Explain.{CountsLeft}
 use Rattle.fx_commands.specs.Query.{CountsDown}
 use Rattle.fx_program.specs.Runs.{OnUsed}
-use Rattle.fx_commands.specs.Silent.{wires_failed}
+use Rattle.fx_rounds.specs.LeftOut.{left_in}
+use Rattle.fx_rounds.specs.Licences.{downs_failed, lefts_failed}
 use Rattle.fx_local.specs.Sinks.{SinkWritten}
 
 -- none was used
@@ -62,15 +64,47 @@ used_counts_none {W} see wires front back later e h address =
     let all : faults_at (map see (later ++ back)) address ≡ faults_at (map see wires) address + 0 = used_counts see wires front back later (λ a. 0) e (λ a. let same : faults_at (map see later) a ≡ faults_at (map see front) a = h a in omega (arith, same)) address in
     omega (arith, all)
 
--- with what is down
-pub used_down : {W : Type 0} (see : W → Seen) (q : FileRead) (err : SinkWritten) (wires front back later : List W) → wires ≡ front ++ back → CountsDown q (map see front) (map see later) err → CountsDown q (map see wires) (map see (later ++ back)) err
-used_down see q err wires front back later e h = record {
+-- or at least as many more
+pub used_counts_least : {W : Type 0} (see : W → Seen) (wires front back later : List W) (more : List ℕ → ℕ) → wires ≡ front ++ back → ((address : List ℕ) → faults_at (map see front) address + more address ≤ faults_at (map see later) address)
+    → (address : List ℕ) → faults_at (map see wires) address + more address ≤ faults_at (map see (later ++ back)) address
+used_counts_least {W} see wires front back later more e h address =
+    let all : faults_at (map see (later ++ back)) address ≡ faults_at (map see later) address + faults_at (map see back) address = all_at see later back address in
+    let before : faults_at (map see wires) address ≡ faults_at (map see front) address + faults_at (map see back) address = ap (λ (l : List W). faults_at (map see l) address) e ∙ all_at see front back address in
+    let own : faults_at (map see front) address + more address ≤ faults_at (map see later) address = h address in
+    omega (arith, all, before, own)
+
+-- with who is left out and what is down
+pub used_down : {W : Type 0} (see : W → Seen) (r q : FileRead) (err : SinkWritten) (wires front back later : List W) → wires ≡ front ++ back → CountsDown r q (map see front) (map see later) err → CountsDown r q (map see wires) (map see (later ++ back)) err
+used_down see r q err wires front back later e h = record {
+  endpoints = h.endpoints;
+  registered = h.registered;
   asked = h.asked;
   accepted = h.accepted;
   counts = record {
+    rounds = h.counts.rounds;
     noted = h.counts.noted;
+    kept = h.counts.kept;
+    left_out = h.counts.left_out;
+    leave = h.counts.leave;
     down = h.counts.down;
     lines = h.counts.lines;
-    counted = used_counts see wires front back later (λ address. wires_failed address h.counts.noted) e h.counts.counted;
+    counted = used_counts_least see wires front back later (λ address. lefts_failed h.endpoints address (left_in h.counts.rounds) + downs_failed address h.counts.noted) e h.counts.counted;
+    exact = λ none. used_counts see wires front back later (λ address. downs_failed address h.counts.noted) e (h.counts.exact none);
+  };
+}
+
+-- with who is left out of a plan
+pub used_left : {W : Type 0} (see : W → Seen) (r : FileRead) (err : SinkWritten) (wires front back later : List W) → wires ≡ front ++ back → CountsLeft r (map see front) (map see later) err → CountsLeft r (map see wires) (map see (later ++ back)) err
+used_left see r err wires front back later e h = record {
+  endpoints = h.endpoints;
+  registered = h.registered;
+  counts = record {
+    rounds = h.counts.rounds;
+    kept = h.counts.kept;
+    left_out = h.counts.left_out;
+    leave = h.counts.leave;
+    lines = h.counts.lines;
+    counted = used_counts_least see wires front back later (λ address. lefts_failed h.endpoints address (left_in h.counts.rounds)) e h.counts.counted;
+    exact = λ none. used_counts_none see wires front back later e (h.counts.exact none);
   };
 }

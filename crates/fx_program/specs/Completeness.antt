@@ -1,5 +1,5 @@
 -- That a run comes to its end: where its files are accepted, each SERVICE is such as it can take, nothing fails and nothing is too long, it is done, or memory
--- ran out.
+-- ran out. Of `query` and `explain` it is said where no member may be left out.
 use Rattle.std.specs.Prelude.{◌≡◌, ◌≤◌, ◌⊎◌, ℕ, List, [], length, All, IsTrue, None, Option, Some}
 use Rattle.fx_terms.specs.declared.triples.Triple.{Triple}
 use Rattle.fx_outside.specs.Doors.{DoorSeen}
@@ -29,7 +29,8 @@ use Rattle.fx_local.specs.Files.{FileRead, Holds}
 use Rattle.fx_local.specs.GraphTexts.{IsGraphText}
 use Rattle.fx_program.specs.Headline.{IsTold}
 use Rattle.fx_local.specs.Services.{first_plain}
-use Rattle.fx_commands.specs.Silent.{unregistered}
+use Rattle.fx_commands.specs.Asking.{IsUnmarked}
+use Rattle.fx_rounds.specs.Down.{unregistered}
 use Rattle.fx_local.specs.Sinks.{SinkWritten}
 
 -- ---- nothing fails
@@ -69,13 +70,13 @@ abbrev pub Completes : (List ℕ → FileRead) → WiresSeen → DoorSeen → Do
 Completes read w door later None s out err = Unit {0}
 Completes read w door later (Some (over_members r q workers block)) s out err =
     (endpoints : List EndpointParts) (asked : Query) (graphs : List (List Triple)) (graph_at : List ℕ → List Triple) → IsTold w (read r) (read q) endpoints asked graphs → Serve graph_at endpoints graphs
-    → unknown_of endpoints asked ≡ None
+    → All IsUnmarked endpoints → unknown_of endpoints asked ≡ None
     → IsReadWell (read r) → IsReadWell (read q) → AreWell w endpoints → IsWrittenWell out → IsWrittenWell err
     → AreRepliesShort w → AreAsksShort endpoints asked → AreTextsShort endpoints graphs graph_at block asked
     → IsDoneOrWant s
 Completes read w door later (Some (planned r q)) s out err =
-    (endpoints : List EndpointParts) (asked : Query) (graphs : List (List Triple)) → IsTold w (read r) (read q) endpoints asked graphs → unknown_of endpoints asked ≡ None
-    → IsReadWell (read r) → IsReadWell (read q) → AreWell w endpoints → IsWrittenWell out
+    (endpoints : List EndpointParts) (asked : Query) (graphs : List (List Triple)) → IsTold w (read r) (read q) endpoints asked graphs → All IsUnmarked endpoints → unknown_of endpoints asked ≡ None
+    → IsReadWell (read r) → IsReadWell (read q) → AreWell w endpoints → IsWrittenWell out → IsWrittenWell err
     → AreRepliesShort w → AreAsksShort endpoints asked
     → IsDoneOrWant s
 Completes read w door later (Some (over_file g q)) s out err =

@@ -1,11 +1,11 @@
 -- The theorem of `run`, to be read first: what is written where the wires tell the graphs of the members, and which endpoint is named as failed.
-use Rattle.std.specs.Prelude.{◌≡◌, ◌<◌, ◌++◌, ◌⊎◌, ℕ, List, [], map, Contains, IsTrue, Option, Some, Ok}
+use Rattle.std.specs.Prelude.{◌≡◌, ◌<◌, ◌++◌, ◌⊎◌, ℕ, Bool, false, List, [], map, Contains, IsTrue, Option, Some, Ok}
 use Rattle.fx_terms.specs.declared.triples.Triple.{Triple}
 use Rattle.fx_outside.specs.Endpoints.{EndpointParts}
 use Rattle.fx_algebra.specs.Answers.{answer, no_graphs}
 use Rattle.fx_algebra.specs.Graphs.{union}
 use Rattle.fx_algebra.specs.Occurrences.{services}
-use Rattle.fx_algebra.specs.Units.{sources}
+use Rattle.fx_algebra.specs.Units.{of_kept, sources}
 use Rattle.fx_algebra.specs.declared.queries.Query.{Query}
 use Rattle.fx_grammar.specs.Accepted.{Accepted}
 use Rattle.fx_results.specs.Documents.{document}
@@ -14,6 +14,9 @@ use Rattle.fx_sources.specs.Registries.{read_registry}
 use Rattle.fx_traffic.specs.Gains.{TellAll, WiresSeen, faults_at}
 use Rattle.fx_outcomes.specs.Mediation.{Serve}
 use Rattle.fx_walks.specs.Sections.{parts_with}
+use Rattle.fx_outcomes.specs.declared.rounds.Round.{Round}
+use Rattle.fx_rounds.specs.Answered.{AreLicensed, IsPlanLicensed}
+use Rattle.fx_rounds.specs.Refused.{IsFirstFailed}
 use Rattle.fx_services.specs.declared.noted.Down.{Down}
 use Rattle.fx_local.specs.Limits.{graph_limit, query_limit, registry_limit}
 use Rattle.fx_local.specs.declared.statuses.Status.{Status}
@@ -23,9 +26,8 @@ use Rattle.fx_local.specs.Files.{FileRead, Holds}
 use Rattle.fx_local.specs.GraphTexts.{IsGraphText}
 use Rattle.fx_commands.specs.Generator.{summary}
 use Rattle.fx_local.specs.Lines.{Gains}
-use Rattle.fx_commands.specs.MemberLines.{down_lines, member_failed, service_failed}
+use Rattle.fx_commands.specs.MemberLines.{down_lines, left_lines, member_failed, service_failed}
 use Rattle.fx_local.specs.Services.{all_numbers, silent_lines}
-use Rattle.fx_commands.specs.Silent.{AreLicensed, IsFirstFailed}
 use Rattle.fx_local.specs.Sinks.{SinkWritten}
 
 -- the registry has these endpoints, the query is this, and each wire tells the graph of each endpoint
@@ -43,17 +45,20 @@ abbrev pub NamesFailed : WiresSeen → List EndpointParts → (EndpointParts →
 NamesFailed w endpoints IsLine s err =
     s ≡ status.EndpointFault → (e : EndpointParts) × (line : List ℕ) × Contains endpoints e × (faults_at w.before e.iri < faults_at w.after e.iri) × IsLine e line × (IsTrue err.tells → Gains err.old err.new err.before err.after line)
 
--- With `Done` `query` wrote the document of the query's answer over the union of the members' graphs, where the SERVICEs that are down are exactly those of the lines, each by its
--- own cause, and what the members were asked is the traffic of the query where these are down; `explain` the query's plan over these graphs; `local` the document of the answer over the graph of the file, with a line for each SERVICE SILENT; and
--- `generate` the four lines of the members that it makes, the last of which has the number of rows of its query over the union of their graphs.
+-- With `Done` `query` wrote the document of the query's answer over the union of the graphs of the members that no line says are left out, where the SERVICEs that are down are exactly those of the lines, each by its
+-- own cause, and what was exchanged is the traffic of the query in these rounds; a member that may not be left out isn't. `explain` wrote the query's plan over the graphs of such members; `local` the document of the answer over the graph of the file, with a line for each SERVICE SILENT; and
+-- `generate` the four lines of the members that it makes, the last of which has the number of rows of its query over the union of their graphs. A member that may be left out isn't named as failed, unless a SERVICE without SILENT names its address.
 abbrev pub Headline : (List ℕ → FileRead) → WiresSeen → Option Asked → Status → SinkWritten → SinkWritten → Type 0
 Headline read w (Some (over_members r q workers block)) s out err =
     (endpoints : List EndpointParts) (asked : Query) (graphs : List (List Triple)) (graph_at : List ℕ → List Triple) → IsTold w (read r) (read q) endpoints asked graphs → Serve graph_at endpoints graphs
-    → (s ≡ status.Done → (noted : List Down) × AreLicensed w endpoints asked block noted × AreWritten (document (answer asked (union graphs) graph_at (map (λ d. d.place) noted))) (down_lines noted) out err)
-    × NamesFailed w endpoints (λ e line. (line ≡ member_failed e.name) ⊎ (IsFirstFailed w endpoints asked e.iri × (line ≡ service_failed e.iri))) s err
+    → (s ≡ status.Done
+    → (rounds : List Round) × (kept : List Bool) × (noted : List Down) × AreLicensed w endpoints asked block kept rounds noted
+    × AreWritten (document (answer asked (union (of_kept kept graphs)) graph_at (map (λ d. d.place) noted))) (left_lines endpoints rounds ++ down_lines noted) out err)
+    × NamesFailed w endpoints (λ e line. ((e.optional ≡ false) × (line ≡ member_failed e.name)) ⊎ (IsFirstFailed w endpoints asked e.iri × (line ≡ service_failed e.iri))) s err
 Headline read w (Some (planned r q)) s out err =
     (endpoints : List EndpointParts) (asked : Query) (graphs : List (List Triple)) → IsTold w (read r) (read q) endpoints asked graphs
-    → (s ≡ status.Done → AreWritten (explained (parts_with (sources graphs) asked) endpoints) [] out err) × NamesFailed w endpoints (λ e line. line ≡ member_failed e.name) s err
+    → (s ≡ status.Done → (rounds : List Round) × (kept : List Bool) × IsPlanLicensed w endpoints asked kept rounds × AreWritten (explained (parts_with (sources (of_kept kept graphs)) asked) endpoints) (left_lines endpoints rounds) out err)
+    × NamesFailed w endpoints (λ e line. (e.optional ≡ false) × (line ≡ member_failed e.name)) s err
 Headline read w (Some (over_file g q)) s out err =
     (graph : List Triple) (asked : Query) → Holds (read g) graph_limit (λ content. IsGraphText g content graph) → Holds (read q) query_limit (λ content. Accepted content asked)
     → s ≡ status.Done → AreWritten (document (answer asked graph no_graphs (all_numbers (services asked)))) (silent_lines (services asked)) out err

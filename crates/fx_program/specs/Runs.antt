@@ -7,7 +7,7 @@ use Rattle.fx_local.specs.declared.statuses.Status.{Status}
 use Rattle.fx_local.specs.declared.statuses.Status.TheVariants as status
 use Rattle.fx_commands.specs.Asking.{IsUnasked}
 use Rattle.fx_words.specs.Commands.{Asked, over_file, over_members, planned, served, generated}
-use Rattle.fx_commands.specs.Explain.{IsExplainReported, IsExplainWritten}
+use Rattle.fx_commands.specs.Explain.{CountsLeft, IsExplainReported, IsExplainWritten, IsExplanation}
 use Rattle.fx_commands.specs.FedRefusals.{IsGivenEnd}
 use Rattle.fx_local.specs.Files.{FileRead}
 use Rattle.fx_commands.specs.Generator.{summary}
@@ -47,19 +47,21 @@ Writes read before (Some (planned registry query)) s old new = IsExplainWritten 
 Writes read before (Some (served graph address count)) s old new = new ≡ old
 Writes read before (Some (generated size)) s old new = Wrote (λ text. text ≡ summary size) s old new
 
--- Which write failed, with the status `WriteFault`: for `local` and `query` one of the document, or of the lines behind it, for `explain` and `generate` one on
+-- Which write failed, with the status `WriteFault`: for `local`, `query` and `explain` one of the document or the text, or of the lines behind it, for `generate` one on
 -- standard output alone, and for a member one of its lines.
 abbrev pub FailsToWrite : (List ℕ → FileRead) → List Seen → Option Asked → SinkWritten → SinkWritten → Type 0
 FailsToWrite read before None out err = ⊥
 FailsToWrite read before (Some (over_file graph query)) out err = IsCutShort (IsAnswer (read graph) (read query)) out err
 FailsToWrite read before (Some (over_members registry query workers block)) out err = IsCutShort (IsUnionAnswer before (read registry) (read query)) out err
-FailsToWrite read before (Some (planned registry query)) out err = IsCutOff out err
+FailsToWrite read before (Some (planned registry query)) out err = IsCutShort (IsExplanation before (read registry) (read query)) out err
 FailsToWrite read before (Some (served graph address count)) out err = IsUntouched out × HasFailed err
 FailsToWrite read before (Some (generated size)) out err = IsCutOff out err
 
--- How many faults a run that is done counts at each address, by wires that count each address alone: none, but for `query` as many as its lines say that the wire failed.
+-- How many faults a run that is done counts at each address, by wires that count each address alone: none, but for `query` and `explain` at least as many as their lines say that the wire failed, and
+-- where no member is left out exactly so many.
 abbrev pub CountsEndpoints : (List ℕ → FileRead) → Option Asked → List Seen → List Seen → SinkWritten → Type 0
-CountsEndpoints read (Some (over_members registry query workers block)) before after err = CountsDown (read query) before after err
+CountsEndpoints read (Some (over_members registry query workers block)) before after err = CountsDown (read registry) (read query) before after err
+CountsEndpoints read (Some (planned registry query)) before after err = CountsLeft (read registry) before after err
 CountsEndpoints read asked before after err = (address : List ℕ) → faults_at after address ≡ faults_at before address
 
 -- how many wires a run uses at most, from the first on: none where it asks no members

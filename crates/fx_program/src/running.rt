@@ -42,11 +42,12 @@ pub fn run<R: Threads + Wait + Sync, F: Files, W: Wire + Send, D: Door, O: Sink,
     requires { 0 < length wires.old }
 
     // The theorem: where the wires tell the graphs of the members, `Done` says that `out` gained exactly the document of the query's answer over the union of
-    // these graphs, where the SERVICEs that are down are exactly those of the lines that `err` gained, or the text of its plan; and an endpoint is named as failed
+    // the graphs of those that aren't left out, where these and the SERVICEs that are down are exactly those of the lines that `err` gained, or the text of its plan; and an endpoint is named as failed
     // only where its count of faults rose. `local` so over the file's graph. `generate` writes its four lines.
     ensures headline { OnWires W.tells_log W.counts_alone W.seen (wires_used (asked_in words.now)) wires.old wires.new (λ seen. Headline (file_read (F.seen files.old) (F.seen files.new)) seen (asked_in words.now) result (sink_written O.tells_held O.held O.write_faults out.old out.new) (sink_written E.tells_held E.held E.write_faults err.old err.new)) }
 
-    // Where besides each SERVICE is such as the command can take, nothing fails and nothing is too long, the run is done, unless memory ran out.
+    // Where besides each SERVICE is such as the command can take, no member may be left out, nothing fails and nothing is too long, the run is done, unless memory
+    // ran out.
     ensures completes { OnWires W.tells_log W.counts_alone W.seen (wires_used (asked_in words.now)) wires.old wires.new (λ seen. Completes (file_read (F.seen files.old) (F.seen files.new)) seen (D.seen door.old) (D.seen door.new) (asked_in words.now) result (sink_written O.tells_held O.held O.write_faults out.old out.new) (sink_written E.tells_held E.held E.write_faults err.old err.new)) }
 
     // Each status comes with its cause alone, and with its line on `err`, behind the lines of the connections that a member served, which are
@@ -58,14 +59,15 @@ pub fn run<R: Threads + Wait + Sync, F: Files, W: Wire + Send, D: Door, O: Sink,
     ensures written { IsTrue O.tells_held → Writes (file_read (F.seen files.old) (F.seen files.new)) (map W.seen (take (wires_used (asked (map (λ w. string_bytes w) words.now))) wires.old)) (asked (map (λ w. string_bytes w) words.now)) result (O.held out.old) (O.held out.new) }
     ensures wired { AreAfter (map W.seen wires.old) (map W.seen wires.new) }
 
-    // `WriteFault` comes where a write of the document failed, and then nothing was written on `err`, or where it is whole and one
+    // `WriteFault` comes where a write of the document or the text failed, and then nothing was written on `err`, or where it is whole and one
     // of the lines behind it failed.
     ensures write_fault { result ≡ Status.WriteFault → FailsToWrite (file_read (F.seen files.old) (F.seen files.new)) (map W.seen (take (wires_used (asked (map (λ w. string_bytes w) words.now))) wires.old)) (asked (map (λ w. string_bytes w) words.now)) (sink_written O.tells_held O.held O.write_faults out.old out.new) (sink_written E.tells_held E.held E.write_faults err.old err.new) }
     ensures unfailed { ¬ (result ≡ Status.WriteFault) → O.write_faults out.new ≡ O.write_faults out.old }
     ensures unfailed_lines { result ≡ Status.Done → E.write_faults err.new ≡ E.write_faults err.old }
 
     // No fault of files and of the door is hidden: each count is as it was, or the status names the one fault, which is counted once. Where
-    // wires count each address alone, `Done` says that none was counted there, but for `query` one for each line that says that the wire failed.
+    // wires count each address alone, `Done` says that none was counted there, but for `query` and `explain` one for each line that says that the wire failed, and
+    // perhaps more where a member is left out.
     ensures read_faults { CountsOnly Status.ReadFault result (F.seen files.old).faults (F.seen files.new).faults }
     ensures endpoint_faults { IsTrue W.counts_alone → result ≡ Status.Done → CountsEndpoints (file_read (F.seen files.old) (F.seen files.new)) (asked (map (λ w. string_bytes w) words.now)) (map W.seen wires.old) (map W.seen wires.new) (sink_written E.tells_held E.held E.write_faults err.old err.new) }
     ensures door_faults { CountsDoor result (D.seen door.old).faults (D.seen door.new).faults }

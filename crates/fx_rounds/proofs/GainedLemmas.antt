@@ -107,6 +107,14 @@ module _ (tells alone : Bool) (es : List EndpointParts) (q : Query) (block : ℕ
         (behind_all tells s w.went.between u (first ++ mid) last a
         (rounds_behind plan s w.asked w.went.between first kept w.went.last_kept w.went.abandoned a (alone_gained tells s w.asked first w.asking.gained w.asking.after_all) w.went.rounds) w.went.last.gained w.went.last.after_all)
 
+    -- the wires behind the rounds that were abandoned are those before, later on
+    pub has_begun : AllTell tells s → (w : WentInRounds tells alone s u es q old new block r) → AreAfter s w.went.between
+    has_begun a w =
+        let first = w.asking.exchanges in
+        let all =
+        rounds_behind (plan_over es q old w.answers) s w.asked w.went.between first w.answers.kept.items w.went.last_kept w.went.abandoned a (alone_gained tells s w.asked first w.asking.gained w.asking.after_all) w.went.rounds in
+        all.after_all
+
     each_way : AllTell tells s → (f : IsUnasked s u old new r ⊎ (IsRefusedAtAsks tells alone s u es q old new r ⊎ WentInRounds tells alone s u es q old new block r)) → GainedInAll tells s u (all_exchanged tells alone s u es q old new block r f)
     each_way a (inl n) = subst (λ (v : List Seen). GainedInAll tells s v []) (sym n.same) (none_gained tells s)
     each_way a (inr (inl h)) = alone_gained tells s u h.asking.exchanges h.asking.gained h.asking.after_all

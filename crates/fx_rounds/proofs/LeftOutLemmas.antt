@@ -3,7 +3,7 @@ use Rattle.std.proofs.Common.{◌≡◌, ◌∙◌, ap, sym, subst, refl, inl, i
 use Rattle.std.specs.Prelude.{◌≢◌, AllPairs}
 use Rattle.std.proofs.lemmas.Bool.{eqb-true, eqb-false}
 use Rattle.std.proofs.lemmas.List.Concat.{flat_map-append}
-use Rattle.std.proofs.lemmas.List.Elements.{All-cons, All-from_recursion, All-weaker, recursion_from_All}
+use Rattle.std.proofs.lemmas.List.Elements.{All-append, All-cons, All-from_recursion, All-nil, All-weaker, recursion_from_All}
 use Rattle.std.proofs.lemmas.List.Kept.{AllPairs-cons}
 use Rattle.fx_outside.specs.Endpoints.{EndpointParts}
 use Rattle.fx_algebra.specs.Units.{is_kept}
@@ -18,7 +18,7 @@ use Rattle.fx_outcomes.specs.declared.federated.FedError.{FedError}
 use Rattle.fx_outcomes.specs.declared.rounds.Left.{Left}
 use Rattle.fx_outcomes.specs.declared.rounds.OutcomeInRounds.{OutcomeInRounds}
 use Rattle.fx_outcomes.specs.declared.rounds.Round.{Round}
-use Rattle.fx_rounds.specs.LeftOut.{AnswersWent, AreLeftOut, MembersAreLeftOnce, is_listed, left_in}
+use Rattle.fx_rounds.specs.LeftOut.{AnswersWent, AreLeftOut, LeavesSomebody, MembersAreLeftOnce, is_listed, left_in}
 
 -- ---- where there is an answer
 
@@ -38,6 +38,24 @@ answers_went tells alone before after es q old new block all f = by f.went
     by (inl n) = absurd (not_told n.error n.is)
     by (inr (inl h)) = absurd (not_told h.error h.is)
     by (inr (inr w)) = w
+
+-- ---- each round leaves somebody out
+
+not_empty : (l : Left) (left : List Left) → l ∷ left ≡ [] → ⊥
+not_empty l left h = cc
+
+asks_leave : (left : List Left) → All LeavesSomebody (by_asks left)
+asks_leave [] = All-nil LeavesSomebody
+asks_leave (l ∷ left) = All-cons LeavesSomebody (record { left = l ∷ left; down = [] }) [] (not_empty l left) (All-nil LeavesSomebody)
+
+module _ (tells alone : Bool) (es : List EndpointParts) (q : Query) (plan : List Bool → List Part) (block : ℕ) where
+  pub each_leaves : (s t : List Seen) (kept last : List Bool) (rounds : List Round) → AreAbandoned tells alone s t es q plan block kept last rounds → All LeavesSomebody rounds
+  each_leaves s t kept last [] c = All-nil LeavesSomebody
+  each_leaves s t kept last (r ∷ rounds) c =
+      All-cons LeavesSomebody r rounds (λ none. not_empty c.1.left [] (sym c.1.left_is ∙ none)) (each_leaves c.0 t (without_all r.left kept) last rounds c.3)
+
+pub all_leave : (left : List Left) (rounds all : List Round) → all ≡ by_asks left ++ rounds → All LeavesSomebody rounds → All LeavesSomebody all
+all_leave left rounds all is h = subst (All LeavesSomebody) (sym is) (All-append LeavesSomebody (by_asks left) rounds (asks_leave left) h)
 
 -- ---- marks
 
@@ -118,7 +136,7 @@ module _ (es : List EndpointParts) where
   marked kept [] h = All-from_recursion (λ (l : Left). IsMarked true es l.at) [] tt
   marked kept (l ∷ left) h = All-cons (λ (m : Left). IsMarked true es m.at) l left h.0.optional (marked (without l.at kept) left h.1)
 
-  left_out : (left : List Left) (kept : List Bool) → MayAllLeave es (everybody es) left → kept ≡ without_all left (everybody es) → AreLeftOut es left kept
+  pub left_out : (left : List Left) (kept : List Bool) → MayAllLeave es (everybody es) left → kept ≡ without_all left (everybody es) → AreLeftOut es left kept
   left_out left kept h is = record {
     once = once (everybody es) left h;
     optional = marked (everybody es) left h;
@@ -142,7 +160,7 @@ module _ (es : List EndpointParts) where
 
 -- ---- with the round of the ASKs
 
-left_of_asks : (left : List Left) → left_in (by_asks left) ≡ left
+pub left_of_asks : (left : List Left) → left_in (by_asks left) ≡ left
 left_of_asks [] = refl
 left_of_asks (l ∷ left) = append-nil (l ∷ left)
 

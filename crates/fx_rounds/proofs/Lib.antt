@@ -1,8 +1,12 @@
+pub mod AnsweredLemmas
 pub mod CountLemmas
+pub mod DownLemmas
 pub mod GainedLemmas
 pub mod KeptAskedLemmas
 pub mod LeftOutLemmas
 pub mod LicenceLemmas
+pub mod PlannedLemmas
+pub mod RefusedLemmas
 pub mod ReplyLemmas
 pub mod SumLemmas
 pub mod TrafficLemmas

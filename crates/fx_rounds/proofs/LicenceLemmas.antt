@@ -69,7 +69,7 @@ lefts_append es a [] ys = behind_none (lefts_failed es a ys)
 lefts_append es a (x ∷ xs) ys =
     add_in_front (cond {A = ℕ} (bytes_eq (left_address es x) a) (left_failure x.why) 0) (lefts_failed es a (xs ++ ys)) (lefts_failed es a xs) (lefts_failed es a ys) (lefts_append es a xs ys)
 
-downs_append : (a : List ℕ) (xs ys : List Down) → downs_failed a (xs ++ ys) ≡ downs_failed a xs + downs_failed a ys
+pub downs_append : (a : List ℕ) (xs ys : List Down) → downs_failed a (xs ++ ys) ≡ downs_failed a xs + downs_failed a ys
 downs_append a [] ys = behind_none (downs_failed a ys)
 downs_append a (x ∷ xs) ys = add_in_front (cond {A = ℕ} (bytes_eq x.iri a) (down_failure x.why) 0) (downs_failed a (xs ++ ys)) (downs_failed a xs) (downs_failed a ys) (downs_append a xs ys)
 
@@ -345,7 +345,7 @@ module _ (es : List EndpointParts) where
         (round_licensed s c.0 (plan kept) r c.1) (rounds_licensed plan c.0 t rest last rounds c.3)
 
     -- the ASKs
-    asks_licensed : (s t : List Seen) (after : AreAfter s t) (probes : List Probe) (xs : List Exchange) (left : List Left) → AllPairs (λ (k l : Left). k.at ≢ l.at) left → All (λ (l : Left). IsMarked true es l.at) left → All (IsLeftAtAsk s t es probes xs) left
+    pub asks_licensed : (s t : List Seen) (after : AreAfter s t) (probes : List Probe) (xs : List Exchange) (left : List Left) → AllPairs (λ (k l : Left). k.at ≢ l.at) left → All (λ (l : Left). IsMarked true es l.at) left → All (IsLeftAtAsk s t es probes xs) left
         → Licence es s t xs left []
     asks_licensed s t after probes xs left apart marks causes =
         let each = recursion_from_All (IsLeftAtAsk s t es probes xs) left causes in
@@ -364,7 +364,7 @@ module _ (es : List EndpointParts) where
 
 -- ---- a query
 
-last_down : (all : OutcomeInRounds) (down : List Down) (ended : Result Outcome FedError) → IsLast ended (Ok all) → IfOk ended (λ outcome. outcome.down ≡ down) → all.outcome.down ≡ down
+pub last_down : (all : OutcomeInRounds) (down : List Down) (ended : Result Outcome FedError) → IsLast ended (Ok all) → IfOk ended (λ outcome. outcome.down ≡ down) → all.outcome.down ≡ down
 last_down all down (Ok outcome) same is = ap (λ (o : Outcome). o.down) same ∙ is
 last_down all down (Err e) same is = absurd same
 

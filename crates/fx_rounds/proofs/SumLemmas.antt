@@ -53,7 +53,7 @@ module _ (es : List EndpointParts) (q : Query) (a : List ℕ) where
 -- ---- a call
 
 module _ (tells alone : Bool) (before after : List Seen) (es : List EndpointParts) (q : Query) (old new : List Entry) (block : ℕ) (all : OutcomeInRounds) (registry : IsRegistry es) where
-  with_rounds : (w : WentInRounds tells alone before after es q old new block (Ok all)) → GainedInAll tells before after (went_exchanged tells alone before after es q old new block (Ok all) w) → AreEnough tells before after es q all
+  with_rounds : (w : WentInRounds tells alone before after es q old new block (Ok all)) → GainedInAll tells before after (went_exchanged tells alone before after es q old new block (Ok all) w) → AreEnough tells before after es q all.abandoned all.outcome.down
   with_rounds w g =
       let plan = plan_over es q old w.answers in
       let downs = downs_in tells alone w.asked w.went.between es q plan block w.answers.kept.items w.went.last_kept w.went.abandoned w.went.rounds in
@@ -89,7 +89,7 @@ module _ (tells alone : Bool) (before after : List Seen) (es : List EndpointPart
   not_refused e same = cc
 
   by_went : (f : IsUnasked before after old new given ⊎ (IsRefusedAtAsks tells alone before after es q old new given ⊎ WentInRounds tells alone before after es q old new block given)) → GainedInAll tells before after (all_exchanged tells alone before after es q old new block given f)
-      → AreEnough tells before after es q all
+      → AreEnough tells before after es q all.abandoned all.outcome.down
   by_went (inl u) g = absurd (not_refused u.error u.is)
   by_went (inr (inl r)) g = absurd (not_refused r.error r.is)
   by_went (inr (inr w)) g = with_rounds w g

@@ -27,6 +27,10 @@ AnswersWent = (tells alone : Bool) (before after : List Seen) (endpoints : List 
 abbrev pub left_in : List Round → List Left
 left_in rounds = flat_map (λ r. r.left) rounds
 
+-- a round is abandoned for somebody
+abbrev pub LeavesSomebody : Round → Type 0
+LeavesSomebody r = r.left ≢ []
+
 -- one of these has the number
 abbrev pub is_listed : List Left → ℕ → Bool
 is_listed left at = list_any (λ l. l.at == at) left

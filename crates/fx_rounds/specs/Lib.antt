@@ -1,6 +1,9 @@
+pub mod Answered
 pub mod Counts
+pub mod Down
 pub mod Gained
 pub mod LeftOut
 pub mod Licences
+pub mod Refused
 pub mod Sums
 pub mod Traffic

@@ -1,8 +1,10 @@
 //! Laws of queries that were asked in rounds, each the contract of a function that does nothing.
+ghost use Rattle.fx_rounds.specs.Answered.{AnswersRestOnThis, FaultsAreTold, PlansCountNone, PlansRestOnThis};
 ghost use Rattle.fx_rounds.specs.Counts.{LicencesCount, NumbersAreTold};
 ghost use Rattle.fx_rounds.specs.Gained.{RoundsHaveGained};
 ghost use Rattle.fx_rounds.specs.LeftOut.{AnswersWent, KeptAreAsked, MembersAreLeftOnce};
 ghost use Rattle.fx_rounds.specs.Licences.{AnswersAreLicensed, LicencesInAnyOrder};
+ghost use Rattle.fx_rounds.specs.Refused.{MembersFailed, NoPlanServiceFails, PlanMembersFailed, ServicesFailed};
 ghost use Rattle.fx_rounds.specs.Sums.{FaultsAndRefusalsAreEnough};
 ghost use Rattle.fx_rounds.specs.Traffic.{RoundsAreTraffic};
 
@@ -59,4 +61,48 @@ pub fn faults_and_refusals_are_enough()
 /// Where the graphs are told, each round sent a part of the query's traffic over the graphs of the members that were kept in it, and no ASK.
 pub fn rounds_are_traffic()
     ensures { RoundsAreTraffic }
+{}
+
+/// With an answer of a call with a new cache: who is left out and who is kept, what is down, what was exchanged round by round, and that no more
+/// is told as failed than faults were counted. Where graphs are told, the answer is that over the union of the graphs of the members that are kept.
+pub fn answers_rest_on_this()
+    ensures { AnswersRestOnThis }
+{}
+
+/// With an answer for which no member is left out, by wires that count each address alone, as many faults were counted at an address as
+/// exchanges of the occurrences failed that are down.
+pub fn faults_are_told()
+    ensures { FaultsAreTold }
+{}
+
+/// The same of a plan: who is left out, and what was exchanged. Where graphs are told, it is the plan by the sources of the patterns among the
+/// members that are kept.
+pub fn plans_rest_on_this()
+    ensures { PlansRestOnThis }
+{}
+
+/// For a plan of all members, by wires that count each address alone, no fault was counted.
+pub fn plans_count_none()
+    ensures { PlansCountNone }
+{}
+
+/// A member that is named as failed mustn't be left out, and the count of faults at its address rose.
+pub fn members_failed()
+    ensures { MembersFailed }
+{}
+
+/// An occurrence of SERVICE that is named as failed is the first in text order of the last round that was refused, and the count of faults
+/// at its address rose.
+pub fn services_failed()
+    ensures { ServicesFailed }
+{}
+
+/// A member for which there is no plan mustn't be left out, and the count of faults at its address rose.
+pub fn plan_members_failed()
+    ensures { PlanMembersFailed }
+{}
+
+/// No plan is refused for a SERVICE that failed: none is invoked.
+pub fn no_plan_service_fails()
+    ensures { NoPlanServiceFails }
 {}

@@ -29,13 +29,20 @@ is_comment (b ∷ bs) = b == 35
 abbrev pub no_flags : Flags
 no_flags = record { optional = false; values = false }
 
+-- the word of the flag of endpoints that queries may do without
+abbrev pub is_optional : List ℕ → Bool
+is_optional word = bytes_eq word (codes "optional")
+
 -- the word of the flag of endpoints that take a batch as one VALUES block
 abbrev pub is_values : List ℕ → Bool
 is_values word = bytes_eq word (codes "values")
 
 -- one more flag by its word, or nothing where the word is no flag's, or its flag stands
 abbrev pub with_flag : Flags → List ℕ → Option Flags
-with_flag flags word = if is_values word && not flags.values then Some (record { optional = flags.optional; values = true }) else None
+with_flag flags word =
+    if is_optional word && not flags.optional then Some (record { optional = true; values = flags.values })
+    else if is_values word && not flags.values then Some (record { optional = flags.optional; values = true })
+    else None
 
 -- the flags with those that the words name, or nothing where a word adds none
 abbrev pub flags_of : Flags → List (List ℕ) → Option Flags

@@ -67,7 +67,12 @@ fn read_flags(words: &[u8]) -> Option<Flags>
 fn with_flag(flags: Flags, word: &[u8]) -> Option<Flags>
     ensures { result ≡ spec.with_flag flags word.now }
 {
-    if is_values(word) && !flags.values {
+    if is_optional(word) && !flags.optional {
+        Some(Flags {
+            optional: true,
+            values: flags.values,
+        })
+    } else if is_values(word) && !flags.values {
         Some(Flags {
             optional: flags.optional,
             values: true,
@@ -75,6 +80,12 @@ fn with_flag(flags: Flags, word: &[u8]) -> Option<Flags>
     } else {
         None
     }
+}
+
+fn is_optional(word: &[u8]) -> bool
+    ensures { result ≡ spec.is_optional word.now }
+{
+    word == b"optional".as_slice()
 }
 
 fn is_values(word: &[u8]) -> bool

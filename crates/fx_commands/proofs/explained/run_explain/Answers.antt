@@ -1,4 +1,4 @@
-use Rattle.std.proofs.Common.{sym, subst, refl, Ok, Err, inl, map}
+use Rattle.std.proofs.Common.{◌∙◌, sym, subst, refl, Ok, Err, inl, map}
 use Rattle.fx_algebra.specs.declared.queries.Query.{Query}
 use Rattle.fx_outside.proofs.CountLemmas.{stayed_both}
 use Rattle.fx_pool.proofs.WireLemmas.{after_itself}
@@ -9,11 +9,13 @@ use Rattle.fx_local.specs.LocalSteps.{GivesQuery, query_line}
 use Rattle.fx_local.specs.RegistryFiles.{registry_line}
 use Rattle.fx_commands.specs.Explain.{IsExplainReported, IsExplanation}
 use Rattle.fx_local.specs.RefusalStatuses.{query_status, registry_status}
+use Rattle.fx_local.specs.Sinks.{sink_written}
 use Rattle.fx_local.specs.declared.statuses.Status.{Status}
 use Rattle.fx_local.specs.declared.statuses.Status.TheVariants as status
 use Rattle.fx_local.proofs.CountLemmas.{only_later, only_read}
-use Rattle.fx_commands.proofs.QueryLemmas.{query_refused_before, query_since, query_wrote, registry_refused_before, registry_wrote, wrote_so}
-use Rattle.fx_commands.proofs.ExplainLemmas.{an_explanation, plan_explained}
+use Rattle.fx_commands.proofs.QueryLemmas.{cut_so, query_not_done, query_refused_before, query_since, query_wrote, registry_not_done, registry_refused_before, registry_wrote, wrote_so}
+use Rattle.fx_commands.proofs.ExplainLemmas.{an_explanation, explain_done, plan_explained}
+use Rattle.fx_commands.proofs.FaultLemmas.{counts_left}
 use Rattle.fx_commands.proofs.explained.run_explain.Goals as goal
 
 pub returns-in-Err-clause-reported : goal.returns-in-Err-clause-reported
@@ -71,6 +73,48 @@ returns-clause-written g c = λ told.
     let query = read c.args.query.now in
     let since = query_since c.args.query.now _ _ ((g.F.Files.seen c.args.files.now).faults c.args.query.now) ((g.F.Files.seen c.load_registry.new.files).faults c.args.query.now) ((g.F.Files.seen c.load_query.new.files).faults c.args.query.now) (Ok c.in-Ok-load_query.asked) (c.load_registry.ensures.same c.args.query.now) (c.load_registry.ensures.kept c.args.query.now) c.in-Ok-load_query.ensures.outcome in
     wrote_so _ _ (λ text k. an_explanation (map g.W.Wire.seen c.args.wires.now) registry query _ c.get.result.now text c.in-Ok.ensures.outcome (subst (λ (q : Query). GivesQuery query (Ok q)) (sym c.get.ensures) since) k) c.explain_members.result _ _ (c.explain_members.ensures.written told)
+
+pub returns-in-Err-clause-done : goal.returns-in-Err-clause-done
+returns-in-Err-clause-done g c = λ done. absurd (registry_not_done c.in-Err.refusal (sym c.status.ensures ∙ done))
+
+pub returns-in-Err-load_query-clause-done : goal.returns-in-Err-load_query-clause-done
+returns-in-Err-load_query-clause-done g c = λ done. absurd (query_not_done c.in-Err-load_query.refusal (sym c.status-in-Err-load_query.ensures ∙ done))
+
+pub returns-clause-done : goal.returns-clause-done
+returns-clause-done g c = λ done.
+    let w = wires_seen g.W.Wire.tells_log g.W.Wire.counts_alone g.W.Wire.seen c.args.wires.now c.explain_members.new.wires in
+    let read = file_read (g.F.Files.seen c.args.files.now) (g.F.Files.seen c.load_query.new.files) in
+    let registry = read c.args.registry.now in
+    let query = read c.args.query.now in
+    let since = query_since c.args.query.now _ _ ((g.F.Files.seen c.args.files.now).faults c.args.query.now) ((g.F.Files.seen c.load_registry.new.files).faults c.args.query.now) ((g.F.Files.seen c.load_query.new.files).faults c.args.query.now) (Ok c.in-Ok-load_query.asked) (c.load_registry.ensures.same c.args.query.now) (c.load_registry.ensures.kept c.args.query.now) c.in-Ok-load_query.ensures.outcome in
+    let out = sink_written g.O.Ends.tells_held g.O.Ends.held g.O.Ends.write_faults c.args.out.now c.explain_members.new.out in
+    let err = sink_written g.E.Ends.tells_held g.E.Ends.held g.E.Ends.write_faults c.args.err.now c.explain_members.new.err in
+    explain_done w registry query _ c.get.result.now out err c.in-Ok.ensures.outcome (subst (λ (q : Query). GivesQuery query (Ok q)) (sym c.get.ensures) since) (c.explain_members.ensures.done done)
+
+pub returns-in-Err-clause-endpoint_faults : goal.returns-in-Err-clause-endpoint_faults
+returns-in-Err-clause-endpoint_faults g c = λ alone done. absurd (registry_not_done c.in-Err.refusal (sym c.status.ensures ∙ done))
+
+pub returns-in-Err-load_query-clause-endpoint_faults : goal.returns-in-Err-load_query-clause-endpoint_faults
+returns-in-Err-load_query-clause-endpoint_faults g c = λ alone done. absurd (query_not_done c.in-Err-load_query.refusal (sym c.status-in-Err-load_query.ensures ∙ done))
+
+pub returns-clause-endpoint_faults : goal.returns-clause-endpoint_faults
+returns-clause-endpoint_faults g c = λ alone done.
+    let w = wires_seen g.W.Wire.tells_log g.W.Wire.counts_alone g.W.Wire.seen c.args.wires.now c.explain_members.new.wires in
+    let read = file_read (g.F.Files.seen c.args.files.now) (g.F.Files.seen c.load_query.new.files) in
+    let registry = read c.args.registry.now in
+    let query = read c.args.query.now in
+    let since = query_since c.args.query.now _ _ ((g.F.Files.seen c.args.files.now).faults c.args.query.now) ((g.F.Files.seen c.load_registry.new.files).faults c.args.query.now) ((g.F.Files.seen c.load_query.new.files).faults c.args.query.now) (Ok c.in-Ok-load_query.asked) (c.load_registry.ensures.same c.args.query.now) (c.load_registry.ensures.kept c.args.query.now) c.in-Ok-load_query.ensures.outcome in
+    let out = sink_written g.O.Ends.tells_held g.O.Ends.held g.O.Ends.write_faults c.args.out.now c.explain_members.new.out in
+    let err = sink_written g.E.Ends.tells_held g.E.Ends.held g.E.Ends.write_faults c.args.err.now c.explain_members.new.err in
+    counts_left w registry query out err (explain_done w registry query _ c.get.result.now out err c.in-Ok.ensures.outcome (subst (λ (q : Query). GivesQuery query (Ok q)) (sym c.get.ensures) since) (c.explain_members.ensures.done done)) alone
+
+pub returns-clause-write_fault : goal.returns-clause-write_fault
+returns-clause-write_fault g c = λ cut.
+    let read = file_read (g.F.Files.seen c.args.files.now) (g.F.Files.seen c.load_query.new.files) in
+    let registry = read c.args.registry.now in
+    let query = read c.args.query.now in
+    let since = query_since c.args.query.now _ _ ((g.F.Files.seen c.args.files.now).faults c.args.query.now) ((g.F.Files.seen c.load_registry.new.files).faults c.args.query.now) ((g.F.Files.seen c.load_query.new.files).faults c.args.query.now) (Ok c.in-Ok-load_query.asked) (c.load_registry.ensures.same c.args.query.now) (c.load_registry.ensures.kept c.args.query.now) c.in-Ok-load_query.ensures.outcome in
+    cut_so _ _ (λ text k. an_explanation (map g.W.Wire.seen c.args.wires.now) registry query _ c.get.result.now text c.in-Ok.ensures.outcome (subst (λ (q : Query). GivesQuery query (Ok q)) (sym c.get.ensures) since) k) _ _ (c.explain_members.ensures.write_fault cut)
 
 pub returns-in-Err-clause-read_faults : goal.returns-in-Err-clause-read_faults
 returns-in-Err-clause-read_faults g c =

@@ -5,7 +5,7 @@ use Rattle.fx_traffic.specs.Gains.{WiresSeen, wires_seen}
 use Rattle.fx_words.specs.Commands.{Asked, asked, over_members, planned}
 use Rattle.fx_program.specs.Completeness.{Completes}
 use Rattle.fx_local.specs.Files.{file_read}
-use Rattle.fx_commands.specs.Explain.{IsExplainWritten}
+use Rattle.fx_commands.specs.Explain.{IsExplainWritten, IsExplanation}
 use Rattle.fx_program.specs.Headline.{Headline}
 use Rattle.fx_local.specs.Lines.{Gains, usage_line, no_memory}
 use Rattle.fx_local.specs.Local.{IsAnswer}
@@ -16,9 +16,9 @@ use Rattle.fx_local.specs.declared.statuses.Status.TheVariants as status
 use Rattle.fx_program.proofs.CompletenessLemmas.{explain_completes, local_completes, making_completes, member_completes, query_completes, want_completes}
 use Rattle.fx_local.proofs.GainLemmas.{gains_alone}
 use Rattle.fx_program.proofs.HeadlineLemmas.{explain_headline, local_headline, making_headline, no_headline, query_headline}
-use Rattle.fx_program.proofs.ReportLemmas.{file_counts, file_reported, making_counts, making_cut, making_reported, making_written, members_counts, members_cut, members_reported, members_written, memory_reported, nothing_written, plan_counts, plan_reported, plan_written, serving_counts, serving_reported, usage_reported}
-use Rattle.fx_commands.proofs.SilentLemmas.{counts_down}
-use Rattle.fx_program.proofs.UsedLemmas.{on_same, on_taken, on_used, used_after, used_counts_none, used_down}
+use Rattle.fx_program.proofs.ReportLemmas.{file_counts, file_reported, making_counts, making_cut, making_reported, making_written, members_counts, members_cut, members_reported, members_written, memory_reported, nothing_written, plan_counts, plan_cut, plan_reported, plan_written, serving_counts, serving_reported, usage_reported}
+use Rattle.fx_commands.proofs.FaultLemmas.{counts_down}
+use Rattle.fx_program.proofs.UsedLemmas.{on_same, on_taken, on_used, used_after, used_down, used_left}
 use Rattle.fx_program.proofs.running.run.Goals as goal
 
 -- ---- words that are no command
@@ -195,7 +195,7 @@ returns-in-Ok-Query-clause-endpoint_faults g c = λ alone done.
     let out = sink_written g.O.Ends.tells_held g.O.Ends.held g.O.Ends.write_faults c.args.out.now c.run_query.new.out in
     let err = sink_written g.E.Ends.tells_held g.E.Ends.held g.E.Ends.write_faults c.args.err.now c.run_query.new.err in
     members_counts read a _ _ err c.in-Ok-Query.registry.now c.in-Ok-Query.query.now c.in-Ok-Query.workers c.in-Ok-Query.block is
-    (used_down g.W.Wire.seen (read c.in-Ok-Query.query.now) err c.args.wires.now c.split_at_mut-used.result.0.now c.split_at_mut-used.result.1.now c.run_query.new.wires c.split_at_mut-used.ensures.value
+    (used_down g.W.Wire.seen (read c.in-Ok-Query.registry.now) (read c.in-Ok-Query.query.now) err c.args.wires.now c.split_at_mut-used.result.0.now c.split_at_mut-used.result.1.now c.run_query.new.wires c.split_at_mut-used.ensures.value
     (counts_down w (read c.in-Ok-Query.registry.now) (read c.in-Ok-Query.query.now) c.in-Ok-Query.block out err (c.run_query.ensures.done done) alone))
 
 -- ---- `explain`
@@ -205,8 +205,9 @@ returns-in-Ok-Explain-clause-endpoint_faults g c = λ alone done.
     let a = asked (map (λ w. string_bytes w) c.args.words.now) in
     let is : a ≡ Some (planned c.in-Ok-Explain.registry.now c.in-Ok-Explain.query.now) = rw c.in-Ok-Explain.field-0-is at c.in-Ok-Explain.ensures.asked in
     let read = file_read (g.F.Files.seen c.args.files.now) (g.F.Files.seen c.run_explain.new.files) in
-    plan_counts read a _ _ _ c.in-Ok-Explain.registry.now c.in-Ok-Explain.query.now is
-    (used_counts_none g.W.Wire.seen c.args.wires.now c.split_at_mut-used-in-Ok-Explain.result.0.now c.split_at_mut-used-in-Ok-Explain.result.1.now c.run_explain.new.wires c.split_at_mut-used-in-Ok-Explain.ensures.value (c.run_explain.ensures.endpoint_faults alone done))
+    let err = sink_written g.E.Ends.tells_held g.E.Ends.held g.E.Ends.write_faults c.args.err.now c.run_explain.new.err in
+    plan_counts read a _ _ err c.in-Ok-Explain.registry.now c.in-Ok-Explain.query.now is
+    (used_left g.W.Wire.seen (read c.in-Ok-Explain.registry.now) err c.args.wires.now c.split_at_mut-used-in-Ok-Explain.result.0.now c.split_at_mut-used-in-Ok-Explain.result.1.now c.run_explain.new.wires c.split_at_mut-used-in-Ok-Explain.ensures.value (c.run_explain.ensures.endpoint_faults alone done))
 
 pub returns-in-Ok-Explain-clause-written : goal.returns-in-Ok-Explain-clause-written
 returns-in-Ok-Explain-clause-written g c = λ tells.
@@ -218,6 +219,17 @@ returns-in-Ok-Explain-clause-written g c = λ tells.
     plan_written read (map g.W.Wire.seen (take (wires_used a) c.args.wires.now)) a c.in-Ok-Explain.registry.now c.in-Ok-Explain.query.now c.run_explain.result old new is
     (on_taken g.W.Wire.seen (λ (l : List Seen). IsExplainWritten l (read c.in-Ok-Explain.registry.now) (read c.in-Ok-Explain.query.now) c.run_explain.result old new) (wires_used a) 4 c.min-in-Ok-Explain.result c.args.wires.now c.split_at_mut-used-in-Ok-Explain.result.0.now
     (ap wires_used is) c.min-in-Ok-Explain.ensures c.split_at_mut-used-in-Ok-Explain.ensures.front (c.run_explain.ensures.written tells))
+
+pub returns-in-Ok-Explain-clause-write_fault : goal.returns-in-Ok-Explain-clause-write_fault
+returns-in-Ok-Explain-clause-write_fault g c = λ cut.
+    let a = asked (map (λ w. string_bytes w) c.args.words.now) in
+    let is : a ≡ Some (planned c.in-Ok-Explain.registry.now c.in-Ok-Explain.query.now) = rw c.in-Ok-Explain.field-0-is at c.in-Ok-Explain.ensures.asked in
+    let read = file_read (g.F.Files.seen c.args.files.now) (g.F.Files.seen c.run_explain.new.files) in
+    let out = sink_written g.O.Ends.tells_held g.O.Ends.held g.O.Ends.write_faults c.args.out.now c.run_explain.new.out in
+    let err = sink_written g.E.Ends.tells_held g.E.Ends.held g.E.Ends.write_faults c.args.err.now c.run_explain.new.err in
+    plan_cut read (map g.W.Wire.seen (take (wires_used a) c.args.wires.now)) a c.in-Ok-Explain.registry.now c.in-Ok-Explain.query.now out err is
+    (on_taken g.W.Wire.seen (λ (l : List Seen). IsCutShort (IsExplanation l (read c.in-Ok-Explain.registry.now) (read c.in-Ok-Explain.query.now)) out err) (wires_used a) 4 c.min-in-Ok-Explain.result c.args.wires.now c.split_at_mut-used-in-Ok-Explain.result.0.now
+    (ap wires_used is) c.min-in-Ok-Explain.ensures c.split_at_mut-used-in-Ok-Explain.ensures.front (c.run_explain.ensures.write_fault cut))
 
 pub returns-in-Ok-Explain-clause-headline : goal.returns-in-Ok-Explain-clause-headline
 returns-in-Ok-Explain-clause-headline g c =
@@ -231,7 +243,7 @@ returns-in-Ok-Explain-clause-headline g c =
     on_used g.W.Wire.seen g.W.Wire.tells_log g.W.Wire.counts_alone (λ (w : WiresSeen). Headline read w a c.run_explain.result out err) (wires_used a) 4 c.min-in-Ok-Explain.result c.args.wires.now c.split_at_mut-used-in-Ok-Explain.result.0.now c.split_at_mut-used-in-Ok-Explain.result.1.now c.run_explain.new.wires
     (ap wires_used is) c.min-in-Ok-Explain.ensures c.split_at_mut-used-in-Ok-Explain.ensures.front c.split_at_mut-used-in-Ok-Explain.ensures.back
     (subst (λ (o : Option Asked). Headline read w o c.run_explain.result out err) (sym is)
-    (explain_headline w (read c.in-Ok-Explain.registry.now) (read c.in-Ok-Explain.query.now) c.run_explain.result told.0 out err told.1 told.2 c.run_explain.ensures.written))
+    (explain_headline w (read c.in-Ok-Explain.registry.now) (read c.in-Ok-Explain.query.now) c.run_explain.result told.0 out err told.1 told.2 c.run_explain.ensures.done))
 
 pub returns-in-Ok-Explain-clause-completes : goal.returns-in-Ok-Explain-clause-completes
 returns-in-Ok-Explain-clause-completes g c =
@@ -246,7 +258,7 @@ returns-in-Ok-Explain-clause-completes g c =
     on_used g.W.Wire.seen g.W.Wire.tells_log g.W.Wire.counts_alone (λ (w : WiresSeen). Completes read w door door a c.run_explain.result out err) (wires_used a) 4 c.min-in-Ok-Explain.result c.args.wires.now c.split_at_mut-used-in-Ok-Explain.result.0.now c.split_at_mut-used-in-Ok-Explain.result.1.now c.run_explain.new.wires
     (ap wires_used is) c.min-in-Ok-Explain.ensures c.split_at_mut-used-in-Ok-Explain.ensures.front c.split_at_mut-used-in-Ok-Explain.ensures.back
     (subst (λ (o : Option Asked). Completes read w door door o c.run_explain.result out err) (sym is)
-    (explain_completes w (read c.in-Ok-Explain.registry.now) (read c.in-Ok-Explain.query.now) c.run_explain.result told.0 out told.1 (λ cut. (c.run_explain.ensures.write_fault cut).0)))
+    (explain_completes w (read c.in-Ok-Explain.registry.now) (read c.in-Ok-Explain.query.now) c.run_explain.result told.0 out err (IsExplanation w.before (read c.in-Ok-Explain.registry.now) (read c.in-Ok-Explain.query.now)) told.1 c.run_explain.ensures.write_fault))
 
 pub returns-in-Ok-Explain-clause-reported : goal.returns-in-Ok-Explain-clause-reported
 returns-in-Ok-Explain-clause-reported g c =

@@ -1,7 +1,7 @@
 use Rattle.std.proofs.Common.{◌≡◌, ◌++◌, drop}
 use Rattle.fx_commands.specs.MemberLines.{down_lines}
-use Rattle.fx_commands.proofs.federated.down_lines.Given as goal
+use Rattle.fx_commands.proofs.lines.push_down_lines.Given as goal
 
 -- what is left completes the lines
 abbrev pub invariant-loop-one : goal.invariant-loop-one
-invariant-loop-one l = l.lines.items ++ down_lines (drop l.one-index l.down) ≡ down_lines l.down
+invariant-loop-one l = l.lines.items ++ down_lines (drop l.one-index l.down) ≡ l.fn.lines.items ++ down_lines l.down

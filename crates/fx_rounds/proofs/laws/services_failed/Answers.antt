@@ -1,0 +1,5 @@
+use Rattle.fx_rounds.proofs.RefusedLemmas as lemmas
+use Rattle.fx_rounds.proofs.laws.services_failed.Goals as goal
+
+pub returns : goal.returns
+returns c = lemmas.services_failed
