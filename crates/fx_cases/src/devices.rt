@@ -4,7 +4,7 @@
 ghost use Rattle.std.specs.Prelude.{◌<◌, length};
 
 use crate::runs;
-use crate::runs::{STEP, over_wires};
+use crate::runs::{STEP, over_graphs, over_wires};
 use fx_command_cases::ends::{end_text, failed_at};
 use fx_command_cases::watched::WatchedWire;
 use fx_command_cases::wires::watched_wires;
@@ -26,6 +26,9 @@ pub fn answer<R: Threads + Wait + Sync>(
         }
         ("ends with each exchange failing", [words, most, fields @ ..]) => {
             ends(rt, alloc, words, most, fields)
+        }
+        ("ends with and without a member", [words, most, address, fields @ ..]) => {
+            ends_without(rt, alloc, words, most, address, fields)
         }
         _ => runs::answer(rt, alloc, call, inputs),
     }
@@ -67,6 +70,33 @@ fn ends<R: Threads + Wait + Sync>(
         fields::add_behind(&mut text, " ", end.as_str())?;
     }
     Some(text)
+}
+
+// What a run gives that leaves out the member at an address, since the first exchange with it fails; and behind it the ends of the runs over one wire of which
+// one exchange is to fail, from the first up to the last number, where `left` is that of each that gives the same.
+fn ends_without<R: Threads + Wait + Sync>(
+    rt: &R,
+    alloc: Global,
+    words: &str,
+    most: &str,
+    address: &str,
+    fields: &[&str],
+) -> Option<String> {
+    let failing = format!(in alloc; "{address}=1").ok()?;
+    let without = over_graphs(rt, alloc, words, failing.as_str(), STEP, fields)?;
+    let left = format!(in alloc; "gives {without}, where failed:").ok()?;
+    let whole = given_by(rt, alloc, words, 1, fields)?;
+    let mut text = format!(in alloc; "{without} |").ok()?;
+    for number in 1..=most.parse::<u64>().ok()? {
+        let end = end_at(rt, alloc, words, 1, number, whole.as_str(), fields)?;
+        fields::add_behind(&mut text, " ", told(end.as_str(), left.as_str()))?;
+    }
+    Some(text)
+}
+
+// The end of a run, in one word where it begins as that which leaves out the member.
+fn told<'a>(end: &'a str, left: &str) -> &'a str {
+    if end.starts_with(left) { "left" } else { end }
 }
 
 // What a run over so many wires gives where none fails.

@@ -117,8 +117,8 @@ fn over_replies<R: Threads + Wait + Sync>(
     over_wires(rt, alloc, words, failing, step, fields, &mut wires)
 }
 
-// Where the members answer by their graphs.
-fn over_graphs<R: Threads + Wait + Sync>(
+/// The same, where the members answer by their graphs.
+pub fn over_graphs<R: Threads + Wait + Sync>(
     rt: &R,
     alloc: Global,
     words: &str,

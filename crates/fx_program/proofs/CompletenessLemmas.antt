@@ -1,5 +1,5 @@
 -- That runs come to their ends, from what their commands report.
-use Rattle.std.proofs.Common.{◌≡◌, ◌∙◌, ap, sym, subst, refl, ℕ, zero, suc, ◌≤◌, ◌<◌, ◌⊎◌, List, [], ◌∷◌, All, Option, Some, None, Ok, Err, length, inl, inr, arith}
+use Rattle.std.proofs.Common.{◌≡◌, ◌∙◌, ap, sym, subst, refl, ℕ, zero, suc, ◌≤◌, ◌<◌, ◌⊎◌, Bool, true, Result, List, [], ◌∷◌, All, Option, Some, None, Ok, Err, length, inl, inr, arith}
 use Rattle.std.specs.Prelude.{◌++◌, Contains, slice_get}
 use Rattle.std.proofs.lemmas.List.Elements.{All-contains, Contains-append_left}
 use Rattle.std.proofs.lemmas.List.Sorted.{Contains-permutation}
@@ -17,7 +17,8 @@ use Rattle.fx_sources.specs.Registries.{read_registry}
 use Rattle.fx_sources.specs.declared.errors.RegistryError.{RegistryError}
 use Rattle.fx_traffic.specs.Gains.{Tell, TellAll, WiresSeen, faults_at}
 use Rattle.fx_wire.specs.Exchanges.{Seen}
-use Rattle.fx_outcomes.specs.Calls.{Call, HasFirstRefused}
+use Rattle.fx_algebra.specs.Solutions.{Bindings}
+use Rattle.fx_outcomes.specs.Calls.{Call}
 use Rattle.fx_walks.specs.Unknown.{unknown_of}
 use Rattle.fx_services.specs.declared.noted.DownCause.TheVariants as cause
 use Rattle.fx_outcomes.specs.declared.federated.FedError.{FedError}
@@ -25,7 +26,7 @@ use Rattle.fx_outcomes.specs.declared.federated.FedError.TheVariants as fed
 use Rattle.fx_terms.proofs.SetLemmas.{Among, among_from, contains_from}
 use Rattle.fx_algebra.specs.declared.units.Row.{Row}
 use Rattle.fx_algebra.specs.declared.units.Unit as unit
-use Rattle.fx_algebra.proofs.MemberLemmas.{among_flat_map}
+use Rattle.fx_algebra.proofs.MemberLemmas.{among_flat_map, among_right}
 use Rattle.fx_http.specs.Requests.{request_of}
 use Rattle.fx_sources.specs.Probes.{Entry, missing}
 use Rattle.fx_sources.specs.Sources.{ask_text}
@@ -34,15 +35,30 @@ use Rattle.fx_traffic.specs.Gains.{HaveGained}
 use Rattle.fx_traffic.specs.Sent.{Sent}
 use Rattle.fx_wire.specs.Exchanges.{Exchange, exchanged}
 use Rattle.fx_flows.specs.Flows.{IsLongBatch}
-use Rattle.fx_outcomes.specs.Asks.{IsLongAsk}
+use Rattle.fx_flows.specs.RunFlows.{HasFlowCause}
+use Rattle.fx_flows.specs.declared.flows.FlowError.{FlowError}
+use Rattle.fx_flows.specs.declared.flows.FlowError.TheVariants as flow
+use Rattle.fx_plan.specs.declared.parts.Part.{Part}
+use Rattle.fx_walks.specs.GroupsAsked.{units_in}
+use Rattle.fx_walks.specs.Tasks.{tasks_with}
+use Rattle.fx_outcomes.specs.Asks.{HasProbeCause, IsLongAsk}
+use Rattle.fx_outcomes.specs.InRounds.{FederatedInRounds, IsLast, IsRefusedAtAsks, IsUnasked, PlannedByAnswers, PlannedInRounds, WentInRounds, plan_over}
 use Rattle.fx_pool.specs.declared.jobs.BadReply.{BadReply}
-use Rattle.fx_outcomes.specs.Mediation.{Federated, HasBadAsk, HasBadBatch, HasLongAsk, HasLongBatch, Planned, Serve}
+use Rattle.fx_outcomes.specs.Mediation.{IsNamed, Serve}
+use Rattle.fx_outcomes.specs.Outcomes.{AllTell, HasOutcomeCause, Outcomed}
+use Rattle.fx_outcomes.specs.RoundEnds.{IsToldOf, LeavesOut}
+use Rattle.fx_outcomes.specs.declared.federated.Outcome.{Outcome}
+use Rattle.fx_outcomes.specs.declared.rounds.OutcomeInRounds.{OutcomeInRounds}
+use Rattle.fx_outcomes.specs.declared.rounds.PlanInRounds.{PlanInRounds}
+use Rattle.fx_rounds.specs.Refused.{IsFirstFailed}
+use Rattle.fx_rounds.proofs.PlannedLemmas.{no_plan_service_fails, plan_members_failed}
+use Rattle.fx_rounds.proofs.RefusedLemmas.{members_failed, services_failed}
 use Rattle.fx_commands.specs.FedRefusals.{fed_status_of}
 use Rattle.fx_local.specs.Limits.{graph_limit, query_limit, registry_limit}
 use Rattle.fx_local.specs.declared.statuses.Status.{Status}
 use Rattle.fx_local.specs.declared.statuses.Status.TheVariants as status
-use Rattle.fx_commands.specs.Asking.{IsRefusedBefore, IsUnmarked, WasAsked, WasPlanned}
-use Rattle.fx_program.specs.Completeness.{Completes, AreAsksShort, AreRepliesShort, AreTextsShort, AreWell, IsDoneOrWant, IsReadWell, IsWrittenWell}
+use Rattle.fx_commands.specs.Asking.{IsRefusedBefore, WasAsked, WasPlanned}
+use Rattle.fx_program.specs.Completeness.{Completes, AreAsksShort, AreRepliesShort, AreTextsShort, AreWell, IsDoneOrWant, IsNeeded, IsReadWell, IsWrittenWell}
 use Rattle.fx_words.specs.Commands.{Asked, over_file, over_members, planned, served, generated}
 use Rattle.fx_commands.specs.Explain.{IsExplainReported}
 use Rattle.fx_commands.specs.FedRefusals.{IsGivenEnd}
@@ -58,8 +74,9 @@ use Rattle.fx_local.specs.Serving.{IsMemberReported}
 use Rattle.fx_local.specs.Services.{first_plain}
 use Rattle.fx_local.specs.Sinks.{IsCutShort, SinkWritten}
 use Rattle.fx_local.specs.Sinks as sink
-use Rattle.fx_program.proofs.HarmlessLemmas.{AllIsWell, IsShort, all_is_well, no_plain}
-use Rattle.fx_program.proofs.HeadlineLemmas.{of_told, query_told, registry_told}
+use Rattle.fx_program.proofs.HarmlessLemmas.{AllIsWell, IsShort, all_is_well, not_needed, no_plain}
+use Rattle.fx_program.proofs.HeadlineLemmas.{of_query, of_told, query_told, registry_told}
+use Rattle.fx_program.proofs.LastRoundLemmas.{short_at_last, told_at_last}
 
 -- ---- files that hold what they are to hold
 
@@ -142,17 +159,16 @@ graph_told wires (x ∷ es) [] at e h k = absurd h
 graph_told wires (x ∷ es) (g ∷ graphs) zero e h k = let same : x ≡ e = cc in (g, subst (λ (v : EndpointParts). Tell wires v.iri g) same h.0)
 graph_told wires (x ∷ es) (g ∷ graphs) (suc at) e h k = graph_told wires es graphs at e h.1 k
 
--- no fault was counted at any of them
-none_rose : (w : WiresSeen) (es : List EndpointParts) (e : EndpointParts) → AreWell w es → Contains es e → faults_at w.before e.iri < faults_at w.after e.iri → ⊥
-none_rose w es e well among rose =
-    let same : faults_at w.after e.iri ≡ faults_at w.before e.iri = All-contains (λ (x : EndpointParts). faults_at w.after x.iri ≡ faults_at w.before x.iri) es e well.1 among in
-    omega (arith, same, rose)
+-- no reply of these exchanges is longer than it may be
+abbrev AreShort : List Exchange → Type 0
+AreShort xs = (x : Exchange) → Contains xs x → length x.reply ≤ 67108864
 
--- a reply that is longer than it may be isn't one of the exchanges
-no_long_reply : (w : WiresSeen) (xs : List Exchange) (x : Exchange) → HaveGained w.before w.after xs → AreRepliesShort w → Contains xs x → 67108864 < length x.reply → ⊥
-no_long_reply w xs x gained short among long =
-    let fits : length x.reply ≤ 67108864 = All-contains (λ (y : Exchange). length y.reply ≤ 67108864) xs x (short xs gained) among in
-    omega (arith, fits, long)
+all_short : (w : WiresSeen) (xs : List Exchange) → HaveGained w.before w.after xs → AreRepliesShort w → AreShort xs
+all_short w xs gained short x among = All-contains (λ (y : Exchange). length y.reply ≤ 67108864) xs x (short xs gained) among
+
+-- a reply that is longer than it may be isn't one of them
+no_long_reply : (xs : List Exchange) (x : Exchange) → AreShort xs → Contains xs x → 67108864 < length x.reply → ⊥
+no_long_reply xs x short among long = let fits : length x.reply ≤ 67108864 = short x among in omega (arith, long, fits)
 
 -- an ASK that is longer than it may be isn't one of the query's
 no_long_ask : (es : List EndpointParts) (asked : Query) (p : Probe) (size : ℕ) → AreAsksShort es asked → Contains (missing asked (length es) []) p → IsLongAsk p size → ⊥
@@ -182,102 +198,220 @@ no_long_batch es texts u rows at e size short member found allowed long =
     let more : 67108864 < size = long.long in
     omega (arith, fits, same, more)
 
--- ---- `query`
+-- ---- refusals of ASKs and of batches
 
--- a bad reply to an ASK or to a batch, where the graphs are told, is longer than a reply may be
-no_bad_ask : (w : WiresSeen) (es : List EndpointParts) (asked : Query) (graphs : List (List Triple)) (e : EndpointParts) (xs all : List Exchange) (bad : BadReply) → TellAll w.before es graphs → HaveGained w.before w.after all → ((x : Exchange) → Contains xs x → Contains all x) → AreRepliesShort w
-    → HasBadAsk w.before es asked [] e xs bad → ⊥
-no_bad_ask w es asked graphs e xs all bad told gained among short (p, lacked, is) =
-    let g = graph_told w.before es graphs p.at e told lacked.found in
-    let x = exchanged e bad.request bad.reply in
-    no_long_reply w all x gained short (among x is.exchanged_so) (is.long g.0 g.1).1
+-- a bad reply, where the graphs are told, is longer than a reply may be
+bad_at_ask : (before after : List Seen) (es : List EndpointParts) (graphs : List (List Triple)) (probes : List Probe) (xs : List Exchange) (name : List ℕ) (bad : BadReply) (why : FlowError) → TellAll before es graphs → AreShort xs
+    → HasProbeCause before after es probes xs why → IsNamed es why (fed.BadReply name bad) → ⊥
+bad_at_ask before after es graphs probes xs name bad (flow.BadReply at own) told short k named =
+    let g = graph_told before es graphs k.probe.at k.endpoint told k.found in
+    no_long_reply xs (exchanged k.endpoint own.request own.reply) short k.cause.exchanged_so (k.cause.long g.0 g.1).1
+bad_at_ask before after es graphs probes xs name bad (flow.Member at) told short k named = named
+bad_at_ask before after es graphs probes xs name bad (flow.RequestTooLong at size) told short k named = named
+bad_at_ask before after es graphs probes xs name bad flow.Memory told short k named = named
 
-no_bad_batch : (w : WiresSeen) (es : List EndpointParts) (asked : Query) (calls : List Call) (graphs : List (List Triple)) (block : ℕ) (e : EndpointParts) (xs all : List Exchange) (bad : BadReply) → TellAll w.before es graphs → HaveGained w.before w.after all → ((x : Exchange) → Contains xs x → Contains all x) → AreRepliesShort w
-    → HasBadBatch w.before es asked calls block e xs bad → ⊥
-no_bad_batch w es asked calls graphs block e xs all bad told gained among short is =
-    let g = graph_told w.before es graphs is.asked.at e told is.asked.found in
-    let x = exchanged e bad.request bad.reply in
-    no_long_reply w all x gained short (among x is.is_bad.exchanged_so) (is.is_bad.long g.0 g.1).1
+bad_at_batch : (before after : List Seen) (es : List EndpointParts) (graphs : List (List Triple)) (us : List unit.Unit) (block : ℕ) (texts : List Sent) (xs : List Exchange) (name : List ℕ) (bad : BadReply) (why : FlowError) → TellAll before es graphs → AreShort xs
+    → HasFlowCause before after es us block texts xs why → IsNamed es why (fed.BadReply name bad) → ⊥
+bad_at_batch before after es graphs us block texts xs name bad (flow.BadReply at own) told short k named =
+    let g = graph_told before es graphs k.at k.endpoint told k.found in
+    no_long_reply xs (exchanged k.endpoint own.request own.reply) short k.cause.exchanged_so (k.cause.long g.0 g.1).1
+bad_at_batch before after es graphs us block texts xs name bad (flow.Member at) told short k named = named
+bad_at_batch before after es graphs us block texts xs name bad (flow.RequestTooLong at size) told short k named = named
+bad_at_batch before after es graphs us block texts xs name bad flow.Memory told short k named = named
 
-no_bad_reply : (w : WiresSeen) (es : List EndpointParts) (asked : Query) (graphs : List (List Triple)) (block : ℕ) (e : EndpointParts) (calls : List Call) (texts : List Sent) (xs all : List Exchange) (bad : BadReply) → TellAll w.before es graphs → HaveGained w.before w.after all → ((x : Exchange) → Contains xs x → Contains all x) → AreRepliesShort w
-    → AllIsWell es calls texts
-    → HasBadAsk w.before es asked [] e xs bad ⊎ (HasBadBatch w.before es asked calls block e xs bad ⊎ HasFirstRefused calls (cause.Bad bad) e.iri) → ⊥
-no_bad_reply w es asked graphs block e calls texts xs all bad are_told gained among short well (inl h) = no_bad_ask w es asked graphs e xs all bad are_told gained among short h
-no_bad_reply w es asked graphs block e calls texts xs all bad are_told gained among short well (inr (inl h)) = no_bad_batch w es asked calls graphs block e xs all bad are_told gained among short h
-no_bad_reply w es asked graphs block e calls texts xs all bad are_told gained among short well (inr (inr h)) = no_plain es calls (cause.Bad bad) e.iri (λ iri is. is) well.each_harmless h
+-- a text that is too long isn't one of the query's
+long_at_ask : (before after : List Seen) (es : List EndpointParts) (asked : Query) (xs : List Exchange) (name : List ℕ) (size : ℕ) (why : FlowError) → AreAsksShort es asked → HasProbeCause before after es (missing asked (length es) []) xs why
+    → IsNamed es why (fed.RequestTooLong name size) → ⊥
+long_at_ask before after es asked xs name size (flow.RequestTooLong at own) short k named = no_long_ask es asked k.probe own short k.among k.cause
+long_at_ask before after es asked xs name size (flow.Member at) short k named = named
+long_at_ask before after es asked xs name size (flow.BadReply at bad) short k named = named
+long_at_ask before after es asked xs name size flow.Memory short k named = named
 
-no_long_text : (w : WiresSeen) (es : List EndpointParts) (asked : Query) (block : ℕ) (calls : List Call) (texts : List Sent) (e : EndpointParts) (size : ℕ) → AreAsksShort es asked → AllIsWell es calls texts
-    → HasLongAsk es asked [] e size ⊎ (HasLongBatch es asked calls block e texts size ⊎ HasFirstRefused calls (cause.TooLong size) e.iri) → ⊥
-no_long_text w es asked block calls texts e size asks well (inl (p, lacked, long)) = no_long_ask es asked p size asks lacked.lacked long
-no_long_text w es asked block calls texts e size asks well (inr (inl long)) = no_long_batch es texts long.unit long.batch long.asked.at e size well.texts_short long.asked.member long.asked.found long.allowed long.is_long
-no_long_text w es asked block calls texts e size asks well (inr (inr h)) = no_plain es calls (cause.TooLong size) e.iri (λ iri is. is) well.each_harmless h
+long_at_batch : (before after : List Seen) (es : List EndpointParts) (us : List unit.Unit) (block : ℕ) (texts : List Sent) (xs : List Exchange) (name : List ℕ) (size : ℕ) (why : FlowError) → All IsShort texts → HasFlowCause before after es us block texts xs why
+    → IsNamed es why (fed.RequestTooLong name size) → ⊥
+long_at_batch before after es us block texts xs name size (flow.RequestTooLong at own) short k named = no_long_batch es texts k.unit k.batch k.at k.endpoint own short k.member k.found k.allowed k.cause
+long_at_batch before after es us block texts xs name size (flow.Member at) short k named = named
+long_at_batch before after es us block texts xs name size (flow.BadReply at bad) short k named = named
+long_at_batch before after es us block texts xs name size flow.Memory short k named = named
+
+-- ---- before the rounds
+
+module _ (X : Type 0) (w : WiresSeen) (es : List EndpointParts) (asked : Query) (entries : List Entry) where
+  abbrev refused : FedError → Result X FedError
+  refused e = Err e
+
+  same_refusal : (e d : FedError) → refused e ≡ refused d → e ≡ d
+  same_refusal e d h = cc
+
+  -- where nothing was asked no reply is bad, and no text too long
+  unasked_bad : (name : List ℕ) (bad : BadReply) → IsUnasked w.before w.after [] entries (refused (fed.BadReply name bad)) → ⊥
+  unasked_bad name bad n = by n.error (same_refusal (fed.BadReply name bad) n.error n.is) n.unasked
+    where
+      by : (e : FedError) → fed.BadReply name bad ≡ e → (e ≡ fed.Memory) ⊎ ((iri : List ℕ) × (e ≡ fed.UnknownService iri)) → ⊥
+      by e same (inl lost) = cc
+      by e same (inr unknown) = let is : e ≡ fed.UnknownService unknown.0 = unknown.1 in cc
+
+  unasked_long : (name : List ℕ) (size : ℕ) → IsUnasked w.before w.after [] entries (refused (fed.RequestTooLong name size)) → ⊥
+  unasked_long name size n = by n.error (same_refusal (fed.RequestTooLong name size) n.error n.is) n.unasked
+    where
+      by : (e : FedError) → fed.RequestTooLong name size ≡ e → (e ≡ fed.Memory) ⊎ ((iri : List ℕ) × (e ≡ fed.UnknownService iri)) → ⊥
+      by e same (inl lost) = cc
+      by e same (inr unknown) = let is : e ≡ fed.UnknownService unknown.0 = unknown.1 in cc
+
+  -- where an ASK was refused neither is so
+  bad_at_asks : (graphs : List (List Triple)) (name : List ℕ) (bad : BadReply) → TellAll w.before es graphs → AreWell w es asked → AreRepliesShort w → IsRefusedAtAsks w.tells w.alone w.before w.after es asked [] entries (refused (fed.BadReply name bad)) → ⊥
+  bad_at_asks graphs name bad told well replies h =
+      bad_at_ask w.before w.after es graphs (missing asked (length es) []) h.asking.exchanges name bad h.why told (all_short w h.asking.exchanges (h.asking.gained well.0) replies) h.asking.cause
+      (subst (IsNamed es h.why) (sym (same_refusal (fed.BadReply name bad) h.error h.is)) h.named)
+
+  long_at_asks : (name : List ℕ) (size : ℕ) → AreAsksShort es asked → IsRefusedAtAsks w.tells w.alone w.before w.after es asked [] entries (refused (fed.RequestTooLong name size)) → ⊥
+  long_at_asks name size short h =
+      long_at_ask w.before w.after es asked h.asking.exchanges name size h.why short h.asking.cause (subst (IsNamed es h.why) (sym (same_refusal (fed.RequestTooLong name size) h.error h.is)) h.named)
 
 no_unknown : (iri : List ℕ) → Some iri ≡ None → ⊥
 no_unknown iri h = cc
 
--- the cause of a refusal by the members is one that there isn't
-query_refused : (w : WiresSeen) (es : List EndpointParts) (asked : Query) (graphs : List (List Triple)) (graph_at : List ℕ → List Triple) (entries : List Entry) (block : ℕ) (e : FedError) (s : Status) → s ≡ fed_status_of e → unknown_of es asked ≡ None → TellAll w.before es graphs → Serve graph_at es graphs
-    → Federated w.tells w.alone w.before w.after es asked [] entries block (Err e) → AreWell w es → AreRepliesShort w → AreAsksShort es asked → AreTextsShort es graphs graph_at block asked → IsDoneOrWant s
-query_refused w es asked graphs graph_at entries block (fed.Member name) s is known are_told serve given well replies asks texts = absurd (none_rose w es given.cause.1.0 well given.cause.1.1 given.cause.1.3)
-query_refused w es asked graphs graph_at entries block (fed.Service iri) s is known are_told serve given well replies asks texts =
-    absurd (none_rose w es given.cause.1.0 well given.cause.1.1 (subst (λ (a : List ℕ). faults_at w.before a < faults_at w.after a) (sym given.cause.1.2) given.cause.2))
-query_refused w es asked graphs graph_at entries block (fed.BadReply name bad) s is known are_told serve given well replies asks texts =
-    let all = all_is_well w es asked graphs graph_at entries block (Err (fed.BadReply name bad)) are_told serve given well replies texts in
-    let among : (x : Exchange) → Contains given.of_others x → Contains given.exchanges x =
-    λ x m. Contains-permutation (given.of_others ++ given.of_calls) given.exchanges x given.parted (Contains-append_left given.of_others given.of_calls x m) in
-    absurd (no_bad_reply w es asked graphs block given.cause.0 given.calls given.texts given.of_others given.exchanges bad are_told (given.gained well.0) among replies all given.cause.3)
-query_refused w es asked graphs graph_at entries block (fed.RequestTooLong name size) s is known are_told serve given well replies asks texts =
-    let all = all_is_well w es asked graphs graph_at entries block (Err (fed.RequestTooLong name size)) are_told serve given well replies texts in
-    absurd (no_long_text w es asked block given.calls given.texts given.cause.0 size asks all given.cause.3)
-query_refused w es asked graphs graph_at entries block (fed.UnknownService iri) s is known are_told serve given well replies asks texts = absurd (no_unknown iri (sym given.known ∙ known))
-query_refused w es asked graphs graph_at entries block fed.Memory s is known are_told serve given well replies asks texts = inr is
+-- ---- `query`
 
--- where no member may be left out there is one round
-query_asked : (w : WiresSeen) (es others : List EndpointParts) (asked other : Query) (graphs : List (List Triple)) (graph_at : List ℕ → List Triple) (block : ℕ) (e : FedError) (s : Status) → others ≡ es → other ≡ asked → s ≡ fed_status_of e → All IsUnmarked es → unknown_of es asked ≡ None
-    → TellAll w.before es graphs → Serve graph_at es graphs → WasAsked w others other block (Err e) → AreWell w es → AreRepliesShort w → AreAsksShort es asked → AreTextsShort es graphs graph_at block asked → IsDoneOrWant s
-query_asked w es others asked other graphs graph_at block e s a b is unmarked known are_told serve given =
+-- the last round was refused for the cause that is told
+module _ (Untold : FlowError → Type 0) (tells alone : Bool) (u t : List Seen) (es : List EndpointParts) (q : Query) (plan : List Part) (block : ℕ) where
+  bad_at_last : (name : List ℕ) (bad : BadReply) (ended : Result Outcome FedError) → (k : Outcomed (IsToldOf true es) Untold tells alone u t es q plan block ended) → IsLast ended (Err (fed.BadReply name bad))
+      → HasOutcomeCause (IsToldOf true es) u t es plan k.found block k.calls k.texts k.of_runs (fed.BadReply name bad)
+  bad_at_last name bad (Ok outcome) k same = absurd same
+  bad_at_last name bad (Err e) k same = subst (HasOutcomeCause (IsToldOf true es) u t es plan k.found block k.calls k.texts k.of_runs) (sym same) k.cause
+
+  long_at_last : (name : List ℕ) (size : ℕ) (ended : Result Outcome FedError) → (k : Outcomed (IsToldOf true es) Untold tells alone u t es q plan block ended) → IsLast ended (Err (fed.RequestTooLong name size))
+      → HasOutcomeCause (IsToldOf true es) u t es plan k.found block k.calls k.texts k.of_runs (fed.RequestTooLong name size)
+  long_at_last name size (Ok outcome) k same = absurd same
+  long_at_last name size (Err e) k same = subst (HasOutcomeCause (IsToldOf true es) u t es plan k.found block k.calls k.texts k.of_runs) (sym same) k.cause
+
+-- it has none of them
+module _ (Told : FlowError → Type 0) (before after : List Seen) (es : List EndpointParts) (plan : List Part) (found : List (List Bindings)) (block : ℕ) (calls : List Call) (texts : List Sent) (xs : List Exchange) (well : AllIsWell es calls texts) where
+  no_bad_reply : (graphs : List (List Triple)) (name : List ℕ) (bad : BadReply) → TellAll before es graphs → AreShort xs → HasOutcomeCause Told before after es plan found block calls texts xs (fed.BadReply name bad) → ⊥
+  no_bad_reply graphs name bad told short (inl b) = bad_at_batch before after es graphs (units_in (tasks_with plan found)) block texts xs name bad b.0 told short b.1 b.2
+  no_bad_reply graphs name bad told short (inr r) = no_plain es calls (cause.Bad bad) r.0.iri (λ iri is. is) well.each_harmless r.3
+
+  no_long_text : (name : List ℕ) (size : ℕ) → HasOutcomeCause Told before after es plan found block calls texts xs (fed.RequestTooLong name size) → ⊥
+  no_long_text name size (inl b) = long_at_batch before after es (units_in (tasks_with plan found)) block texts xs name size b.0 well.texts_short b.1 b.2
+  no_long_text name size (inr r) = no_plain es calls (cause.TooLong size) r.0.iri (λ iri is. is) well.each_harmless r.3
+
+module _ (w : WiresSeen) (es : List EndpointParts) (asked : Query) (graphs : List (List Triple)) (graph_at : List ℕ → List Triple) (entries : List Entry) (block : ℕ) (alike : AllTell w.tells w.before) (are_told : TellAll w.before es graphs) (serve : Serve graph_at es graphs)
+    (well : AreWell w es asked) (replies : AreRepliesShort w) (asks : AreAsksShort es asked) (texts : AreTextsShort es graphs graph_at block asked) where
+  abbrev Ended : FedError → Result OutcomeInRounds FedError
+  Ended e = Err e
+
+  no_bad : (name : List ℕ) (bad : BadReply)
+      → IsUnasked w.before w.after [] entries (Ended (fed.BadReply name bad)) ⊎ (IsRefusedAtAsks w.tells w.alone w.before w.after es asked [] entries (Ended (fed.BadReply name bad)) ⊎ WentInRounds w.tells w.alone w.before w.after es asked [] entries block (Ended (fed.BadReply name bad))) → ⊥
+  no_bad name bad (inl n) = unasked_bad OutcomeInRounds w es asked entries name bad n
+  no_bad name bad (inr (inl h)) = bad_at_asks OutcomeInRounds w es asked entries graphs name bad are_told well replies h
+  no_bad name bad (inr (inr it)) =
+      let r = Ended (fed.BadReply name bad) in
+      let last = it.went.last in
+      let plan = plan_over es asked [] it.answers it.went.last_kept in
+      let all = all_is_well w es asked graphs graph_at entries block r alike are_told serve it well replies texts in
+      let short : AreShort last.of_runs = λ x among.
+      short_at_last w es asked entries block r alike it well replies x (Contains-permutation (last.of_runs ++ last.of_calls) last.exchanges x last.parted (Contains-append_left last.of_runs last.of_calls x among)) in
+      no_bad_reply (IsToldOf true es) it.went.between w.after es plan last.found block last.calls last.texts last.of_runs all graphs name bad (told_at_last w es asked entries block r alike it graphs are_told) short
+      (bad_at_last (LeavesOut true es) w.tells w.alone it.went.between w.after es asked plan block name bad it.went.ended last it.told)
+
+  no_long : (name : List ℕ) (size : ℕ)
+      → IsUnasked w.before w.after [] entries (Ended (fed.RequestTooLong name size)) ⊎ (IsRefusedAtAsks w.tells w.alone w.before w.after es asked [] entries (Ended (fed.RequestTooLong name size)) ⊎ WentInRounds w.tells w.alone w.before w.after es asked [] entries block (Ended (fed.RequestTooLong name size))) → ⊥
+  no_long name size (inl n) = unasked_long OutcomeInRounds w es asked entries name size n
+  no_long name size (inr (inl h)) = long_at_asks OutcomeInRounds w es asked entries name size asks h
+  no_long name size (inr (inr it)) =
+      let r = Ended (fed.RequestTooLong name size) in
+      let last = it.went.last in
+      let plan = plan_over es asked [] it.answers it.went.last_kept in
+      let all = all_is_well w es asked graphs graph_at entries block r alike are_told serve it well replies texts in
+      no_long_text (IsToldOf true es) it.went.between w.after es plan last.found block last.calls last.texts last.of_runs all name size
+      (long_at_last (LeavesOut true es) w.tells w.alone it.went.between w.after es asked plan block name size it.went.ended last it.told)
+
+  -- the endpoint of an occurrence without SILENT that failed is needed
+  plain_is_needed : (iri : List ℕ) (e : EndpointParts) → IsFirstFailed w es asked iri → e.iri ≡ iri → IsNeeded asked e
+  plain_is_needed iri e k at =
+      let c = k.first.refused in
+      let its : Contains k.calls c = contains_from k.calls c (subst (Among c) (sym k.first.are) (among_right c k.first.before (c ∷ k.first.behind) (inl refl))) in
+      inr (c.of, of_query asked k.calls c (inr k.all_called) its, k.first.plain, k.first.at ∙ sym at)
+
+  -- the cause of a refusal by the members is one that there isn't
+  query_refused : (e : FedError) (s : Status) → s ≡ fed_status_of e → unknown_of es asked ≡ None → FederatedInRounds w.tells w.alone w.before w.after es asked [] entries block (Err e) → IsDoneOrWant s
+  query_refused (fed.Member name) s is known given =
+      let k = members_failed w es asked entries block name given in
+      absurd (not_needed w es asked k.0 well k.1 k.3.1 (inl k.3.0))
+  query_refused (fed.Service iri) s is known given =
+      let k = services_failed w es asked entries block iri alike given in
+      let e = k.0.0.0 in
+      absurd (not_needed w es asked e well k.0.0.1 (subst (λ (a : List ℕ). faults_at w.before a < faults_at w.after a) (sym k.0.0.2) k.0.1) (plain_is_needed iri e k.1 k.0.0.2))
+  query_refused (fed.BadReply name bad) s is known given = absurd (no_bad name bad given.went)
+  query_refused (fed.RequestTooLong name size) s is known given = absurd (no_long name size given.went)
+  query_refused (fed.UnknownService iri) s is known given = absurd (no_unknown iri (sym given.known ∙ known))
+  query_refused fed.Memory s is known given = inr is
+
+query_asked : (w : WiresSeen) (es others : List EndpointParts) (asked other : Query) (graphs : List (List Triple)) (graph_at : List ℕ → List Triple) (block : ℕ) (e : FedError) (s : Status) → others ≡ es → other ≡ asked → s ≡ fed_status_of e → unknown_of es asked ≡ None
+    → TellAll w.before es graphs → Serve graph_at es graphs → WasAsked w others other block (Err e) → AreWell w es asked → AreRepliesShort w → AreAsksShort es asked → AreTextsShort es graphs graph_at block asked → IsDoneOrWant s
+query_asked w es others asked other graphs graph_at block e s a b is known are_told serve given well replies asks texts =
     let was = subst (λ (v : Query). WasAsked w es v block (Err e)) b (subst (λ (l : List EndpointParts). WasAsked w l other block (Err e)) a given) in
-    query_refused w es asked graphs graph_at was.entries block e s is known are_told serve (was.in_one unmarked)
+    query_refused w es asked graphs graph_at was.entries block was.alike are_told serve well replies asks texts e s is known was.in_rounds
 
 pub query_completes : (w : WiresSeen) (r q : FileRead) (block : ℕ) (s : Status) (text : List ℕ) (out err : SinkWritten) (P : List ℕ → Type 0) → IsQueryReported w r q block s text → (s ≡ status.WriteFault → IsCutShort P out err)
-    → (es : List EndpointParts) (asked : Query) (graphs : List (List Triple)) (graph_at : List ℕ → List Triple) → IsTold w r q es asked graphs → Serve graph_at es graphs → All IsUnmarked es → unknown_of es asked ≡ None
-    → IsReadWell r → IsReadWell q → AreWell w es → IsWrittenWell out → IsWrittenWell err → AreRepliesShort w → AreAsksShort es asked → AreTextsShort es graphs graph_at block asked → IsDoneOrWant s
-query_completes w r q block s text out err P (inl (none, before)) cut es asked graphs graph_at told serve unmarked known a b well written lines replies asks texts = before_asking r q es asked s text told.registry told.query a b before
-query_completes w r q block s text out err P (inr (Ok all, federated, end)) cut es asked graphs graph_at told serve unmarked known a b well written lines replies asks texts =
+    → (es : List EndpointParts) (asked : Query) (graphs : List (List Triple)) (graph_at : List ℕ → List Triple) → IsTold w r q es asked graphs → Serve graph_at es graphs → unknown_of es asked ≡ None
+    → IsReadWell r → IsReadWell q → AreWell w es asked → IsWrittenWell out → IsWrittenWell err → AreRepliesShort w → AreAsksShort es asked → AreTextsShort es graphs graph_at block asked → IsDoneOrWant s
+query_completes w r q block s text out err P (inl (none, before)) cut es asked graphs graph_at told serve known a b well written lines replies asks texts = before_asking r q es asked s text told.registry told.query a b before
+query_completes w r q block s text out err P (inr (Ok all, federated, end)) cut es asked graphs graph_at told serve known a b well written lines replies asks texts =
     given_ends (answer_lines federated.endpoints all) s text (λ is. none_cut P out err written lines (cut is)) end
-query_completes w r q block s text out err P (inr (Err e, federated, end)) cut es asked graphs graph_at told serve unmarked known a b well written lines replies asks texts =
+query_completes w r q block s text out err P (inr (Err e, federated, end)) cut es asked graphs graph_at told serve known a b well written lines replies asks texts =
     query_asked w es federated.endpoints asked federated.asked graphs graph_at block e s (registry_told r es federated.endpoints told.registry federated.registered) (query_told q asked federated.asked told.query federated.accepted)
-    end.0 unmarked known told.graphs_are serve federated.federated well replies asks texts
+    end.0 known told.graphs_are serve federated.federated well replies asks texts
 
 -- ---- `explain`
 
-plan_refused : (w : WiresSeen) (es : List EndpointParts) (asked : Query) (graphs : List (List Triple)) (entries : List Entry) (e : FedError) (s : Status) → s ≡ fed_status_of e → unknown_of es asked ≡ None → TellAll w.before es graphs
-    → Planned w.tells w.alone w.before w.after es asked [] entries (Err e) → AreWell w es → AreRepliesShort w → AreAsksShort es asked → IsDoneOrWant s
-plan_refused w es asked graphs entries (fed.Member name) s is known told fed well replies asks = absurd (none_rose w es fed.cause.1.0 well fed.cause.1.1 fed.cause.1.3)
-plan_refused w es asked graphs entries (fed.Service iri) s is known told fed well replies asks = absurd fed.cause
-plan_refused w es asked graphs entries (fed.BadReply name bad) s is known told fed well replies asks = absurd (no_bad_ask w es asked graphs fed.cause.0 fed.exchanges fed.exchanges bad told (fed.gained well.0) (λ x m. m) replies fed.cause.3)
-plan_refused w es asked graphs entries (fed.RequestTooLong name size) s is known told fed well replies asks = absurd (by_ask fed.cause.3)
-  where
-    by_ask : HasLongAsk es asked [] fed.cause.0 size → ⊥
-    by_ask (p, lacked, long) = no_long_ask es asked p size asks lacked.lacked long
-plan_refused w es asked graphs entries (fed.UnknownService iri) s is known told fed well replies asks = absurd (no_unknown iri (sym fed.known ∙ known))
-plan_refused w es asked graphs entries fed.Memory s is known told fed well replies asks = inr is
+module _ (w : WiresSeen) (es : List EndpointParts) (asked : Query) (graphs : List (List Triple)) (entries : List Entry) (told : TellAll w.before es graphs) (well : AreWell w es asked) (replies : AreRepliesShort w) (asks : AreAsksShort es asked) where
+  abbrev PlanEnded : FedError → Result PlanInRounds FedError
+  PlanEnded e = Err e
 
-plan_asked : (w : WiresSeen) (es others : List EndpointParts) (asked other : Query) (graphs : List (List Triple)) (e : FedError) (s : Status) → others ≡ es → other ≡ asked → s ≡ fed_status_of e → All IsUnmarked es → unknown_of es asked ≡ None → TellAll w.before es graphs
-    → WasPlanned w others other (Err e) → AreWell w es → AreRepliesShort w → AreAsksShort es asked → IsDoneOrWant s
-plan_asked w es others asked other graphs e s a b is unmarked known told given =
+  not_memory : (name : List ℕ) (bad : BadReply) → fed.BadReply name bad ≡ fed.Memory → ⊥
+  not_memory name bad h = cc
+
+  long_not_memory : (name : List ℕ) (size : ℕ) → fed.RequestTooLong name size ≡ fed.Memory → ⊥
+  long_not_memory name size h = cc
+
+  no_bad_plan : (name : List ℕ) (bad : BadReply)
+      → IsUnasked w.before w.after [] entries (PlanEnded (fed.BadReply name bad)) ⊎ (IsRefusedAtAsks w.tells w.alone w.before w.after es asked [] entries (PlanEnded (fed.BadReply name bad)) ⊎ PlannedByAnswers w.tells w.alone w.before w.after es asked [] entries (PlanEnded (fed.BadReply name bad))) → ⊥
+  no_bad_plan name bad (inl n) = unasked_bad PlanInRounds w es asked entries name bad n
+  no_bad_plan name bad (inr (inl h)) = bad_at_asks PlanInRounds w es asked entries graphs name bad told well replies h
+  no_bad_plan name bad (inr (inr it)) = not_memory name bad it.lost
+
+  no_long_plan : (name : List ℕ) (size : ℕ)
+      → IsUnasked w.before w.after [] entries (PlanEnded (fed.RequestTooLong name size)) ⊎ (IsRefusedAtAsks w.tells w.alone w.before w.after es asked [] entries (PlanEnded (fed.RequestTooLong name size)) ⊎ PlannedByAnswers w.tells w.alone w.before w.after es asked [] entries (PlanEnded (fed.RequestTooLong name size))) → ⊥
+  no_long_plan name size (inl n) = unasked_long PlanInRounds w es asked entries name size n
+  no_long_plan name size (inr (inl h)) = long_at_asks PlanInRounds w es asked entries name size asks h
+  no_long_plan name size (inr (inr it)) = long_not_memory name size it.lost
+
+  plan_refused : (e : FedError) (s : Status) → s ≡ fed_status_of e → unknown_of es asked ≡ None → PlannedInRounds w.tells w.alone w.before w.after es asked [] entries (Err e) → IsDoneOrWant s
+  plan_refused (fed.Member name) s is known given =
+      let k = plan_members_failed w es asked entries name given in
+      absurd (not_needed w es asked k.0 well k.1 k.3.1 (inl k.3.0))
+  plan_refused (fed.Service iri) s is known given = absurd (no_plan_service_fails w es asked entries iri given)
+  plan_refused (fed.BadReply name bad) s is known given = absurd (no_bad_plan name bad given.went)
+  plan_refused (fed.RequestTooLong name size) s is known given = absurd (no_long_plan name size given.went)
+  plan_refused (fed.UnknownService iri) s is known given = absurd (no_unknown iri (sym given.known ∙ known))
+  plan_refused fed.Memory s is known given = inr is
+
+plan_asked : (w : WiresSeen) (es others : List EndpointParts) (asked other : Query) (graphs : List (List Triple)) (e : FedError) (s : Status) → others ≡ es → other ≡ asked → s ≡ fed_status_of e → unknown_of es asked ≡ None → TellAll w.before es graphs
+    → WasPlanned w others other (Err e) → AreWell w es asked → AreRepliesShort w → AreAsksShort es asked → IsDoneOrWant s
+plan_asked w es others asked other graphs e s a b is known told given well replies asks =
     let was = subst (λ (v : Query). WasPlanned w es v (Err e)) b (subst (λ (l : List EndpointParts). WasPlanned w l other (Err e)) a given) in
-    plan_refused w es asked graphs was.entries e s is known told (was.in_one unmarked)
+    plan_refused w es asked graphs was.entries told well replies asks e s is known was.in_rounds
 
 pub explain_completes : (w : WiresSeen) (r q : FileRead) (s : Status) (text : List ℕ) (out err : SinkWritten) (P : List ℕ → Type 0) → IsExplainReported w r q s text → (s ≡ status.WriteFault → IsCutShort P out err)
-    → (es : List EndpointParts) (asked : Query) (graphs : List (List Triple)) → IsTold w r q es asked graphs → All IsUnmarked es → unknown_of es asked ≡ None
-    → IsReadWell r → IsReadWell q → AreWell w es → IsWrittenWell out → IsWrittenWell err → AreRepliesShort w → AreAsksShort es asked → IsDoneOrWant s
-explain_completes w r q s text out err P (inl (none, before)) cut es asked graphs told unmarked known a b well written lines replies asks = before_asking r q es asked s text told.registry told.query a b before
-explain_completes w r q s text out err P (inr (Ok p, made, end)) cut es asked graphs told unmarked known a b well written lines replies asks =
+    → (es : List EndpointParts) (asked : Query) (graphs : List (List Triple)) → IsTold w r q es asked graphs → unknown_of es asked ≡ None
+    → IsReadWell r → IsReadWell q → AreWell w es asked → IsWrittenWell out → IsWrittenWell err → AreRepliesShort w → AreAsksShort es asked → IsDoneOrWant s
+explain_completes w r q s text out err P (inl (none, before)) cut es asked graphs told known a b well written lines replies asks = before_asking r q es asked s text told.registry told.query a b before
+explain_completes w r q s text out err P (inr (Ok p, made, end)) cut es asked graphs told known a b well written lines replies asks =
     given_ends (plan_lines made.endpoints p) s text (λ is. none_cut P out err written lines (cut is)) end
-explain_completes w r q s text out err P (inr (Err e, made, end)) cut es asked graphs told unmarked known a b well written lines replies asks =
+explain_completes w r q s text out err P (inr (Err e, made, end)) cut es asked graphs told known a b well written lines replies asks =
     plan_asked w es made.endpoints asked made.asked graphs e s (registry_told r es made.endpoints told.registry made.registered) (query_told q asked made.asked told.query made.accepted)
-    end.0 unmarked known told.graphs_are made.planned well replies asks
+    end.0 known told.graphs_are made.planned well replies asks
 
 -- ---- `local`
 
@@ -332,8 +466,8 @@ making_completes s text out end cut written = given_ends [] s text (λ is. writt
 
 pub want_completes : (read : List ℕ → FileRead) (w : WiresSeen) (door later : DoorSeen) (asked : Option Asked) (out err : SinkWritten) → Completes read w door later asked status.NoMemory out err
 want_completes read w door later None out err = tt
-want_completes read w door later (Some (over_members r q workers block)) out err = λ es asked graphs graph_at told serve unmarked known a b well written lines replies asks texts. inr refl
-want_completes read w door later (Some (planned r q)) out err = λ es asked graphs told unmarked known a b well written lines replies asks. inr refl
+want_completes read w door later (Some (over_members r q workers block)) out err = λ es asked graphs graph_at told serve known a b well written lines replies asks texts. inr refl
+want_completes read w door later (Some (planned r q)) out err = λ es asked graphs told known a b well written lines replies asks. inr refl
 want_completes read w door later (Some (over_file g q)) out err = λ graph asked h k silent a b well lines. inr refl
 want_completes read w door later (Some (served g address count)) out err = λ graph h a same lines. inr refl
 want_completes read w door later (Some (generated n)) out err = λ written. inr refl

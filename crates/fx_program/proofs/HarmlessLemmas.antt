@@ -1,5 +1,5 @@
--- What the occurrences of SERVICE come to where nothing fails and nothing is too long.
-use Rattle.std.proofs.Common.{◌≡◌, ◌≢◌, ◌∙◌, ap, sym, subst, refl, ℕ, zero, suc, ◌+◌, ◌≤◌, ◌<◌, ◌||◌, ◌==◌, Bool, true, false, cond, if◌then◌else◌, bytes_eq, Some, slice_get, List, [], ◌∷◌, ◌++◌, map, All, Result, length, inl, inr, arith}
+-- What the occurrences of SERVICE come to where nothing fails that is needed and nothing is too long.
+use Rattle.std.proofs.Common.{◌≡◌, ◌≢◌, ◌∙◌, ap, sym, subst, refl, ℕ, ◌+◌, ◌≤◌, ◌<◌, Bool, true, false, not, cond, bytes_eq, Some, slice_get, List, [], ◌∷◌, ◌++◌, map, All, Result, length, inl, inr, arith}
 use Rattle.std.specs.Prelude.{Contains}
 use Rattle.std.specs.List.{flat_map, list_any}
 use Rattle.std.proofs.lemmas.List.Elements.{All-contains, Contains-append_left, Contains-append_right}
@@ -16,7 +16,7 @@ use Rattle.fx_algebra.specs.Groups.{is_down}
 use Rattle.fx_algebra.specs.Solutions.{Bindings}
 use Rattle.fx_algebra.specs.Stations.{Station}
 use Rattle.fx_algebra.specs.Stations as station
-use Rattle.fx_algebra.specs.Units.{sources}
+use Rattle.fx_algebra.specs.Units.{of_kept, sources}
 use Rattle.fx_algebra.specs.declared.queries.Query.{Query}
 use Rattle.fx_algebra.proofs.CutLemmas.{seeds_for_each}
 use Rattle.fx_http.specs.Requests.{request_of}
@@ -27,9 +27,12 @@ use Rattle.fx_traffic.specs.Sent.{Sent}
 use Rattle.fx_traffic.specs.Traffic.{AreStationsSent, IsStationSent, SentUnless}
 use Rattle.fx_traffic.proofs.CutLemmas.{batch_laws}
 use Rattle.fx_wire.specs.Exchanges.{Exchange, Seen, exchanged}
-use Rattle.fx_outcomes.specs.Calls.{AgreesWith, AreCalls, Call, Came, HasComeTo, HasFirstRefused, IsPassed, Passes, down_in, failed, failure_of, failures_at, lost, occurrence_in, occurrences, told}
+use Rattle.fx_outcomes.specs.Calls.{AgreesWith, AreAllOrNone, AreCalls, Call, Came, HasComeTo, HasFirstRefused, down_in, failed, failure_of, failures_at, lost, occurrence_in, occurrences, told}
+use Rattle.fx_outcomes.specs.InRounds.{WentInRounds}
 use Rattle.fx_services.specs.Beside.{Occurrence}
-use Rattle.fx_outcomes.specs.Mediation.{Federated, Serve}
+use Rattle.fx_outcomes.specs.Mediation.{Serve}
+use Rattle.fx_outcomes.specs.Outcomes.{AllTell}
+use Rattle.fx_outcomes.specs.Rounds.{everybody}
 use Rattle.fx_services.specs.Noted.{places}
 use Rattle.fx_walks.specs.RunsSent.{AreRunsSent, IsSentForRun}
 use Rattle.fx_services.specs.ServicesAsked.{service_text}
@@ -37,15 +40,15 @@ use Rattle.fx_walks.specs.Unknown.{is_registered}
 use Rattle.fx_services.specs.declared.noted.DownCause.{DownCause}
 use Rattle.fx_services.specs.declared.noted.DownCause.TheVariants as cause
 use Rattle.fx_outcomes.specs.declared.federated.FedError.{FedError}
-use Rattle.fx_outcomes.specs.declared.federated.Outcome.{Outcome}
+use Rattle.fx_outcomes.specs.declared.rounds.OutcomeInRounds.{OutcomeInRounds}
 use Rattle.fx_outcomes.proofs.DownLemmas.{down_at, has_gone}
-use Rattle.fx_services.proofs.NotedLemmas.{apart_below, the_same}
-use Rattle.fx_walks.proofs.RegisteredLemmas.{registered_by, unregistered_by}
-use Rattle.fx_program.specs.Completeness.{AreRepliesShort, AreTextsShort, AreWell}
+use Rattle.fx_walks.proofs.RegisteredLemmas.{unregistered_by}
+use Rattle.fx_program.specs.Completeness.{AreRepliesShort, AreTextsShort, AreWell, IsNeeded, MayBeDown}
 use Rattle.fx_rounds.specs.Down.{unregistered}
-use Rattle.fx_outcomes.proofs.CallLemmas.{first_of}
+use Rattle.fx_program.proofs.DownLemmas.{agree_with, call_at, down_left, down_right, unregistered_at, unregistered_may}
 use Rattle.fx_program.proofs.HeadlineLemmas.{of_query}
-use Rattle.fx_commands.proofs.QueryLemmas.{known_from_nothing}
+use Rattle.fx_program.proofs.KeptLemmas.{everybody_keeps}
+use Rattle.fx_program.proofs.LastRoundLemmas.{kept_at_last, low_at_last, planned_at_last, short_at_last, told_at_last}
 
 -- the text that is sent isn't longer than it may be
 abbrev pub IsShort : Sent → Type 0
@@ -60,18 +63,22 @@ graph_of wires (x ∷ es) [] e h m = absurd h
 graph_of wires (x ∷ es) (g ∷ graphs) e h (inl same) = (g, subst (λ (v : EndpointParts). Tell wires v.iri g) same h.0)
 graph_of wires (x ∷ es) (g ∷ graphs) e h (inr m) = graph_of wires es graphs e h.1 m
 
--- what an occurrence comes to where nothing fails and nothing is too long: rows, or no endpoint has its IRI, unless memory runs out
+-- queries can do without an endpoint that has the address
+abbrev pub IsAtOptional : List EndpointParts → List ℕ → Type 0
+IsAtOptional es iri = (e : EndpointParts) × Contains es e × (e.iri ≡ iri) × (e.optional ≡ true)
+
+-- what an occurrence comes to where nothing fails that is needed and nothing is too long: rows, or no endpoint has its IRI, or the exchange failed with one that queries can do without, unless memory runs out
 abbrev pub IsHarmless : List EndpointParts → List ℕ → Came → Type 0
 IsHarmless es iri (told rows) = Unit {0}
 IsHarmless es iri (failed cause.Unknown) = All (λ (e : EndpointParts). e.iri ≢ iri) es
-IsHarmless es iri (failed cause.Failed) = ⊥
+IsHarmless es iri (failed cause.Failed) = IsAtOptional es iri
 IsHarmless es iri (failed (cause.Bad bad)) = ⊥
 IsHarmless es iri (failed (cause.TooLong size)) = ⊥
 IsHarmless es iri lost = Unit {0}
 
--- at no address of an endpoint did an exchange fail
+-- at no address of an endpoint that is needed did an exchange fail
 abbrev NoneFailed : List EndpointParts → List Call → Type 0
-NoneFailed es calls = (e : EndpointParts) → Contains es e → failures_at e.iri calls ≡ 0
+NoneFailed es calls = (e : EndpointParts) → Contains es e → 0 < failures_at e.iri calls → e.optional ≡ true
 
 -- the text that asks for the group of an occurrence of an endpoint isn't longer than it may be
 abbrev IsShortFor : List EndpointParts → Occurrence → Type 0
@@ -81,15 +88,15 @@ IsShortFor es o = (e : EndpointParts) → Contains es e → e.iri ≡ o.iri → 
 abbrev AreShort : List Exchange → Type 0
 AreShort xs = (x : Exchange) → Contains xs x → length x.reply ≤ 67108864
 
-counted_none : (b : Bool) (n m : ℕ) → b ≡ true → cond {A = ℕ} b n 0 + m ≡ 0 → n ≡ 0
-counted_none true n m is h = omega (arith, h)
-counted_none false n m is h = absurd (cc)
+counted_some : (b : Bool) (n m : ℕ) → b ≡ true → 0 < n → 0 < cond {A = ℕ} b n 0 + m
+counted_some true n m is h = omega (arith, h)
+counted_some false n m is h = absurd (cc)
 
 module _ (before : List Seen) (es : List EndpointParts) (graphs : List (List Triple)) (are_told : TellAll before es graphs) where
-  harmless_one : (o : Occurrence) (came : Came) (own : List Exchange) → ((e : EndpointParts) → Contains es e → e.iri ≡ o.iri → failure_of came ≡ 0) → AreShort own → IsShortFor es o → HasComeTo before es o.iri o.group came own → IsHarmless es o.iri came
+  harmless_one : (o : Occurrence) (came : Came) (own : List Exchange) → ((e : EndpointParts) → Contains es e → e.iri ≡ o.iri → 0 < failure_of came → e.optional ≡ true) → AreShort own → IsShortFor es o → HasComeTo before es o.iri o.group came own → IsHarmless es o.iri came
   harmless_one o (told rows) own none replies short h = tt
   harmless_one o (failed cause.Unknown) own none replies short h = h.0
-  harmless_one o (failed cause.Failed) own none replies short h = let zero_failed : 1 ≡ 0 = none h.0 h.1 h.2 in absurd (omega (arith, zero_failed))
+  harmless_one o (failed cause.Failed) own none replies short h = (h.0, h.1, h.2, none h.0 h.1 h.2 (omega arith))
   harmless_one o (failed (cause.Bad bad)) own none replies short (e, among, same, is) =
       let x : Exchange = exchanged e bad.request bad.reply in
       let graph = graph_of before es graphs e are_told (among_from es e among) in
@@ -109,77 +116,52 @@ module _ (before : List Seen) (es : List EndpointParts) (graphs : List (List Tri
   harmless (first ∷ cs) xs h none replies short c (inl same) =
       subst (λ (v : Call). IsHarmless es v.of.iri v.came) same
       (harmless_one first.of first.came h.0
-      (λ e among at. counted_none (bytes_eq first.of.iri e.iri) (failure_of first.came) (failures_at e.iri cs) ((bytes_eq-Decides first.of.iri e.iri).1 (sym at)) (none e among))
+      (λ e among at rose. none e among (counted_some (bytes_eq first.of.iri e.iri) (failure_of first.came) (failures_at e.iri cs) ((bytes_eq-Decides first.of.iri e.iri).1 (sym at)) rose))
       (λ x among. replies x (subst (λ (l : List Exchange). Contains l x) (sym h.2) (Contains-append_left h.0 h.1 x among)))
       (short first (inl refl))
       h.3)
   harmless (first ∷ cs) xs h none replies short c (inr m) =
       harmless cs h.1 h.5
-      (λ e among. let all : cond {A = ℕ} (bytes_eq first.of.iri e.iri) (failure_of first.came) 0 + failures_at e.iri cs ≡ 0 = none e among in omega (arith, all))
+      (λ e among rose. none e among (let some : 0 < failures_at e.iri cs = rose in omega (arith, some)))
       (λ x among. replies x (subst (λ (l : List Exchange). Contains l x) (sym h.2) (Contains-append_right h.0 h.1 x among)))
       (λ d n. short d (inr n))
       c
       m
 
--- ---- which are down
+-- ---- which may be down
 
-apart_above : (n k : ℕ) → n < k → (n == k) ≡ false
-apart_above n k high = grind (arith, high)
+-- one that is down and names an endpoint is silent, and queries can do without that endpoint
+gone_so : (es : List EndpointParts) (silent : Bool) (iri : List ℕ) (came : Came) → IsHarmless es iri came → has_gone silent came ≡ true → is_registered es iri ≡ true → (silent ≡ true) × IsAtOptional es iri
+gone_so es true iri (failed cause.Failed) harm gone is = (refl, harm)
+gone_so es true iri (failed cause.Unknown) harm gone is = let none : is_registered es iri ≡ false = unregistered_by es iri harm in absurd (let clash : true ≡ false = sym is ∙ none in cc)
+gone_so es true iri (failed (cause.Bad bad)) harm gone is = absurd harm
+gone_so es true iri (failed (cause.TooLong size)) harm gone is = absurd harm
+gone_so es false iri (failed why) harm gone is = absurd (cc)
+gone_so es silent iri (told rows) harm gone is = absurd (cc)
+gone_so es silent iri lost harm gone is = absurd (cc)
 
--- a number that isn't among others isn't among them with one more in front, if that is another
-not_there : (b : Bool) (m k : ℕ) (numbers : List ℕ) → (m == k) ≡ false → is_down numbers k ≡ false → is_down (if b then numbers else m ∷ numbers) k ≡ false
-not_there true m k numbers apart h = h
-not_there false m k numbers apart h = ap (λ (b : Bool). b || is_down numbers k) apart ∙ h
+-- so those that are down, with those that name no endpoint, may be
+may_be_down : (es : List EndpointParts) (asked : Query) (calls : List Call) → AreAllOrNone calls (occurrences asked) → ((c : Call) → Among c calls → IsHarmless es c.of.iri c.came) → MayBeDown es asked (places (down_in calls) ++ unregistered es 0 (occurrences asked))
+may_be_down es asked calls called each = record {
+  unknown = λ k o there none. down_right (places (down_in calls)) others k (unregistered_at es (occurrences asked) k o there ∙ ap not none);
+  known = λ k o there is down. by called k o there is (sym (down_left (places (down_in calls)) others k (unregistered_at es (occurrences asked) k o there ∙ ap not is)) ∙ down);
+}
+  where
+    others : List ℕ
+    others = unregistered es 0 (occurrences asked)
 
-above : (es : List EndpointParts) (m k : ℕ) (os : List Occurrence) → k < m → is_down (unregistered es m os) k ≡ false
-above es m k [] low = refl
-above es m k (o ∷ os) low = not_there (is_registered es o.iri) m k (unregistered es (suc m) os) (apart_below m k low) (above es (suc m) k os (omega (arith, low)))
+    none_down : (k : ℕ) → is_down (places (down_in [])) k ≡ true → ⊥
+    none_down k h = cc
 
-module _ (before : List Seen) (es : List EndpointParts) where
-  -- the numbers from one on, where the first occurrence has it
-  abbrev Numbers : ℕ → Occurrence → List Occurrence → List ℕ
-  Numbers n o os = unregistered es n (o ∷ os)
-
-  -- an occurrence that passed is down exactly where no endpoint has its IRI
-  first_agrees : (n : ℕ) (silent : Bool) (o : Occurrence) (came : Came) (os : List Occurrence) (own : List Exchange) → HasComeTo before es o.iri o.group came own → IsHarmless es o.iri came → Passes silent came → is_down (Numbers n o os) n ≡ has_gone silent came
-  first_agrees n silent o (told rows) os own h harm passes =
-      let others = unregistered es (suc n) os in
-      ap (λ (b : Bool). is_down (if b then others else n ∷ others) n) (registered_by es o.iri h.0 h.1 h.2) ∙ above es (suc n) n os (omega arith)
-  first_agrees n true o (failed cause.Unknown) os own h harm passes =
-      let others = unregistered es (suc n) os in
-      ap (λ (b : Bool). is_down (if b then others else n ∷ others) n) (unregistered_by es o.iri h.0) ∙ ap (λ (b : Bool). b || is_down others n) (the_same n)
-  first_agrees n true o (failed cause.Failed) os own h harm passes = absurd harm
-  first_agrees n true o (failed (cause.Bad bad)) os own h harm passes = absurd harm
-  first_agrees n true o (failed (cause.TooLong size)) os own h harm passes = absurd harm
-  first_agrees n false o (failed why) os own h harm passes = absurd (cc)
-  first_agrees n silent o lost os own h harm passes = absurd passes
-
-  -- the numbers behind the first
-  behind_first : (n k : ℕ) (o : Occurrence) (os : List Occurrence) → n < k → is_down (Numbers n o os) k ≡ is_down (unregistered es (suc n) os) k
-  behind_first n k o os high = by (is_registered es o.iri)
-    where
-      by : (b : Bool) → is_down (if b then unregistered es (suc n) os else n ∷ unregistered es (suc n) os) k ≡ is_down (unregistered es (suc n) os) k
-      by true = refl
-      by false = ap (λ (b : Bool). b || is_down (unregistered es (suc n) os) k) (apart_above n k high)
-
-  -- so are all that passed
-  each_agrees : (n : ℕ) (calls : List Call) (others : List Occurrence) (xs : List Exchange) → AreCalls before es calls xs → ((c : Call) → Among c calls → IsHarmless es c.of.iri c.came) → (i : ℕ) (c : Call) → slice_get calls i ≡ Some c → IsPassed c
-      → is_down (unregistered es n (map (λ c. c.of) calls ++ others)) (n + i) ≡ has_gone c.of.silent c.came
-  each_agrees n [] others xs h harm i c is passes = absurd (cc)
-  each_agrees n (d ∷ calls) others xs h harm zero c is passes =
-      let same : d ≡ c = cc in
-      let none : n + 0 ≡ n = omega arith in
-      let all = unregistered es n (d.of ∷ (map (λ c. c.of) calls ++ others)) in
-      ap (is_down all) none
-      ∙ first_agrees n d.of.silent d.of d.came (map (λ c. c.of) calls ++ others) h.0 h.3 (harm d (inl refl)) (subst IsPassed (sym same) passes)
-      ∙ ap (λ (v : Call). has_gone v.of.silent v.came) same
-  each_agrees n (d ∷ calls) others xs h harm (suc i) c is passes =
-      let next : n + suc i ≡ suc n + i = omega arith in
-      let high : n < suc n + i = omega arith in
-      let all = unregistered es n (d.of ∷ (map (λ c. c.of) calls ++ others)) in
-      ap (is_down all) next
-      ∙ behind_first n (suc n + i) d.of (map (λ c. c.of) calls ++ others) high
-      ∙ each_agrees (suc n) calls others h.1 h.5 (λ e m. harm e (inr m)) i c is passes
+    by : AreAllOrNone calls (occurrences asked) → (k : ℕ) (o : Occurrence) → slice_get (occurrences asked) k ≡ Some o → is_registered es o.iri ≡ true → is_down (places (down_in calls)) k ≡ true → (o.silent ≡ true) × IsAtOptional es o.iri
+    by (inl none) k o there is down = absurd (none_down k (subst (λ (l : List Call). is_down (places (down_in l)) k ≡ true) none down))
+    by (inr are) k o there is down =
+        let its = call_at calls k o (subst (λ (l : List Occurrence). slice_get l k ≡ Some o) (sym are) there) in
+        let c = its.call in
+        let same : 0 + k ≡ k = omega arith in
+        let gone : has_gone c.of.silent c.came ≡ true = sym (down_at 0 calls k c its.there) ∙ ap (is_down (places (down_in calls))) same ∙ down in
+        let registered : is_registered es c.of.iri ≡ true = ap (λ (v : Occurrence). is_registered es v.iri) its.of_it ∙ is in
+        subst (λ (v : Occurrence). (v.silent ≡ true) × IsAtOptional es v.iri) its.of_it (gone_so es c.of.silent c.of.iri c.came (each c its.among) gone registered)
 
 -- ---- texts of occurrences
 
@@ -230,11 +212,12 @@ module _ (es : List EndpointParts) (graphs : List (List Triple)) (block : ℕ) w
 -- no text of an occurrence of an endpoint is longer than it may be
 short_for : (es : List EndpointParts) (graphs : List (List Triple)) (graph_at : List ℕ → List Triple) (block : ℕ) (asked : Query) (o : Occurrence) → AreTextsShort es graphs graph_at block asked → Contains (occurrences asked) o → IsShortFor es o
 short_for es graphs graph_at block asked o short among e known same =
+    let all = of_kept (everybody es) graphs in
     let down = unregistered es 0 (occurrences asked) in
-    let rows = seeds asked (union graphs) graph_at down in
-    let x : Sent = text_to es graphs block e o in
-    let sent = text_sent_alone es graphs block (stations asked) rows o e (seeds_for_each asked (union graphs) graph_at down) (among_from (occurrences asked) o among) known same in
-    All-contains IsShort (x ∷ []) x (short (x ∷ []) sent) (contains_from (x ∷ []) x (inl refl)) (service_text o.group) refl
+    let rows = seeds asked (union all) graph_at down in
+    let x : Sent = text_to es all block e o in
+    let sent = text_sent_alone es all block (stations asked) rows o e (seeds_for_each asked (union all) graph_at down) (among_from (occurrences asked) o among) known same in
+    All-contains IsShort (x ∷ []) x (short (everybody es) (everybody_keeps es) down (unregistered_may es asked) (x ∷ []) sent) (contains_from (x ∷ []) x (inl refl)) (service_text o.group) refl
 
 -- ---- runs
 
@@ -249,35 +232,46 @@ runs_are_stations es graphs block (s ∷ stations) (rows ∷ seeds) texts h = (h
     one (station.run ps filters before) k = k
     one (station.service number silent iri g) k = inl k
 
--- ---- what the members refuse
+-- ---- the last round
 
--- what is known where nothing fails and nothing is too long
+-- what is known where nothing fails that is needed and nothing is too long
 pub record AllIsWell (es : List EndpointParts) (calls : List Call) (texts : List Sent) : Type 0 where
   pub each_harmless : (c : Call) → Among c calls → IsHarmless es c.of.iri c.came
   pub texts_short : All IsShort texts
 
-pub all_is_well : (w : WiresSeen) (es : List EndpointParts) (asked : Query) (graphs : List (List Triple)) (graph_at : List ℕ → List Triple) (entries : List Entry) (block : ℕ) (result : Result Outcome FedError) → TellAll w.before es graphs → Serve graph_at es graphs
-    → (fed : Federated w.tells w.alone w.before w.after es asked [] entries block result) → AreWell w es → AreRepliesShort w → AreTextsShort es graphs graph_at block asked → AllIsWell es fed.calls fed.texts
-all_is_well w es asked graphs graph_at entries block result are_told serve fed well replies short =
-    let calls = fed.calls in
-    let xs = fed.exchanges in
-    let none : NoneFailed es calls = λ e among.
-    let same : faults_at w.after e.iri ≡ faults_at w.before e.iri = All-contains (λ (x : EndpointParts). faults_at w.after x.iri ≡ faults_at w.before x.iri) es e well.1 among in
-    let counted : faults_at w.before e.iri + failures_at e.iri calls ≤ faults_at w.after e.iri = fed.counted e.iri in
-    omega (arith, same, counted) in
-    let fit : AreShort fed.of_calls = λ x among.
-    All-contains (λ (y : Exchange). length y.reply ≤ 67108864) xs x (replies xs (fed.gained well.0)) (Contains-permutation (fed.of_others ++ fed.of_calls) xs x fed.parted (Contains-append_right fed.of_others fed.of_calls x among)) in
-    let each = harmless w.before es graphs are_told calls fed.of_calls fed.are_calls none fit (λ c m. short_for es graphs graph_at block asked c.of short (of_query asked calls c fed.called (contains_from calls c m))) in
-    let down = unregistered es 0 (occurrences asked) in
-    let first = first_of calls (occurrences asked) fed.called in
-    let agrees : AgreesWith down calls = λ k c there passes before.
-    let same : 0 + k ≡ k = omega arith in
-    let theirs = each_agrees w.before es 0 calls first.others fed.of_calls fed.are_calls each k c there passes in
-    let so : is_down down (0 + k) ≡ has_gone c.of.silent c.came = subst (λ (l : List Occurrence). is_down (unregistered es 0 l) (0 + k) ≡ has_gone c.of.silent c.came) first.are theirs in
-    ap (is_down down) (sym same) ∙ so ∙ sym (down_at 0 calls k c there) ∙ ap (is_down (places (down_in calls))) same in
+-- an endpoint at whose address a fault was counted isn't needed
+pub not_needed : (w : WiresSeen) (es : List EndpointParts) (asked : Query) (e : EndpointParts) → AreWell w es asked → Contains es e → faults_at w.before e.iri < faults_at w.after e.iri → IsNeeded asked e → ⊥
+not_needed w es asked e well among rose needed =
+    let same : faults_at w.after e.iri ≡ faults_at w.before e.iri = All-contains (λ (x : EndpointParts). IsNeeded asked x → faults_at w.after x.iri ≡ faults_at w.before x.iri) es e well.1 among needed in
+    omega (arith, same, rose)
+
+is_optional : (b : Bool) → (b ≡ false → ⊥) → b ≡ true
+is_optional true h = refl
+is_optional false h = absurd (h refl)
+
+pub all_is_well : (w : WiresSeen) (es : List EndpointParts) (asked : Query) (graphs : List (List Triple)) (graph_at : List ℕ → List Triple) (entries : List Entry) (block : ℕ) (r : Result OutcomeInRounds FedError) → AllTell w.tells w.before → TellAll w.before es graphs → Serve graph_at es graphs
+    → (it : WentInRounds w.tells w.alone w.before w.after es asked [] entries block r) → AreWell w es asked → AreRepliesShort w → AreTextsShort es graphs graph_at block asked → AllIsWell es it.went.last.calls it.went.last.texts
+all_is_well w es asked graphs graph_at entries block r alike are_told serve it well replies short =
+    let last = it.went.last in
+    let calls = last.calls in
+    let kept = it.went.last_kept in
+    let theirs = of_kept kept graphs in
+    let none : NoneFailed es calls = λ e among some.
+    let some_failed : 0 < failures_at e.iri calls = some in
+    let counted : faults_at it.went.between e.iri + failures_at e.iri calls ≤ faults_at w.after e.iri = last.counted e.iri in
+    let before : faults_at w.before e.iri ≤ faults_at it.went.between e.iri = low_at_last w es asked entries block r alike it e.iri in
+    let rose : faults_at w.before e.iri < faults_at w.after e.iri = omega (arith, some_failed, counted, before) in
+    is_optional e.optional (λ required. not_needed w es asked e well among rose (inl required)) in
+    let fit : AreShort last.of_calls = λ x among.
+    short_at_last w es asked entries block r alike it well replies x (Contains-permutation (last.of_runs ++ last.of_calls) last.exchanges x last.parted (Contains-append_right last.of_runs last.of_calls x among)) in
+    let each = harmless it.went.between es graphs (told_at_last w es asked entries block r alike it graphs are_told) calls last.of_calls last.are_calls none fit (λ c m. short_for es graphs graph_at block asked c.of short (of_query asked calls c last.called (contains_from calls c m))) in
+    let down : List ℕ = places (down_in calls) ++ unregistered es 0 (occurrences asked) in
+    let agrees : AgreesWith down calls = agree_with it.went.between es asked calls last.of_calls last.called last.are_calls in
+    let over = planned_at_last w es asked entries block r alike it graphs graph_at are_told serve in
+    let sent = runs_are_stations es theirs block (stations asked) (seeds asked (union theirs) graph_at down) last.texts (last.runs theirs graph_at over down agrees) in
     record {
       each_harmless = each;
-      texts_short = short fed.texts (runs_are_stations es graphs block (stations asked) (seeds asked (union graphs) graph_at down) fed.texts (fed.of_runs graphs (known_from_nothing w.before es graphs are_told) graph_at serve down agrees));
+      texts_short = short kept (kept_at_last w es asked entries block r alike it) down (may_be_down es asked calls last.called each) last.texts sent;
     }
 
 -- no occurrence without SILENT has a bad reply, or a text that is too long

@@ -1,13 +1,15 @@
 -- That a run comes to its end: where its files are accepted, each SERVICE is such as it can take, nothing fails and nothing is too long, it is done, or memory
--- ran out. Of `query` and `explain` it is said where no member may be left out.
-use Rattle.std.specs.Prelude.{◌≡◌, ◌≤◌, ◌⊎◌, ℕ, List, [], length, All, IsTrue, None, Option, Some}
+-- ran out. A fault at an endpoint that queries can do without ends neither `query` nor `explain`, unless a SERVICE without SILENT names its address.
+use Rattle.std.specs.Prelude.{◌≡◌, ◌≤◌, ◌⊎◌, ℕ, Bool, false, true, List, [], length, slice_get, All, Contains, IsTrue, None, Option, Some}
 use Rattle.fx_terms.specs.declared.triples.Triple.{Triple}
 use Rattle.fx_outside.specs.Doors.{DoorSeen}
 use Rattle.fx_outside.specs.Endpoints.{EndpointParts}
 use Rattle.fx_outside.specs.Faults.{HasRisen}
 use Rattle.fx_algebra.specs.Cuts.{seeds, stations}
 use Rattle.fx_algebra.specs.Graphs.{union}
+use Rattle.fx_algebra.specs.Groups.{is_down}
 use Rattle.fx_algebra.specs.Occurrences.{services}
+use Rattle.fx_algebra.specs.Units.{is_kept, of_kept}
 use Rattle.fx_algebra.specs.declared.queries.Query.{Query}
 use Rattle.fx_grammar.specs.Accepted.{Accepted}
 use Rattle.fx_http.specs.Requests.{request_of}
@@ -20,7 +22,8 @@ use Rattle.fx_traffic.specs.Traffic.{AreStationsSent}
 use Rattle.fx_wire.specs.Exchanges.{Exchange}
 use Rattle.fx_outcomes.specs.Calls.{occurrences}
 use Rattle.fx_outcomes.specs.Mediation.{Serve}
-use Rattle.fx_walks.specs.Unknown.{unknown_of}
+use Rattle.fx_services.specs.Beside.{Occurrence}
+use Rattle.fx_walks.specs.Unknown.{is_registered, unknown_of}
 use Rattle.fx_local.specs.Limits.{graph_limit, query_limit}
 use Rattle.fx_local.specs.declared.statuses.Status.{Status}
 use Rattle.fx_local.specs.declared.statuses.Status.TheVariants as status
@@ -30,7 +33,6 @@ use Rattle.fx_local.specs.GraphTexts.{IsGraphText}
 use Rattle.fx_program.specs.Headline.{IsTold}
 use Rattle.fx_local.specs.Services.{first_plain}
 use Rattle.fx_commands.specs.Asking.{IsUnmarked}
-use Rattle.fx_rounds.specs.Down.{unregistered}
 use Rattle.fx_local.specs.Sinks.{SinkWritten}
 
 -- ---- nothing fails
@@ -41,9 +43,13 @@ IsReadWell f = f.after ≡ f.before
 abbrev pub IsWrittenWell : SinkWritten → Type 0
 IsWrittenWell s = HasRisen s.before s.after → ⊥
 
--- the wires tell what was exchanged, and no fault was counted at the address of an endpoint
-abbrev pub AreWell : WiresSeen → List EndpointParts → Type 0
-AreWell w endpoints = IsTrue w.tells × All (λ e. faults_at w.after e.iri ≡ faults_at w.before e.iri) endpoints
+-- queries can't do without the endpoint, or an occurrence of SERVICE without SILENT names its address
+abbrev pub IsNeeded : Query → EndpointParts → Type 0
+IsNeeded asked e = IsUnmarked e ⊎ ((o : Occurrence) × Contains (occurrences asked) o × (o.silent ≡ false) × (o.iri ≡ e.iri))
+
+-- the wires tell what was exchanged, and no fault was counted at the address of an endpoint that is needed so
+abbrev pub AreWell : WiresSeen → List EndpointParts → Query → Type 0
+AreWell w endpoints asked = IsTrue w.tells × All (λ e. IsNeeded asked e → faults_at w.after e.iri ≡ faults_at w.before e.iri) endpoints
 
 -- ---- nothing is too long
 
@@ -55,10 +61,21 @@ AreRepliesShort w = (exchanges : List Exchange) → HaveGained w.before w.after 
 abbrev pub AreAsksShort : List EndpointParts → Query → Type 0
 AreAsksShort endpoints asked = All (λ (p : Probe). length (ask_text p.key.pattern) ≤ 67108864) (missing asked (length endpoints) [])
 
--- nor any text that may be sent for the query over these graphs, where each IRI has a graph, and those occurrences of SERVICE are down that name no endpoint
+-- the marks keep each endpoint that queries can't do without
+abbrev pub KeepRequired : List EndpointParts → List Bool → Type 0
+KeepRequired endpoints kept = (at : ℕ) (e : EndpointParts) → slice_get endpoints at ≡ Some e → IsUnmarked e → is_kept kept at ≡ true
+
+-- Occurrences of SERVICE of these numbers may be down: all that name no endpoint, and of the others silent ones alone, each at the address of an endpoint that queries can do without.
+pub record MayBeDown (endpoints : List EndpointParts) (asked : Query) (down : List ℕ) : Type 0 where
+  pub unknown : (k : ℕ) (o : Occurrence) → slice_get (occurrences asked) k ≡ Some o → is_registered endpoints o.iri ≡ false → is_down down k ≡ true
+  pub known : (k : ℕ) (o : Occurrence) → slice_get (occurrences asked) k ≡ Some o → is_registered endpoints o.iri ≡ true → is_down down k ≡ true
+      → (o.silent ≡ true) × ((e : EndpointParts) × Contains endpoints e × (e.iri ≡ o.iri) × (e.optional ≡ true))
+
+-- nor any text that may be sent for the query over the graphs of the endpoints that are kept, where each IRI has a graph, whichever occurrences are down of those that may be
 abbrev pub AreTextsShort : List EndpointParts → List (List Triple) → (List ℕ → List Triple) → ℕ → Query → Type 0
 AreTextsShort endpoints graphs graph_at block asked =
-    (texts : List Sent) → AreStationsSent endpoints graphs block (stations asked) (seeds asked (union graphs) graph_at (unregistered endpoints 0 (occurrences asked))) texts
+    (kept : List Bool) → KeepRequired endpoints kept → (down : List ℕ) → MayBeDown endpoints asked down
+    → (texts : List Sent) → AreStationsSent endpoints (of_kept kept graphs) block (stations asked) (seeds asked (union (of_kept kept graphs)) graph_at down) texts
     → All (λ (x : Sent). (text : List ℕ) → x.request ≡ request_of x.at text → length text ≤ 67108864) texts
 
 -- ---- each command
@@ -70,13 +87,13 @@ abbrev pub Completes : (List ℕ → FileRead) → WiresSeen → DoorSeen → Do
 Completes read w door later None s out err = Unit {0}
 Completes read w door later (Some (over_members r q workers block)) s out err =
     (endpoints : List EndpointParts) (asked : Query) (graphs : List (List Triple)) (graph_at : List ℕ → List Triple) → IsTold w (read r) (read q) endpoints asked graphs → Serve graph_at endpoints graphs
-    → All IsUnmarked endpoints → unknown_of endpoints asked ≡ None
-    → IsReadWell (read r) → IsReadWell (read q) → AreWell w endpoints → IsWrittenWell out → IsWrittenWell err
+    → unknown_of endpoints asked ≡ None
+    → IsReadWell (read r) → IsReadWell (read q) → AreWell w endpoints asked → IsWrittenWell out → IsWrittenWell err
     → AreRepliesShort w → AreAsksShort endpoints asked → AreTextsShort endpoints graphs graph_at block asked
     → IsDoneOrWant s
 Completes read w door later (Some (planned r q)) s out err =
-    (endpoints : List EndpointParts) (asked : Query) (graphs : List (List Triple)) → IsTold w (read r) (read q) endpoints asked graphs → All IsUnmarked endpoints → unknown_of endpoints asked ≡ None
-    → IsReadWell (read r) → IsReadWell (read q) → AreWell w endpoints → IsWrittenWell out → IsWrittenWell err
+    (endpoints : List EndpointParts) (asked : Query) (graphs : List (List Triple)) → IsTold w (read r) (read q) endpoints asked graphs → unknown_of endpoints asked ≡ None
+    → IsReadWell (read r) → IsReadWell (read q) → AreWell w endpoints asked → IsWrittenWell out → IsWrittenWell err
     → AreRepliesShort w → AreAsksShort endpoints asked
     → IsDoneOrWant s
 Completes read w door later (Some (over_file g q)) s out err =
