@@ -18,12 +18,12 @@ use Rattle.fx_rounds.specs.LeftOut.{left_in}
 use Rattle.fx_rounds.proofs.PlannedLemmas.{plans_rest_on_this}
 use Rattle.fx_local.specs.Limits.{query_limit, registry_limit}
 use Rattle.fx_local.specs.declared.statuses.Status.{Status}
-use Rattle.fx_commands.specs.Explain.{IsExplainDone, IsExplainReported, IsExplanation, IsExplanationOf, IsPlanText, IsPlanWritten}
+use Rattle.fx_commands.specs.Explain.{IsExplainCut, IsExplainDone, IsExplainReported, IsExplanation, IsExplanationOf, IsPlanCut, IsPlanText, IsPlanWritten}
 use Rattle.fx_commands.specs.FedRefusals.{IsGivenEnd, fed_line, fed_status_of}
 use Rattle.fx_local.specs.Files.{FileRead}
 use Rattle.fx_local.specs.LocalSteps.{GivesQuery}
 use Rattle.fx_commands.specs.MemberLines.{plan_lines}
-use Rattle.fx_commands.specs.MemberSteps.{IsLaidOut, IsLayoutDone, IsLayoutReported}
+use Rattle.fx_commands.specs.MemberSteps.{IsLaidOut, IsLayoutCut, IsLayoutDone, IsLayoutReported}
 use Rattle.fx_local.specs.RegistryFiles.{GivesRegistry}
 use Rattle.fx_local.specs.Sinks.{SinkWritten}
 use Rattle.fx_commands.proofs.QueryLemmas.{want_before}
@@ -71,6 +71,10 @@ pub plan_done : (w : WiresSeen) (es : List EndpointParts) (asked : Query) (p : P
 plan_done w es asked p out err registry (inl none) wrote = absurd (none_planned p none.1)
 plan_done w es asked p out err registry (inr given) wrote = (p, registry, given, wrote)
 
+pub plan_cut : (w : WiresSeen) (es : List EndpointParts) (asked : Query) (p : PlanInRounds) (out : SinkWritten) → IsRegistry es → IsLaidOut w es asked (Ok p) → IsPlanCut es p out → IsLayoutCut w es asked out
+plan_cut w es asked p out registry (inl none) wrote = absurd (none_planned p none.1)
+plan_cut w es asked p out registry (inr given) wrote = (p, registry, given, wrote)
+
 pub plan_refused : (w : WiresSeen) (es : List EndpointParts) (asked : Query) (e : FedError) (s : Status) → IsRegistry es → s ≡ fed_status_of e → IsLaidOut w es asked (Err e) → IsLayoutReported w es asked s (fed_line e)
 plan_refused w es asked e s registry is (inl none) = let same = the_want (Err e) e refl none.1 in inl (none.0, (is ∙ ap fed_status_of same, ap fed_line same))
   where
@@ -84,6 +88,9 @@ plan_explained w r q es asked s text g h (inr (result, registry, planned, end)) 
 
 pub explain_done : (w : WiresSeen) (r q : FileRead) (es : List EndpointParts) (asked : Query) (out err : SinkWritten) → GivesRegistry r (Ok es) → GivesQuery q (Ok asked) → IsLayoutDone w es asked out err → IsExplainDone w r q out err
 explain_done w r q es asked out err g h (p, registry, planned, wrote) = (p, record { endpoints = es; registered = g; registry = registry; asked = asked; accepted = h; planned = planned }, wrote)
+
+pub explain_cut : (w : WiresSeen) (r q : FileRead) (es : List EndpointParts) (asked : Query) (out : SinkWritten) → GivesRegistry r (Ok es) → GivesQuery q (Ok asked) → IsLayoutCut w es asked out → IsExplainCut w r q out
+explain_cut w r q es asked out g h (p, registry, planned, wrote) = (p, record { endpoints = es; registered = g; registry = registry; asked = asked; accepted = h; planned = planned }, wrote)
 
 pub an_explanation : (wires : List Seen) (r q : FileRead) (es : List EndpointParts) (asked : Query) (text : List ℕ) → GivesRegistry r (Ok es) → GivesQuery q (Ok asked) → IsPlanText wires es asked text → IsExplanation wires r q text
 an_explanation wires r q es asked text g h k = pick r.content g

@@ -3,6 +3,7 @@ use Rattle.std.proofs.Common.{◌≡◌, ◌∙◌, ap, sym, subst, refl, ℕ, �
 use Rattle.std.specs.Prelude.{IfSome, Result}
 use Rattle.std.proofs.lemmas.List.Elements.{All-nil}
 use Rattle.fx_outside.specs.Endpoints.{EndpointParts}
+use Rattle.fx_outside.specs.Streams.{AppendsFront}
 use Rattle.fx_terms.specs.declared.triples.Triple.{Triple}
 use Rattle.fx_algebra.specs.declared.queries.Query.{Query}
 use Rattle.fx_grammar.specs.Accepted.{Accepted}
@@ -30,9 +31,9 @@ use Rattle.fx_commands.specs.FedRefusals.{IsGivenEnd, fed_line, fed_status_of}
 use Rattle.fx_local.specs.Files.{FileRead, IsRegistryFile}
 use Rattle.fx_commands.specs.MemberLines.{answer_lines}
 use Rattle.fx_local.specs.LocalSteps.{GivesQuery, IsDocumentWritten, IsLineReported, query_line}
-use Rattle.fx_commands.specs.MemberSteps.{IsAnswerDone, IsAnswerReported, IsAnswered, IsWant}
+use Rattle.fx_commands.specs.MemberSteps.{IsAnswerCut, IsAnswerDone, IsAnswerReported, IsAnswered, IsWant}
 use Rattle.fx_local.specs.RegistryFiles.{GivesRegistry, registry_line}
-use Rattle.fx_commands.specs.Query.{IsOutcomeWritten, IsQueryDone, IsQueryReported, IsUnionAnswer, IsUnionAnswerOf, IsUnionDocument}
+use Rattle.fx_commands.specs.Query.{IsOutcomeCut, IsOutcomeWritten, IsQueryCut, IsQueryDone, IsQueryReported, IsUnionAnswer, IsUnionAnswerOf, IsUnionDocument}
 use Rattle.fx_local.specs.RefusalStatuses.{query_status, registry_status}
 use Rattle.fx_local.specs.Sinks.{IsCutShort, SinkWritten, Wrote}
 
@@ -156,6 +157,22 @@ registry_not_done (registry.Refused (error.RepeatedUrl n)) h = cc
 registry_not_done (registry.Refused error.Memory) h = cc
 registry_not_done registry.Memory h = cc
 
+pub registry_not_cut : (e : RegistryRefusal) → registry_status e ≡ status.WriteFault → ⊥
+registry_not_cut registry.Fault h = cc
+registry_not_cut registry.TooLong h = cc
+registry_not_cut (registry.Refused (error.Bad n)) h = cc
+registry_not_cut (registry.Refused (error.TooMany n)) h = cc
+registry_not_cut (registry.Refused (error.RepeatedName n)) h = cc
+registry_not_cut (registry.Refused (error.RepeatedUrl n)) h = cc
+registry_not_cut (registry.Refused error.Memory) h = cc
+registry_not_cut registry.Memory h = cc
+
+pub query_not_cut : (e : QueryRefusal) → query_status e ≡ status.WriteFault → ⊥
+query_not_cut query.Fault h = cc
+query_not_cut query.TooLong h = cc
+query_not_cut (query.Refused kind at) h = cc
+query_not_cut query.Memory h = cc
+
 pub query_not_done : (e : QueryRefusal) → query_status e ≡ status.Done → ⊥
 query_not_done query.Fault h = cc
 query_not_done query.TooLong h = cc
@@ -194,6 +211,10 @@ pub given_done : (w : WiresSeen) (es : List EndpointParts) (asked : Query) (bloc
 given_done w es asked block all out err registry (inl none) wrote = absurd (none_given all none.1)
 given_done w es asked block all out err registry (inr given) wrote = (all, registry, given, wrote)
 
+pub given_cut : (w : WiresSeen) (es : List EndpointParts) (asked : Query) (block : ℕ) (all : OutcomeInRounds) (out : SinkWritten) → IsRegistry es → IsAnswered w es asked block (Ok all) → IsOutcomeCut all out → IsAnswerCut w es asked block out
+given_cut w es asked block all out registry (inl none) wrote = absurd (none_given all none.1)
+given_cut w es asked block all out registry (inr given) wrote = (all, registry, given, wrote)
+
 -- a refusal by the members is reported
 pub refusal_reported : (w : WiresSeen) (es : List EndpointParts) (asked : Query) (block : ℕ) (e : FedError) (s : Status) → IsRegistry es → s ≡ fed_status_of e → IsAnswered w es asked block (Err e) → IsAnswerReported w es asked block s (fed_line e)
 refusal_reported w es asked block e s registry is (inl none) = let same = the_want (Err e) e refl none.1 in inl (none.0, (is ∙ ap fed_status_of same, ap fed_line same))
@@ -210,6 +231,9 @@ answer_reported w r q es asked block s text g h (inr (result, registry, federate
 
 pub query_done : (w : WiresSeen) (r q : FileRead) (es : List EndpointParts) (asked : Query) (block : ℕ) (out err : SinkWritten) → GivesRegistry r (Ok es) → GivesQuery q (Ok asked) → IsAnswerDone w es asked block out err → IsQueryDone w r q block out err
 query_done w r q es asked block out err g h (all, registry, federated, wrote) = (all, record { endpoints = es; registered = g; registry = registry; asked = asked; accepted = h; federated = federated }, wrote)
+
+pub query_cut : (w : WiresSeen) (r q : FileRead) (es : List EndpointParts) (asked : Query) (block : ℕ) (out : SinkWritten) → GivesRegistry r (Ok es) → GivesQuery q (Ok asked) → IsAnswerCut w es asked block out → IsQueryCut w r q block out
+query_cut w r q es asked block out g h (all, registry, federated, wrote) = (all, record { endpoints = es; registered = g; registry = registry; asked = asked; accepted = h; federated = federated }, wrote)
 
 pub a_union : (wires : List Seen) (r q : FileRead) (es : List EndpointParts) (asked : Query) (text : List ℕ) → GivesRegistry r (Ok es) → GivesQuery q (Ok asked) → IsUnionDocument wires es asked text → IsUnionAnswer wires r q text
 a_union wires r q es asked text g h k = pick r.content g
@@ -228,6 +252,12 @@ a_union wires r q es asked text g h k = pick r.content g
 pub cut_so : (P Q : List ℕ → Type 0) → ((text : List ℕ) → P text → Q text) → (out err : SinkWritten) → IsCutShort P out err → IsCutShort Q out err
 cut_so P Q f out err (inl k) = inl k
 cut_so P Q f out err (inr k) = inr ((λ told. let w = k.0.0 told in (w.0, f w.0 w.1, w.2), k.0.1), k.1)
+
+-- a front of the document was written
+pub front_cut : (document : List ℕ) (s : Status) (old new : List ℕ) → s ≡ status.WriteFault → Wrote (λ text. text ≡ document) s old new → AppendsFront old new document
+front_cut document s old new cut wrote =
+    let w = subst (λ (v : Status). Wrote (λ text. text ≡ document) v old new) cut wrote in
+    subst (AppendsFront old new) w.1 w.2
 
 -- a document that is written, and then lines
 pub lines_given : (lines : List ℕ) (s : Status) (text : List ℕ) → IsLineReported lines s text → IsGivenEnd lines s text

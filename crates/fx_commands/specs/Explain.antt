@@ -2,6 +2,7 @@
 use Rattle.std.specs.Prelude.{◌≡◌, ◌⊎◌, ◌+◌, ◌≤◌, ◌++◌, ℕ, Bool, List, [], All, IfSome, IsTrue, Ok, Result}
 use Rattle.fx_terms.specs.declared.triples.Triple.{Triple}
 use Rattle.fx_outside.specs.Endpoints.{EndpointParts}
+use Rattle.fx_outside.specs.Streams.{AppendsFront}
 use Rattle.fx_algebra.specs.Units.{of_kept, sources}
 use Rattle.fx_algebra.specs.declared.queries.Query.{Query}
 use Rattle.fx_grammar.specs.Accepted.{Accepted}
@@ -75,6 +76,18 @@ IsPlanWritten endpoints p out err = (IsTrue out.tells → out.new ≡ out.old ++
 -- there is a plan, and this was written
 abbrev pub IsExplainDone : WiresSeen → FileRead → FileRead → SinkWritten → SinkWritten → Type 0
 IsExplainDone w r q out err = (p : PlanInRounds) × (f : IsPlanned w r q (Ok p)) × IsPlanWritten f.endpoints p out err
+
+-- ---- a plan whose text is cut short
+
+-- standard output has a front of the text of the plan
+abbrev pub IsPlanCut : List EndpointParts → PlanInRounds → SinkWritten → Type 0
+IsPlanCut endpoints p out = IsTrue out.tells → AppendsFront out.old out.new (explained p.parts.items endpoints)
+
+-- there is a plan, and standard output has a front of its text
+abbrev pub IsExplainCut : WiresSeen → FileRead → FileRead → SinkWritten → Type 0
+IsExplainCut w r q out = (p : PlanInRounds) × (f : IsPlanned w r q (Ok p)) × IsPlanCut f.endpoints p out
+
+-- ---- faults
 
 -- At each address as many faults were counted at least as lines on standard error say of it that the wire failed, each for a member that is left out; and where none is, no fault was counted.
 pub record CountsLeftBy (endpoints : List EndpointParts) (before after : List Seen) (err : SinkWritten) : Type 0 where

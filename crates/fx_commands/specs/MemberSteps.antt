@@ -14,8 +14,8 @@ use Rattle.fx_traffic.specs.Gains.{WiresSeen}
 use Rattle.fx_commands.specs.FedRefusals.{IsEnd}
 use Rattle.fx_local.specs.Lines.{no_memory}
 use Rattle.fx_commands.specs.MemberLines.{answer_lines, plan_lines}
-use Rattle.fx_commands.specs.Explain.{IsPlanWritten}
-use Rattle.fx_commands.specs.Query.{IsOutcomeWritten}
+use Rattle.fx_commands.specs.Explain.{IsPlanCut, IsPlanWritten}
+use Rattle.fx_commands.specs.Query.{IsOutcomeCut, IsOutcomeWritten}
 use Rattle.fx_local.specs.Sinks.{SinkWritten}
 
 -- a query was asked for with a new cache, unless there was no memory for that
@@ -39,6 +39,10 @@ IsAnswerReported w endpoints q block s text =
 abbrev pub IsAnswerDone : WiresSeen → List EndpointParts → Query → ℕ → SinkWritten → SinkWritten → Type 0
 IsAnswerDone w endpoints q block out err = (all : OutcomeInRounds) × IsRegistry endpoints × WasAsked w endpoints q block (Ok all) × IsOutcomeWritten endpoints all out err
 
+-- the members gave something, and a front of it was written
+abbrev pub IsAnswerCut : WiresSeen → List EndpointParts → Query → ℕ → SinkWritten → Type 0
+IsAnswerCut w endpoints q block out = (all : OutcomeInRounds) × IsRegistry endpoints × WasAsked w endpoints q block (Ok all) × IsOutcomeCut all out
+
 -- what printing the plan of a query reports
 abbrev pub IsLayoutReported : WiresSeen → List EndpointParts → Query → Status → List ℕ → Type 0
 IsLayoutReported w endpoints q s text =
@@ -48,3 +52,7 @@ IsLayoutReported w endpoints q s text =
 -- the plan was made, and it and the lines behind it were written
 abbrev pub IsLayoutDone : WiresSeen → List EndpointParts → Query → SinkWritten → SinkWritten → Type 0
 IsLayoutDone w endpoints q out err = (p : PlanInRounds) × IsRegistry endpoints × WasPlanned w endpoints q (Ok p) × IsPlanWritten endpoints p out err
+
+-- the plan was made, and a front of it was written
+abbrev pub IsLayoutCut : WiresSeen → List EndpointParts → Query → SinkWritten → Type 0
+IsLayoutCut w endpoints q out = (p : PlanInRounds) × IsRegistry endpoints × WasPlanned w endpoints q (Ok p) × IsPlanCut endpoints p out

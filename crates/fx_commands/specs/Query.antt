@@ -1,6 +1,7 @@
 -- What `fedx query` does.
 use Rattle.std.specs.Prelude.{◌≡◌, ◌⊎◌, ◌+◌, ◌≤◌, ℕ, Bool, List, [], ◌++◌, All, IfSome, IsTrue, Ok, Result}
 use Rattle.fx_outside.specs.Endpoints.{EndpointParts}
+use Rattle.fx_outside.specs.Streams.{AppendsFront}
 use Rattle.fx_terms.specs.declared.triples.Triple.{Triple}
 use Rattle.fx_algebra.specs.Answers.{answer}
 use Rattle.fx_algebra.specs.Graphs.{union}
@@ -80,6 +81,18 @@ IsOutcomeWritten endpoints all out err = (IsTrue out.tells → out.new ≡ out.o
 -- the members gave something, and this was written
 abbrev pub IsQueryDone : WiresSeen → FileRead → FileRead → ℕ → SinkWritten → SinkWritten → Type 0
 IsQueryDone w r q block out err = (all : OutcomeInRounds) × (f : IsFederated w r q block (Ok all)) × IsOutcomeWritten f.endpoints all out err
+
+-- ---- a query whose document is cut short
+
+-- standard output has a front of the document of what the members gave
+abbrev pub IsOutcomeCut : OutcomeInRounds → SinkWritten → Type 0
+IsOutcomeCut all out = IsTrue out.tells → AppendsFront out.old out.new (document all.outcome.answer)
+
+-- the members gave something, and standard output has a front of its document
+abbrev pub IsQueryCut : WiresSeen → FileRead → FileRead → ℕ → SinkWritten → Type 0
+IsQueryCut w r q block out = (all : OutcomeInRounds) × IsFederated w r q block (Ok all) × IsOutcomeCut all out
+
+-- ---- faults
 
 -- For a query, at each address as many faults were counted at least as lines on standard error say of it that the wire failed, each for a member that is left out or for an occurrence of SERVICE SILENT
 -- of this query; and where no member is left out, no more.

@@ -4,12 +4,12 @@ ghost use Rattle.fx_grammar.specs.Accepted.{IsSpellable};
 ghost use Rattle.fx_plan.specs.Explained.{HasMembers, explained};
 ghost use Rattle.fx_traffic.specs.Gains.{AreAfter, wires_seen};
 ghost use Rattle.fx_local.specs.Counts.{CountsOnly};
-ghost use Rattle.fx_commands.specs.Explain.{CountsLeft, IsExplainDone, IsExplainReported, IsExplainWritten, IsExplanation, IsPlanText, IsPlanWritten};
+ghost use Rattle.fx_commands.specs.Explain.{CountsLeft, IsExplainCut, IsExplainDone, IsExplainReported, IsExplainWritten, IsExplanation, IsPlanText, IsPlanWritten};
 ghost use Rattle.fx_commands.specs.FedRefusals.{IsGivenEnd};
 ghost use Rattle.fx_local.specs.Files.{file_read};
 ghost use Rattle.fx_local.specs.Lines.{Gains};
 ghost use Rattle.fx_commands.specs.MemberLines.{plan_lines};
-ghost use Rattle.fx_commands.specs.MemberSteps.{IsLaidOut, IsLayoutDone, IsLayoutReported};
+ghost use Rattle.fx_commands.specs.MemberSteps.{IsLaidOut, IsLayoutCut, IsLayoutDone, IsLayoutReported};
 ghost use Rattle.fx_local.specs.Sinks.{IsCutShort, Wrote, sink_written};
 
 use crate::lines::left_lines;
@@ -47,6 +47,7 @@ pub fn run_explain<R: Threads + Wait + Sync, F: Files, W: Wire + Send, O: Sink, 
     ensures done { result ≡ Status.Done → IsExplainDone (wires_seen W.tells_log W.counts_alone W.seen wires.old wires.new) (file_read (F.seen files.old) (F.seen files.new) registry.now) (file_read (F.seen files.old) (F.seen files.new) query.now) (sink_written O.tells_held O.held O.write_faults out.old out.new) (sink_written E.tells_held E.held E.write_faults err.old err.new) }
     ensures endpoint_faults { IsTrue W.counts_alone → result ≡ Status.Done → CountsLeft (file_read (F.seen files.old) (F.seen files.new) registry.now) (map W.seen wires.old) (map W.seen wires.new) (sink_written E.tells_held E.held E.write_faults err.old err.new) }
     ensures wired { AreAfter (map W.seen wires.old) (map W.seen wires.new) }
+    ensures cut { result ≡ Status.WriteFault → IsExplainCut (wires_seen W.tells_log W.counts_alone W.seen wires.old wires.new) (file_read (F.seen files.old) (F.seen files.new) registry.now) (file_read (F.seen files.old) (F.seen files.new) query.now) (sink_written O.tells_held O.held O.write_faults out.old out.new) }
     ensures write_fault { result ≡ Status.WriteFault → IsCutShort (IsExplanation (map W.seen wires.old) (file_read (F.seen files.old) (F.seen files.new) registry.now) (file_read (F.seen files.old) (F.seen files.new) query.now)) (sink_written O.tells_held O.held O.write_faults out.old out.new) (sink_written E.tells_held E.held E.write_faults err.old err.new) }
     ensures unfailed { ¬ (result ≡ Status.WriteFault) → O.write_faults out.new ≡ O.write_faults out.old }
     ensures unfailed_lines { result ≡ Status.Done → E.write_faults err.new ≡ E.write_faults err.old }
@@ -85,6 +86,7 @@ fn explain_members<R: Threads + Wait + Sync, W: Wire + Send, O: Sink, E: Sink>(
     ensures written { IsTrue O.tells_held → Wrote (IsPlanText (map W.seen wires.old) members.now query.now) result (O.held out.old) (O.held out.new) }
     ensures done { result ≡ Status.Done → IsLayoutDone (wires_seen W.tells_log W.counts_alone W.seen wires.old wires.new) members.now query.now (sink_written O.tells_held O.held O.write_faults out.old out.new) (sink_written E.tells_held E.held E.write_faults err.old err.new) }
     ensures wired { AreAfter (map W.seen wires.old) (map W.seen wires.new) }
+    ensures cut { result ≡ Status.WriteFault → IsLayoutCut (wires_seen W.tells_log W.counts_alone W.seen wires.old wires.new) members.now query.now (sink_written O.tells_held O.held O.write_faults out.old out.new) }
     ensures write_fault { result ≡ Status.WriteFault → IsCutShort (IsPlanText (map W.seen wires.old) members.now query.now) (sink_written O.tells_held O.held O.write_faults out.old out.new) (sink_written E.tells_held E.held E.write_faults err.old err.new) }
     ensures unfailed { ¬ (result ≡ Status.WriteFault) → O.write_faults out.new ≡ O.write_faults out.old }
     ensures unfailed_lines { result ≡ Status.Done → E.write_faults err.new ≡ E.write_faults err.old }

@@ -8,8 +8,8 @@ ghost use Rattle.fx_commands.specs.FedRefusals.{IsGivenEnd};
 ghost use Rattle.fx_local.specs.Files.{file_read};
 ghost use Rattle.fx_local.specs.Lines.{Gains};
 ghost use Rattle.fx_commands.specs.MemberLines.{answer_lines};
-ghost use Rattle.fx_commands.specs.MemberSteps.{IsAnswerDone, IsAnswerReported, IsAnswered};
-ghost use Rattle.fx_commands.specs.Query.{CountsDownBy, IsOutcomeWritten, IsQueryDone, IsQueryReported, IsQueryWritten, IsUnionAnswer, IsUnionDocument};
+ghost use Rattle.fx_commands.specs.MemberSteps.{IsAnswerCut, IsAnswerDone, IsAnswerReported, IsAnswered};
+ghost use Rattle.fx_commands.specs.Query.{CountsDownBy, IsOutcomeWritten, IsQueryCut, IsQueryDone, IsQueryReported, IsQueryWritten, IsUnionAnswer, IsUnionDocument};
 ghost use Rattle.fx_local.specs.Sinks.{IsCutShort, Wrote, sink_written};
 
 use crate::lines;
@@ -48,6 +48,7 @@ pub fn run_query<R: Threads + Wait + Sync, F: Files, W: Wire + Send, O: Sink, E:
     ensures reported { (text : List ℕ) × IsQueryReported (wires_seen W.tells_log W.counts_alone W.seen wires.old wires.new) (file_read (F.seen files.old) (F.seen files.new) registry.now) (file_read (F.seen files.old) (F.seen files.new) query.now) block result text × (IsTrue E.tells_held → Gains (E.held err.old) (E.held err.new) (E.write_faults err.old) (E.write_faults err.new) text) }
     ensures written { IsTrue O.tells_held → IsQueryWritten (map W.seen wires.old) (file_read (F.seen files.old) (F.seen files.new) registry.now) (file_read (F.seen files.old) (F.seen files.new) query.now) result (O.held out.old) (O.held out.new) }
     ensures done { result ≡ Status.Done → IsQueryDone (wires_seen W.tells_log W.counts_alone W.seen wires.old wires.new) (file_read (F.seen files.old) (F.seen files.new) registry.now) (file_read (F.seen files.old) (F.seen files.new) query.now) block (sink_written O.tells_held O.held O.write_faults out.old out.new) (sink_written E.tells_held E.held E.write_faults err.old err.new) }
+    ensures cut { result ≡ Status.WriteFault → IsQueryCut (wires_seen W.tells_log W.counts_alone W.seen wires.old wires.new) (file_read (F.seen files.old) (F.seen files.new) registry.now) (file_read (F.seen files.old) (F.seen files.new) query.now) block (sink_written O.tells_held O.held O.write_faults out.old out.new) }
     ensures wired { AreAfter (map W.seen wires.old) (map W.seen wires.new) }
     ensures write_fault { result ≡ Status.WriteFault → IsCutShort (IsUnionAnswer (map W.seen wires.old) (file_read (F.seen files.old) (F.seen files.new) registry.now) (file_read (F.seen files.old) (F.seen files.new) query.now)) (sink_written O.tells_held O.held O.write_faults out.old out.new) (sink_written E.tells_held E.held E.write_faults err.old err.new) }
     ensures unfailed { ¬ (result ≡ Status.WriteFault) → O.write_faults out.new ≡ O.write_faults out.old }
@@ -92,6 +93,7 @@ pub fn answer_members<R: Threads + Wait + Sync, W: Wire + Send, O: Sink, E: Sink
     ensures written { IsTrue O.tells_held → Wrote (IsUnionDocument (map W.seen wires.old) members.now query.now) result (O.held out.old) (O.held out.new) }
     ensures done { result ≡ Status.Done → IsAnswerDone (wires_seen W.tells_log W.counts_alone W.seen wires.old wires.new) members.now query.now block (sink_written O.tells_held O.held O.write_faults out.old out.new) (sink_written E.tells_held E.held E.write_faults err.old err.new) }
     ensures endpoint_faults { IsTrue W.counts_alone → result ≡ Status.Done → CountsDownBy members.now query.now (map W.seen wires.old) (map W.seen wires.new) (sink_written E.tells_held E.held E.write_faults err.old err.new) }
+    ensures cut { result ≡ Status.WriteFault → IsAnswerCut (wires_seen W.tells_log W.counts_alone W.seen wires.old wires.new) members.now query.now block (sink_written O.tells_held O.held O.write_faults out.old out.new) }
     ensures wired { AreAfter (map W.seen wires.old) (map W.seen wires.new) }
     ensures write_fault { result ≡ Status.WriteFault → IsCutShort (IsUnionDocument (map W.seen wires.old) members.now query.now) (sink_written O.tells_held O.held O.write_faults out.old out.new) (sink_written E.tells_held E.held E.write_faults err.old err.new) }
     ensures unfailed { ¬ (result ≡ Status.WriteFault) → O.write_faults out.new ≡ O.write_faults out.old }

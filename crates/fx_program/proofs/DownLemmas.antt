@@ -1,18 +1,19 @@
 -- Which occurrences of SERVICE are down that name no endpoint, and which others may be, by their numbers.
-use Rattle.std.proofs.Common.{◌≡◌, ◌∙◌, ap, sym, subst, refl, ℕ, zero, suc, ◌+◌, ◌<◌, ◌||◌, ◌==◌, Bool, true, false, not, if◌then◌else◌, Some, slice_get, List, [], ◌∷◌, ◌++◌, map, inl, inr, arith}
+use Rattle.std.proofs.Common.{◌≡◌, ◌∙◌, ap, sym, subst, refl, ℕ, zero, suc, ◌+◌, ◌≤◌, ◌<◌, ◌||◌, ◌==◌, Bool, true, false, not, if◌then◌else◌, None, Some, slice_get, length, List, [], ◌∷◌, ◌++◌, map, inl, inr, arith}
 use Rattle.fx_terms.proofs.SetLemmas.{Among}
 use Rattle.fx_outside.specs.Endpoints.{EndpointParts}
 use Rattle.fx_algebra.specs.Groups.{is_down}
 use Rattle.fx_algebra.specs.declared.queries.Query.{Query}
 use Rattle.fx_services.specs.Beside.{Occurrence}
-use Rattle.fx_services.specs.Noted.{places}
-use Rattle.fx_services.proofs.NotedLemmas.{apart_below, the_same}
+use Rattle.fx_services.specs.Noted.{RiseWithin, places}
+use Rattle.fx_services.specs.declared.noted.Down.{Down}
+use Rattle.fx_services.proofs.NotedLemmas.{apart_below, no_lower, the_same}
 use Rattle.fx_walks.specs.Unknown.{is_registered}
 use Rattle.fx_walks.proofs.RegisteredLemmas.{registered_by}
 use Rattle.fx_wire.specs.Exchanges.{Exchange, Seen}
 use Rattle.fx_algebra.specs.declared.queries.Group.{Group}
-use Rattle.fx_outcomes.specs.Calls.{AgreesWith, AreAllOrNone, AreCalls, Call, Came, HasComeTo, Passes, down_in, failed, lost, occurrences, told}
-use Rattle.fx_outcomes.proofs.DownLemmas.{down_at, has_gone}
+use Rattle.fx_outcomes.specs.Calls.{AgreesWith, AreAllOrNone, AreCalls, Call, Came, HasComeTo, Passes, down_from, down_in, failed, lost, occurrences, told}
+use Rattle.fx_outcomes.proofs.DownLemmas.{down_at, down_rises, has_gone}
 use Rattle.fx_rounds.specs.Down.{unregistered}
 use Rattle.fx_program.specs.Completeness.{MayBeDown}
 
@@ -62,6 +63,18 @@ module _ (es : List EndpointParts) where
   pub unregistered_at : (os : List Occurrence) (k : ℕ) (o : Occurrence) → slice_get os k ≡ Some o → is_down (unregistered es 0 os) k ≡ not (is_registered es o.iri)
   unregistered_at os k o is = let same : k ≡ 0 + k = omega arith in ap (is_down (unregistered es 0 os)) same ∙ from_number 0 os k o is
 
+  -- no number behind the last is
+  none_from : (n : ℕ) (os : List Occurrence) (k : ℕ) → slice_get os k ≡ None → is_down (unregistered es n os) (n + k) ≡ false
+  none_from n [] k is = refl
+  none_from n (x ∷ os) zero is = absurd (cc)
+  none_from n (x ∷ os) (suc k) is =
+      let next : n + suc k ≡ suc n + k = omega arith in
+      let high : n < suc n + k = omega arith in
+      ap (is_down (unregistered es n (x ∷ os))) next ∙ behind_first n (suc n + k) x os high ∙ none_from (suc n) os k is
+
+  pub no_unregistered : (os : List Occurrence) (k : ℕ) → slice_get os k ≡ None → is_down (unregistered es 0 os) k ≡ false
+  no_unregistered os k is = let same : k ≡ 0 + k = omega arith in ap (is_down (unregistered es 0 os)) same ∙ none_from 0 os k is
+
   not_both : (b : Bool) → b ≡ true → b ≡ false → ⊥
   not_both b h k = let clash : true ≡ false = sym h ∙ k in cc
 
@@ -70,6 +83,7 @@ module _ (es : List EndpointParts) where
   unregistered_may asked = record {
     unknown = λ k o there none. unregistered_at (occurrences asked) k o there ∙ ap not none;
     known = λ k o there is down. absurd (not_both (is_down (unregistered es 0 (occurrences asked)) k) down (unregistered_at (occurrences asked) k o there ∙ ap not is));
+    no_other = λ k none. no_unregistered (occurrences asked) k none;
   }
 
 -- ---- numbers of two lists
@@ -121,6 +135,25 @@ of_call : (calls : List Call) (k : ℕ) (c : Call) → slice_get calls k ≡ Som
 of_call [] k c h = absurd (cc)
 of_call (d ∷ calls) zero c h = let same : d ≡ c = cc in ap (λ (v : Call). Some v.of) same
 of_call (d ∷ calls) (suc k) c h = of_call calls k c h
+
+-- a number behind that of the last call isn't down
+none_above : (first last k : ℕ) (ds : List Down) → RiseWithin first last ds → last ≤ k → is_down (places ds) k ≡ false
+none_above first last k [] h high = refl
+none_above first last k (d ∷ ds) h high =
+    let rest : suc d.place ≤ last = no_lower (suc d.place) last ds h.1 in
+    ap (λ (b : Bool). b || is_down (places ds) k) (apart_above d.place k (omega (arith, rest, high))) ∙ none_above (suc d.place) last k ds h.1 high
+
+all_before : (calls : List Call) (k : ℕ) → slice_get (map (λ c. c.of) calls) k ≡ None → length calls ≤ k
+all_before [] k h = omega arith
+all_before (d ∷ calls) zero h = absurd (cc)
+all_before (d ∷ calls) (suc k) h = let rest : length calls ≤ k = all_before calls k h in omega (arith, rest)
+
+no_call_down : (calls : List Call) (k : ℕ) → slice_get (map (λ c. c.of) calls) k ≡ None → is_down (places (down_in calls)) k ≡ false
+no_call_down calls k h = let low : length calls ≤ k = all_before calls k h in none_above 0 (0 + length calls) k (down_from 0 calls) (down_rises 0 calls) (omega (arith, low))
+
+pub none_down_behind : (calls : List Call) (os : List Occurrence) (k : ℕ) → AreAllOrNone calls os → slice_get os k ≡ None → is_down (places (down_in calls)) k ≡ false
+none_down_behind calls os k (inl none) h = subst (λ (l : List Call). is_down (places (down_in l)) k ≡ false) (sym none) refl
+none_down_behind calls os k (inr are) h = no_call_down calls k (subst (λ (l : List Occurrence). slice_get l k ≡ None) (sym are) h)
 
 none_there : (k : ℕ) (c : Call) → slice_get [] k ≡ Some c → ⊥
 none_there k c h = cc

@@ -45,7 +45,7 @@ use Rattle.fx_outcomes.proofs.DownLemmas.{down_at, has_gone}
 use Rattle.fx_walks.proofs.RegisteredLemmas.{unregistered_by}
 use Rattle.fx_program.specs.Completeness.{AreRepliesShort, AreTextsShort, AreWell, IsNeeded, MayBeDown}
 use Rattle.fx_rounds.specs.Down.{unregistered}
-use Rattle.fx_program.proofs.DownLemmas.{agree_with, call_at, down_left, down_right, unregistered_at, unregistered_may}
+use Rattle.fx_program.proofs.DownLemmas.{agree_with, call_at, down_left, down_right, no_unregistered, none_down_behind, unregistered_at, unregistered_may}
 use Rattle.fx_program.proofs.HeadlineLemmas.{of_query}
 use Rattle.fx_program.proofs.KeptLemmas.{everybody_keeps}
 use Rattle.fx_program.proofs.LastRoundLemmas.{kept_at_last, low_at_last, planned_at_last, short_at_last, told_at_last}
@@ -145,6 +145,7 @@ may_be_down : (es : List EndpointParts) (asked : Query) (calls : List Call) → 
 may_be_down es asked calls called each = record {
   unknown = λ k o there none. down_right (places (down_in calls)) others k (unregistered_at es (occurrences asked) k o there ∙ ap not none);
   known = λ k o there is down. by called k o there is (sym (down_left (places (down_in calls)) others k (unregistered_at es (occurrences asked) k o there ∙ ap not is)) ∙ down);
+  no_other = λ k none. down_left (places (down_in calls)) others k (no_unregistered es (occurrences asked) k none) ∙ none_down_behind calls (occurrences asked) k called none;
 }
   where
     others : List ℕ

@@ -1,5 +1,5 @@
 -- The theorem of `run` from what its commands report and write.
-use Rattle.std.proofs.Common.{◌≡◌, ◌∙◌, ap, sym, subst, ℕ, ◌≤◌, ◌<◌, ◌⊎◌, Bool, false, List, [], ◌++◌, map, Option, Some, None, Ok, Err, length, inl, inr, arith, take, IsTrue}
+use Rattle.std.proofs.Common.{◌≡◌, ◌∙◌, ap, sym, subst, ℕ, ◌≤◌, ◌<◌, ◌⊎◌, false, List, [], ◌++◌, map, Option, Some, None, Ok, Err, length, inl, inr, arith, take, IsTrue, Result}
 use Rattle.std.specs.Prelude.{Contains, IfSome}
 use Rattle.std.proofs.lemmas.List.{take_all}
 use Rattle.fx_terms.specs.declared.triples.Triple.{Triple}
@@ -7,9 +7,7 @@ use Rattle.fx_terms.proofs.SetLemmas.{among_from, contains_from}
 use Rattle.fx_outside.specs.Endpoints.{EndpointParts}
 use Rattle.fx_outside.specs.Streams.{AppendsFront}
 use Rattle.fx_algebra.specs.Answers.{answer, no_graphs}
-use Rattle.fx_algebra.specs.Graphs.{union}
 use Rattle.fx_algebra.specs.Occurrences.{services}
-use Rattle.fx_algebra.specs.Units.{of_kept, sources}
 use Rattle.fx_algebra.specs.declared.answers.Answer.{Answer}
 use Rattle.fx_algebra.specs.declared.queries.Query.{Query}
 use Rattle.fx_algebra.proofs.MemberLemmas.{among_map}
@@ -23,13 +21,10 @@ use Rattle.fx_traffic.specs.Gains.{TellAll, WiresSeen, faults_at}
 use Rattle.fx_outcomes.specs.Calls.{AreAllOrNone, Call, occurrences}
 use Rattle.fx_services.specs.Beside.{Occurrence}
 use Rattle.fx_outcomes.specs.Mediation.{Serve}
-use Rattle.fx_walks.specs.Sections.{parts_with}
-use Rattle.fx_services.specs.declared.noted.Down.{Down}
+use Rattle.fx_outcomes.specs.declared.federated.FedError.{FedError}
 use Rattle.fx_outcomes.specs.declared.federated.FedError.TheVariants as fed
 use Rattle.fx_outcomes.specs.declared.rounds.OutcomeInRounds.{OutcomeInRounds}
 use Rattle.fx_outcomes.specs.declared.rounds.PlanInRounds.{PlanInRounds}
-use Rattle.fx_outcomes.specs.declared.rounds.Round.{Round}
-use Rattle.fx_rounds.specs.Answered.{AreLicensed, IsPlanLicensed}
 use Rattle.fx_rounds.specs.Refused.{IsFirstFailed}
 use Rattle.fx_rounds.proofs.AnsweredLemmas.{answers_rest_on_this}
 use Rattle.fx_rounds.proofs.PlannedLemmas.{no_plan_service_fails, plan_members_failed, plans_rest_on_this}
@@ -39,17 +34,17 @@ use Rattle.fx_local.specs.declared.statuses.Status.{Status}
 use Rattle.fx_local.specs.declared.statuses.Status.TheVariants as status
 use Rattle.fx_words.specs.Commands.{Asked, over_file, over_members, planned, served, generated}
 use Rattle.fx_commands.specs.Asking.{WasAsked, WasPlanned}
-use Rattle.fx_commands.specs.Explain.{IsExplainDone, IsExplainReported, IsPlanWritten}
+use Rattle.fx_commands.specs.Explain.{IsExplainCut, IsExplainDone, IsExplainReported}
 use Rattle.fx_local.proofs.GraphTextLemmas.{one_graph}
 use Rattle.fx_local.specs.GraphTexts.{IsGraphText, is_turtle}
 use Rattle.fx_local.specs.Files.{FileRead, Holds, IsQueryOf, IsQueryThat, IsRegistryOf}
 use Rattle.fx_commands.specs.FedRefusals.{IsGivenEnd}
 use Rattle.fx_commands.specs.Generator.{summary}
-use Rattle.fx_program.specs.Headline.{AreWritten, Headline, IsTold, NamesFailed}
+use Rattle.fx_program.specs.Headline.{AreWritten, Gives, Headline, IsFront, IsTold, NamesFailed, Plans}
 use Rattle.fx_local.specs.Lines.{Gains}
-use Rattle.fx_commands.specs.MemberLines.{down_lines, left_lines, member_failed, service_failed}
+use Rattle.fx_commands.specs.MemberLines.{answer_lines, member_failed, plan_lines, service_failed}
 use Rattle.fx_local.specs.Local.{HasLines, IsWritten}
-use Rattle.fx_commands.specs.Query.{IsOutcomeWritten, IsQueryDone, IsQueryReported}
+use Rattle.fx_commands.specs.Query.{IsQueryCut, IsQueryDone, IsQueryReported}
 use Rattle.fx_local.specs.Services.{all_numbers, silent_lines}
 use Rattle.fx_local.specs.Sinks.{SinkWritten, Wrote}
 
@@ -72,9 +67,18 @@ nothing_more old new text front is = front.1 ∙ ap (λ (t : List ℕ). old ++ t
 
 -- ---- `query`
 
--- an endpoint has the line of a refusal for an exchange that failed: one that mustn't be left out, or one of a SERVICE without SILENT
-abbrev pub IsFailureLine : WiresSeen → List EndpointParts → Query → EndpointParts → List ℕ → Type 0
-IsFailureLine w es asked e line = ((e.optional ≡ false) × (line ≡ member_failed e.name)) ⊎ (IsFirstFailed w es asked e.iri × (line ≡ service_failed e.iri))
+-- an endpoint has the line of a refusal for an exchange that failed, and was refused when the endpoints were asked: one that mustn't be left out, or one of a SERVICE without SILENT
+abbrev pub IsFailureLine : WiresSeen → List EndpointParts → Query → ℕ → EndpointParts → List ℕ → Type 0
+IsFailureLine w es asked block e line =
+    ((e.optional ≡ false) × WasAsked w es asked block (Err (fed.Member e.name)) × (line ≡ member_failed e.name))
+    ⊎ (WasAsked w es asked block (Err (fed.Service e.iri)) × IsFirstFailed w es asked e.iri × (line ≡ service_failed e.iri))
+
+-- the endpoints that were asked are those of the registry, and so is the query
+asked_same : (w : WiresSeen) (es others : List EndpointParts) (asked other : Query) (block : ℕ) (result : Result OutcomeInRounds FedError) → others ≡ es → other ≡ asked → WasAsked w others other block result → WasAsked w es asked block result
+asked_same w es others asked other block result a b was = subst (λ (v : Query). WasAsked w es v block result) b (subst (λ (l : List EndpointParts). WasAsked w l other block result) a was)
+
+planned_same : (w : WiresSeen) (es others : List EndpointParts) (asked other : Query) (result : Result PlanInRounds FedError) → others ≡ es → other ≡ asked → WasPlanned w others other result → WasPlanned w es asked result
+planned_same w es others asked other result a b was = subst (λ (v : Query). WasPlanned w es v result) b (subst (λ (l : List EndpointParts). WasPlanned w l other result) a was)
 
 -- the endpoint that a refusal names, and its line
 abbrev FailedAt : WiresSeen → List EndpointParts → (EndpointParts → List ℕ → Type 0) → List ℕ → Type 0
@@ -90,22 +94,34 @@ failed_at w es others asked other iri address a b c first =
     subst (IsFirstFailed w es asked) (sym c) (subst (λ (v : Query). IsFirstFailed w es v iri) b (subst (λ (l : List EndpointParts). IsFirstFailed w l other iri) a first))
 
 query_failed : (w : WiresSeen) (r q : FileRead) (block : ℕ) (text : List ℕ) (es : List EndpointParts) (asked : Query) → Holds r registry_limit (λ content. read_registry content ≡ Ok es) → Holds q query_limit (λ content. Accepted content asked)
-    → IsQueryReported w r q block status.EndpointFault text → FailedAt w es (IsFailureLine w es asked) text
+    → IsQueryReported w r q block status.EndpointFault text → FailedAt w es (IsFailureLine w es asked block) text
 query_failed w r q block text es asked h k (inl (none, before)) = absurd before
 query_failed w r q block text es asked h k (inr (Ok all, federated, end)) = absurd end
 query_failed w r q block text es asked h k (inr (Err (fed.Member name), federated, end)) =
     let was = federated.federated in
     let at = members_failed w federated.endpoints federated.asked was.entries block name was.in_rounds in
-    (at.0, subst (λ (l : List EndpointParts). Contains l at.0) (registry_told r es federated.endpoints h federated.registered) at.1, at.3.1, inl (at.3.0, end.1 ∙ ap member_failed (sym at.2)))
+    let same = registry_told r es federated.endpoints h federated.registered in
+    let here = asked_same w es federated.endpoints asked federated.asked block (Err (fed.Member name)) same (query_told q asked federated.asked k federated.accepted) was in (
+      at.0,
+      subst (λ (l : List EndpointParts). Contains l at.0) same at.1,
+      at.3.1,
+      inl (at.3.0, subst (λ (n : List ℕ). WasAsked w es asked block (Err (fed.Member n))) (sym at.2) here, end.1 ∙ ap member_failed (sym at.2)),
+    )
 query_failed w r q block text es asked h k (inr (Err (fed.Service iri), federated, end)) =
     let was = federated.federated in
     let failed = services_failed w federated.endpoints federated.asked was.entries block iri was.alike was.in_rounds in
     let its = failed.0.0 in
-    let same = registry_told r es federated.endpoints h federated.registered in (
+    let same = registry_told r es federated.endpoints h federated.registered in
+    let alike = query_told q asked federated.asked k federated.accepted in
+    let here = asked_same w es federated.endpoints asked federated.asked block (Err (fed.Service iri)) same alike was in (
       its.0,
       subst (λ (l : List EndpointParts). Contains l its.0) same its.1,
       subst (λ (a : List ℕ). faults_at w.before a < faults_at w.after a) (sym its.2) failed.0.1,
-      inr (failed_at w es federated.endpoints asked federated.asked iri its.0.iri same (query_told q asked federated.asked k federated.accepted) its.2 failed.1, end.1 ∙ ap service_failed (sym its.2)),
+      inr (
+        subst (λ (a : List ℕ). WasAsked w es asked block (Err (fed.Service a))) (sym its.2) here,
+        failed_at w es federated.endpoints asked federated.asked iri its.0.iri same alike its.2 failed.1,
+        end.1 ∙ ap service_failed (sym its.2),
+      ),
     )
 query_failed w r q block text es asked h k (inr (Err (fed.BadReply name bad), federated, end)) = absurd (other end.0)
   where
@@ -124,40 +140,35 @@ query_failed w r q block text es asked h k (inr (Err fed.Memory, federated, end)
     other : status.EndpointFault ≡ status.NoMemory → ⊥
     other h = cc
 
--- with `Done`
-abbrev IsAnswerWritten : WiresSeen → List EndpointParts → Query → List (List Triple) → (List ℕ → List Triple) → ℕ → SinkWritten → SinkWritten → Type 0
-IsAnswerWritten w es asked graphs graph_at block out err =
-    (rounds : List Round) × (kept : List Bool) × (noted : List Down) × AreLicensed w es asked block kept rounds noted
-    × AreWritten (document (answer asked (union (of_kept kept graphs)) graph_at (map (λ d. d.place) noted))) (left_lines es rounds ++ down_lines noted) out err
+-- what is so of the document and the lines of what the members gave
+module _ (w : WiresSeen) (graphs : List (List Triple)) (graph_at : List ℕ → List Triple) (block : ℕ) where
+  answer_is : (es : List EndpointParts) (asked : Query) (all : OutcomeInRounds) (Is : List ℕ → List ℕ → Type 0) → TellAll w.before es graphs → Serve graph_at es graphs
+      → IsRegistry es → WasAsked w es asked block (Ok all) → Is (document all.outcome.answer) (answer_lines es all) → Gives w es asked block graphs graph_at Is
+  answer_is es asked all Is told serve registry was wrote =
+      let rests = answers_rest_on_this w es asked was.entries block all was.alike registry was.in_rounds in
+      (all, rests.0, was, rests.1, subst (λ (a : Answer). Is (document a) (answer_lines es all)) (rests.2 graphs told graph_at serve) wrote)
 
-answer_is : (w : WiresSeen) (es : List EndpointParts) (asked : Query) (graphs : List (List Triple)) (graph_at : List ℕ → List Triple) (block : ℕ) (all : OutcomeInRounds) (out err : SinkWritten) → TellAll w.before es graphs → Serve graph_at es graphs
-    → IsRegistry es → WasAsked w es asked block (Ok all) → IsOutcomeWritten es all out err → IsAnswerWritten w es asked graphs graph_at block out err
-answer_is w es asked graphs graph_at block all out err told serve registry was wrote =
-    let rests = answers_rest_on_this w es asked was.entries block all was.alike registry was.in_rounds in (
-      all.abandoned,
-      rests.0,
-      all.outcome.down,
-      rests.1,
-      (
-        λ tells. wrote.0 tells ∙ ap (λ (a : Answer). out.old ++ document a) (rests.2 graphs told graph_at serve),
-        wrote.1,
-      ),
-    )
+  query_answered : (es others : List EndpointParts) (asked other : Query) (all : OutcomeInRounds) (Is : List ℕ → List ℕ → Type 0) → others ≡ es → other ≡ asked → TellAll w.before es graphs → Serve graph_at es graphs
+      → IsRegistry others → WasAsked w others other block (Ok all) → Is (document all.outcome.answer) (answer_lines others all) → Gives w es asked block graphs graph_at Is
+  query_answered es others asked other all Is a b told serve registry was wrote =
+      answer_is es asked all Is told serve (subst IsRegistry a registry) (asked_same w es others asked other block (Ok all) a b was)
+      (subst (λ (l : List EndpointParts). Is (document all.outcome.answer) (answer_lines l all)) a wrote)
 
-query_answered : (w : WiresSeen) (es others : List EndpointParts) (asked other : Query) (graphs : List (List Triple)) (graph_at : List ℕ → List Triple) (block : ℕ) (all : OutcomeInRounds) (out err : SinkWritten) → others ≡ es → other ≡ asked
-    → TellAll w.before es graphs → Serve graph_at es graphs → IsRegistry others → WasAsked w others other block (Ok all) → IsOutcomeWritten others all out err → IsAnswerWritten w es asked graphs graph_at block out err
-query_answered w es others asked other graphs graph_at block all out err a b told serve registry was wrote =
-    answer_is w es asked graphs graph_at block all out err told serve (subst IsRegistry a registry) (subst (λ (v : Query). WasAsked w es v block (Ok all)) b (subst (λ (l : List EndpointParts). WasAsked w l other block (Ok all)) a was))
-    (subst (λ (l : List EndpointParts). IsOutcomeWritten l all out err) a wrote)
-
-pub query_headline : (w : WiresSeen) (r q : FileRead) (block : ℕ) (s : Status) (text : List ℕ) (out err : SinkWritten) → IsQueryReported w r q block s text → (IsTrue err.tells → Gains err.old err.new err.before err.after text) → (s ≡ status.Done → IsQueryDone w r q block out err)
+pub query_headline : (w : WiresSeen) (r q : FileRead) (block : ℕ) (s : Status) (text : List ℕ) (out err : SinkWritten) → IsQueryReported w r q block s text → (IsTrue err.tells → Gains err.old err.new err.before err.after text) → (s ≡ status.Done → IsQueryDone w r q block out err) → (s ≡ status.WriteFault → IsQueryCut w r q block out)
     → (es : List EndpointParts) (asked : Query) (graphs : List (List Triple)) (graph_at : List ℕ → List Triple) → IsTold w r q es asked graphs → Serve graph_at es graphs
-    → (s ≡ status.Done → IsAnswerWritten w es asked graphs graph_at block out err) × NamesFailed w es (IsFailureLine w es asked) s err
-query_headline w r q block s text out err reported gains given es asked graphs graph_at told serve = (
+    → (s ≡ status.Done → Gives w es asked block graphs graph_at (λ text lines. AreWritten text lines out err)) × (s ≡ status.WriteFault → Gives w es asked block graphs graph_at (λ text lines. IsFront text out))
+    × NamesFailed w es (IsFailureLine w es asked block) s err
+query_headline w r q block s text out err reported gains given cut es asked graphs graph_at told serve = (
   λ is.
       let done = given is in
       let fed = done.1 in
-      query_answered w es fed.endpoints asked fed.asked graphs graph_at block done.0 out err (registry_told r es fed.endpoints told.registry fed.registered) (query_told q asked fed.asked told.query fed.accepted) told.graphs_are serve fed.registry fed.federated done.2,
+      query_answered w graphs graph_at block es fed.endpoints asked fed.asked done.0 (λ text lines. AreWritten text lines out err) (registry_told r es fed.endpoints told.registry fed.registered) (query_told q asked fed.asked told.query fed.accepted) told.graphs_are serve fed.registry
+      fed.federated done.2,
+  λ is.
+      let short = cut is in
+      let fed = short.1 in
+      query_answered w graphs graph_at block es fed.endpoints asked fed.asked short.0 (λ text lines. IsFront text out) (registry_told r es fed.endpoints told.registry fed.registered) (query_told q asked fed.asked told.query fed.accepted) told.graphs_are serve fed.registry fed.federated
+      short.2,
   λ failed.
       let at = query_failed w r q block text es asked told.registry told.query (subst (λ (v : Status). IsQueryReported w r q block v text) failed reported) in
       (at.0, text, at.1, at.2, at.3, gains),
@@ -165,66 +176,69 @@ query_headline w r q block s text out err reported gains given es asked graphs g
 
 -- ---- `explain`
 
--- an endpoint has the line of a refusal: one that mustn't be left out
-abbrev IsMemberLine : EndpointParts → List ℕ → Type 0
-IsMemberLine e line = (e.optional ≡ false) × (line ≡ member_failed e.name)
+-- an endpoint has the line of a refusal, and was refused when the endpoints were asked: one that mustn't be left out
+abbrev IsMemberLine : WiresSeen → List EndpointParts → Query → EndpointParts → List ℕ → Type 0
+IsMemberLine w es asked e line = (e.optional ≡ false) × WasPlanned w es asked (Err (fed.Member e.name)) × (line ≡ member_failed e.name)
 
-explain_failed : (w : WiresSeen) (r q : FileRead) (text : List ℕ) (es : List EndpointParts) → Holds r registry_limit (λ content. read_registry content ≡ Ok es) → IsExplainReported w r q status.EndpointFault text → FailedAt w es IsMemberLine text
-explain_failed w r q text es h (inl (none, before)) = absurd before
-explain_failed w r q text es h (inr (Ok p, made, end)) = absurd end
-explain_failed w r q text es h (inr (Err (fed.Member name), made, end)) =
+explain_failed : (w : WiresSeen) (r q : FileRead) (text : List ℕ) (es : List EndpointParts) (asked : Query) → Holds r registry_limit (λ content. read_registry content ≡ Ok es) → Holds q query_limit (λ content. Accepted content asked)
+    → IsExplainReported w r q status.EndpointFault text → FailedAt w es (IsMemberLine w es asked) text
+explain_failed w r q text es asked h k (inl (none, before)) = absurd before
+explain_failed w r q text es asked h k (inr (Ok p, made, end)) = absurd end
+explain_failed w r q text es asked h k (inr (Err (fed.Member name), made, end)) =
     let was = made.planned in
     let at = plan_members_failed w made.endpoints made.asked was.entries name was.in_rounds in
-    (at.0, subst (λ (l : List EndpointParts). Contains l at.0) (registry_told r es made.endpoints h made.registered) at.1, at.3.1, (at.3.0, end.1 ∙ ap member_failed (sym at.2)))
-explain_failed w r q text es h (inr (Err (fed.Service iri), made, end)) = absurd (no_plan_service_fails w made.endpoints made.asked made.planned.entries iri made.planned.in_rounds)
-explain_failed w r q text es h (inr (Err (fed.BadReply name bad), made, end)) = absurd (other end.0)
+    let same = registry_told r es made.endpoints h made.registered in
+    let here = planned_same w es made.endpoints asked made.asked (Err (fed.Member name)) same (query_told q asked made.asked k made.accepted) was in (
+      at.0,
+      subst (λ (l : List EndpointParts). Contains l at.0) same at.1,
+      at.3.1,
+      (at.3.0, subst (λ (n : List ℕ). WasPlanned w es asked (Err (fed.Member n))) (sym at.2) here, end.1 ∙ ap member_failed (sym at.2)),
+    )
+explain_failed w r q text es asked h k (inr (Err (fed.Service iri), made, end)) = absurd (no_plan_service_fails w made.endpoints made.asked made.planned.entries iri made.planned.in_rounds)
+explain_failed w r q text es asked h k (inr (Err (fed.BadReply name bad), made, end)) = absurd (other end.0)
   where
     other : status.EndpointFault ≡ status.BadReply → ⊥
     other h = cc
-explain_failed w r q text es h (inr (Err (fed.RequestTooLong name size), made, end)) = absurd (other end.0)
+explain_failed w r q text es asked h k (inr (Err (fed.RequestTooLong name size), made, end)) = absurd (other end.0)
   where
     other : status.EndpointFault ≡ status.RequestTooLong → ⊥
     other h = cc
-explain_failed w r q text es h (inr (Err (fed.UnknownService iri), made, end)) = absurd (other end.0)
+explain_failed w r q text es asked h k (inr (Err (fed.UnknownService iri), made, end)) = absurd (other end.0)
   where
     other : status.EndpointFault ≡ status.UnknownService → ⊥
     other h = cc
-explain_failed w r q text es h (inr (Err fed.Memory, made, end)) = absurd (other end.0)
+explain_failed w r q text es asked h k (inr (Err fed.Memory, made, end)) = absurd (other end.0)
   where
     other : status.EndpointFault ≡ status.NoMemory → ⊥
     other h = cc
 
--- with `Done`
-abbrev IsPlanPrinted : WiresSeen → List EndpointParts → Query → List (List Triple) → SinkWritten → SinkWritten → Type 0
-IsPlanPrinted w es asked graphs out err =
-    (rounds : List Round) × (kept : List Bool) × IsPlanLicensed w es asked kept rounds × AreWritten (explained (parts_with (sources (of_kept kept graphs)) asked) es) (left_lines es rounds) out err
+-- what is so of the text of a plan and its lines
+module _ (w : WiresSeen) (graphs : List (List Triple)) where
+  plan_is : (es : List EndpointParts) (asked : Query) (p : PlanInRounds) (Is : List ℕ → List ℕ → Type 0) → TellAll w.before es graphs → IsRegistry es → WasPlanned w es asked (Ok p)
+      → Is (explained p.parts.items es) (plan_lines es p) → Plans w es asked graphs Is
+  plan_is es asked p Is told registry was wrote =
+      let rests = plans_rest_on_this w es asked was.entries p registry was.in_rounds in
+      (p, rests.0, was, rests.1, subst (λ (parts : List Part). Is (explained parts es) (plan_lines es p)) (rests.2 graphs told) wrote)
 
-plan_is : (w : WiresSeen) (es : List EndpointParts) (asked : Query) (graphs : List (List Triple)) (p : PlanInRounds) (out err : SinkWritten) → TellAll w.before es graphs → IsRegistry es → WasPlanned w es asked (Ok p) → IsPlanWritten es p out err → IsPlanPrinted w es asked graphs out err
-plan_is w es asked graphs p out err told registry was wrote =
-    let rests = plans_rest_on_this w es asked was.entries p registry was.in_rounds in (
-      p.abandoned,
-      rests.0,
-      rests.1,
-      (
-        λ tells. wrote.0 tells ∙ ap (λ (parts : List Part). out.old ++ explained parts es) (rests.2 graphs told),
-        wrote.1,
-      ),
-    )
+  plan_printed : (es others : List EndpointParts) (asked other : Query) (p : PlanInRounds) (Is : List ℕ → List ℕ → Type 0) → others ≡ es → other ≡ asked → TellAll w.before es graphs → IsRegistry others
+      → WasPlanned w others other (Ok p) → Is (explained p.parts.items others) (plan_lines others p) → Plans w es asked graphs Is
+  plan_printed es others asked other p Is a b told registry was wrote =
+      plan_is es asked p Is told (subst IsRegistry a registry) (planned_same w es others asked other (Ok p) a b was) (subst (λ (l : List EndpointParts). Is (explained p.parts.items l) (plan_lines l p)) a wrote)
 
-plan_printed : (w : WiresSeen) (es others : List EndpointParts) (asked other : Query) (graphs : List (List Triple)) (p : PlanInRounds) (out err : SinkWritten) → others ≡ es → other ≡ asked → TellAll w.before es graphs → IsRegistry others → WasPlanned w others other (Ok p) → IsPlanWritten others p out err
-    → IsPlanPrinted w es asked graphs out err
-plan_printed w es others asked other graphs p out err a b told registry was wrote =
-    plan_is w es asked graphs p out err told (subst IsRegistry a registry) (subst (λ (v : Query). WasPlanned w es v (Ok p)) b (subst (λ (l : List EndpointParts). WasPlanned w l other (Ok p)) a was)) (subst (λ (l : List EndpointParts). IsPlanWritten l p out err) a wrote)
-
-pub explain_headline : (w : WiresSeen) (r q : FileRead) (s : Status) (text : List ℕ) (out err : SinkWritten) → IsExplainReported w r q s text → (IsTrue err.tells → Gains err.old err.new err.before err.after text) → (s ≡ status.Done → IsExplainDone w r q out err)
-    → (es : List EndpointParts) (asked : Query) (graphs : List (List Triple)) → IsTold w r q es asked graphs → (s ≡ status.Done → IsPlanPrinted w es asked graphs out err) × NamesFailed w es IsMemberLine s err
-explain_headline w r q s text out err reported gains given es asked graphs told = (
+pub explain_headline : (w : WiresSeen) (r q : FileRead) (s : Status) (text : List ℕ) (out err : SinkWritten) → IsExplainReported w r q s text → (IsTrue err.tells → Gains err.old err.new err.before err.after text) → (s ≡ status.Done → IsExplainDone w r q out err) → (s ≡ status.WriteFault → IsExplainCut w r q out)
+    → (es : List EndpointParts) (asked : Query) (graphs : List (List Triple)) → IsTold w r q es asked graphs
+    → (s ≡ status.Done → Plans w es asked graphs (λ text lines. AreWritten text lines out err)) × (s ≡ status.WriteFault → Plans w es asked graphs (λ text lines. IsFront text out)) × NamesFailed w es (IsMemberLine w es asked) s err
+explain_headline w r q s text out err reported gains given cut es asked graphs told = (
   λ is.
       let done = given is in
       let made = done.1 in
-      plan_printed w es made.endpoints asked made.asked graphs done.0 out err (registry_told r es made.endpoints told.registry made.registered) (query_told q asked made.asked told.query made.accepted) told.graphs_are made.registry made.planned done.2,
+      plan_printed w graphs es made.endpoints asked made.asked done.0 (λ text lines. AreWritten text lines out err) (registry_told r es made.endpoints told.registry made.registered) (query_told q asked made.asked told.query made.accepted) told.graphs_are made.registry made.planned done.2,
+  λ is.
+      let short = cut is in
+      let made = short.1 in
+      plan_printed w graphs es made.endpoints asked made.asked short.0 (λ text lines. IsFront text out) (registry_told r es made.endpoints told.registry made.registered) (query_told q asked made.asked told.query made.accepted) told.graphs_are made.registry made.planned short.2,
   λ failed.
-      let at = explain_failed w r q text es told.registry (subst (λ (v : Status). IsExplainReported w r q v text) failed reported) in
+      let at = explain_failed w r q text es asked told.registry told.query (subst (λ (v : Status). IsExplainReported w r q v text) failed reported) in
       (at.0, text, at.1, at.2, at.3, gains),
 )
 
@@ -270,17 +284,23 @@ making_headline n s text out err end gains wrote done = (
 
 pub no_headline : (read : List ℕ → FileRead) (w : WiresSeen) (asked : Option Asked) (out err : SinkWritten) → Headline read w asked status.NoMemory out err
 no_headline read w None out err = tt
-no_headline read w (Some (over_members r q workers block)) out err = λ es asked graphs graph_at told serve. (λ done. absurd (not_done done), λ failed. absurd (not_failed failed))
+no_headline read w (Some (over_members r q workers block)) out err = λ es asked graphs graph_at told serve. (λ done. absurd (not_done done), λ cut. absurd (not_cut cut), λ failed. absurd (not_failed failed))
   where
     not_done : status.NoMemory ≡ status.Done → ⊥
     not_done h = cc
 
+    not_cut : status.NoMemory ≡ status.WriteFault → ⊥
+    not_cut h = cc
+
     not_failed : status.NoMemory ≡ status.EndpointFault → ⊥
     not_failed h = cc
-no_headline read w (Some (planned r q)) out err = λ es asked graphs told. (λ done. absurd (not_done done), λ failed. absurd (not_failed failed))
+no_headline read w (Some (planned r q)) out err = λ es asked graphs told. (λ done. absurd (not_done done), λ cut. absurd (not_cut cut), λ failed. absurd (not_failed failed))
   where
     not_done : status.NoMemory ≡ status.Done → ⊥
     not_done h = cc
+
+    not_cut : status.NoMemory ≡ status.WriteFault → ⊥
+    not_cut h = cc
 
     not_failed : status.NoMemory ≡ status.EndpointFault → ⊥
     not_failed h = cc

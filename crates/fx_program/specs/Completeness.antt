@@ -65,11 +65,13 @@ AreAsksShort endpoints asked = All (λ (p : Probe). length (ask_text p.key.patte
 abbrev pub KeepRequired : List EndpointParts → List Bool → Type 0
 KeepRequired endpoints kept = (at : ℕ) (e : EndpointParts) → slice_get endpoints at ≡ Some e → IsUnmarked e → is_kept kept at ≡ true
 
--- Occurrences of SERVICE of these numbers may be down: all that name no endpoint, and of the others silent ones alone, each at the address of an endpoint that queries can do without.
+-- Occurrences of SERVICE of these numbers may be down: all that name no endpoint, and of the others silent ones alone, each at the address of an endpoint that queries can do without. A
+-- number that no occurrence has isn't down, so that it is settled which are where queries can't do without any of the endpoints.
 pub record MayBeDown (endpoints : List EndpointParts) (asked : Query) (down : List ℕ) : Type 0 where
   pub unknown : (k : ℕ) (o : Occurrence) → slice_get (occurrences asked) k ≡ Some o → is_registered endpoints o.iri ≡ false → is_down down k ≡ true
   pub known : (k : ℕ) (o : Occurrence) → slice_get (occurrences asked) k ≡ Some o → is_registered endpoints o.iri ≡ true → is_down down k ≡ true
       → (o.silent ≡ true) × ((e : EndpointParts) × Contains endpoints e × (e.iri ≡ o.iri) × (e.optional ≡ true))
+  pub no_other : (k : ℕ) → slice_get (occurrences asked) k ≡ None → is_down down k ≡ false
 
 -- nor any text that may be sent for the query over the graphs of the endpoints that are kept, where each IRI has a graph, whichever occurrences are down of those that may be
 abbrev pub AreTextsShort : List EndpointParts → List (List Triple) → (List ℕ → List Triple) → ℕ → Query → Type 0

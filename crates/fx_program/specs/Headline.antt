@@ -1,7 +1,8 @@
 -- The theorem of `run`, to be read first: what is written where the wires tell the graphs of the members, and which endpoint is named as failed.
-use Rattle.std.specs.Prelude.{◌≡◌, ◌<◌, ◌++◌, ◌⊎◌, ℕ, Bool, false, List, [], map, Contains, IsTrue, Option, Some, Ok}
+use Rattle.std.specs.Prelude.{◌≡◌, ◌<◌, ◌++◌, ◌⊎◌, ℕ, Bool, false, List, [], map, Contains, IsTrue, Option, Some, Ok, Err}
 use Rattle.fx_terms.specs.declared.triples.Triple.{Triple}
 use Rattle.fx_outside.specs.Endpoints.{EndpointParts}
+use Rattle.fx_outside.specs.Streams.{AppendsFront}
 use Rattle.fx_algebra.specs.Answers.{answer, no_graphs}
 use Rattle.fx_algebra.specs.Graphs.{union}
 use Rattle.fx_algebra.specs.Occurrences.{services}
@@ -14,16 +15,18 @@ use Rattle.fx_sources.specs.Registries.{read_registry}
 use Rattle.fx_traffic.specs.Gains.{TellAll, WiresSeen, faults_at}
 use Rattle.fx_outcomes.specs.Mediation.{Serve}
 use Rattle.fx_walks.specs.Sections.{parts_with}
-use Rattle.fx_outcomes.specs.declared.rounds.Round.{Round}
+use Rattle.fx_outcomes.specs.declared.federated.FedError.TheVariants as fed
+use Rattle.fx_outcomes.specs.declared.rounds.OutcomeInRounds.{OutcomeInRounds}
+use Rattle.fx_outcomes.specs.declared.rounds.PlanInRounds.{PlanInRounds}
 use Rattle.fx_rounds.specs.Answered.{AreLicensed, IsPlanLicensed}
 use Rattle.fx_rounds.specs.Refused.{IsFirstFailed}
-use Rattle.fx_services.specs.declared.noted.Down.{Down}
 use Rattle.fx_local.specs.Limits.{graph_limit, query_limit, registry_limit}
 use Rattle.fx_local.specs.declared.statuses.Status.{Status}
 use Rattle.fx_local.specs.declared.statuses.Status.TheVariants as status
 use Rattle.fx_words.specs.Commands.{Asked, over_file, over_members, planned, generated}
 use Rattle.fx_local.specs.Files.{FileRead, Holds}
 use Rattle.fx_local.specs.GraphTexts.{IsGraphText}
+use Rattle.fx_commands.specs.Asking.{WasAsked, WasPlanned}
 use Rattle.fx_commands.specs.Generator.{summary}
 use Rattle.fx_local.specs.Lines.{Gains}
 use Rattle.fx_commands.specs.MemberLines.{down_lines, left_lines, member_failed, service_failed}
@@ -36,29 +39,46 @@ pub record IsTold (w : WiresSeen) (r q : FileRead) (endpoints : List EndpointPar
   pub query : Holds q query_limit (λ content. Accepted content asked)
   pub graphs_are : TellAll w.before endpoints graphs
 
--- standard output gained this and nothing else, and standard error these lines
+-- standard output gained this and nothing else, and standard error these lines; or standard output has a front of it
 abbrev pub AreWritten : List ℕ → List ℕ → SinkWritten → SinkWritten → Type 0
 AreWritten text lines out err = (IsTrue out.tells → out.new ≡ out.old ++ text) × (IsTrue err.tells → err.new ≡ err.old ++ lines)
+
+abbrev pub IsFront : List ℕ → SinkWritten → Type 0
+IsFront text out = IsTrue out.tells → AppendsFront out.old out.new text
 
 -- an endpoint is named as failed, by a line that is so, only where exchanges with it failed: the count of faults at its address rose
 abbrev pub NamesFailed : WiresSeen → List EndpointParts → (EndpointParts → List ℕ → Type 0) → Status → SinkWritten → Type 0
 NamesFailed w endpoints IsLine s err =
     s ≡ status.EndpointFault → (e : EndpointParts) × (line : List ℕ) × Contains endpoints e × (faults_at w.before e.iri < faults_at w.after e.iri) × IsLine e line × (IsTrue err.tells → Gains err.old err.new err.before err.after line)
 
--- With `Done` `query` wrote the document of the query's answer over the union of the graphs of the members that no line says are left out, where the SERVICEs that are down are exactly those of the lines, each by its
--- own cause, and what was exchanged is the traffic of the query in these rounds; a member that may not be left out isn't. `explain` wrote the query's plan over the graphs of such members; `local` the document of the answer over the graph of the file, with a line for each SERVICE SILENT; and
--- `generate` the four lines of the members that it makes, the last of which has the number of rows of its query over the union of their graphs. A member that may be left out isn't named as failed, unless a SERVICE without SILENT names its address.
+-- The members were asked for the query in rounds, and gave an answer, of which this is so: its document is that over the union of the graphs of those that weren't left out in these very rounds, where the SERVICEs
+-- are down that were in the last, each by its own cause; each of both has its line; no member is left out that may not be; and what was exchanged is the traffic of the query in these rounds.
+abbrev pub Gives : WiresSeen → List EndpointParts → Query → ℕ → List (List Triple) → (List ℕ → List Triple) → (List ℕ → List ℕ → Type 0) → Type 0
+Gives w endpoints asked block graphs graph_at Is =
+    (all : OutcomeInRounds) × (kept : List Bool) × WasAsked w endpoints asked block (Ok all) × AreLicensed w endpoints asked block kept all.abandoned all.outcome.down
+    × Is (document (answer asked (union (of_kept kept graphs)) graph_at (map (λ d. d.place) all.outcome.down))) (left_lines endpoints all.abandoned ++ down_lines all.outcome.down)
+
+-- so it was for its plan
+abbrev pub Plans : WiresSeen → List EndpointParts → Query → List (List Triple) → (List ℕ → List ℕ → Type 0) → Type 0
+Plans w endpoints asked graphs Is =
+    (p : PlanInRounds) × (kept : List Bool) × WasPlanned w endpoints asked (Ok p) × IsPlanLicensed w endpoints asked kept p.abandoned
+    × Is (explained (parts_with (sources (of_kept kept graphs)) asked) endpoints) (left_lines endpoints p.abandoned)
+
+-- With `Done` `query` wrote the document that the members gave, and `explain` the plan, with the lines of this very run; with `WriteFault` a front of it. `local` wrote the document of the answer over the graph of
+-- the file, with a line for each SERVICE SILENT; and `generate` the four lines of the members that it makes, the last of which has the number of rows of its query over the union of their graphs. An endpoint is named
+-- as failed where the members were asked so, and it is the one that ended this: a member that may be left out isn't, unless a SERVICE without SILENT names its address.
 abbrev pub Headline : (List ℕ → FileRead) → WiresSeen → Option Asked → Status → SinkWritten → SinkWritten → Type 0
 Headline read w (Some (over_members r q workers block)) s out err =
     (endpoints : List EndpointParts) (asked : Query) (graphs : List (List Triple)) (graph_at : List ℕ → List Triple) → IsTold w (read r) (read q) endpoints asked graphs → Serve graph_at endpoints graphs
-    → (s ≡ status.Done
-    → (rounds : List Round) × (kept : List Bool) × (noted : List Down) × AreLicensed w endpoints asked block kept rounds noted
-    × AreWritten (document (answer asked (union (of_kept kept graphs)) graph_at (map (λ d. d.place) noted))) (left_lines endpoints rounds ++ down_lines noted) out err)
-    × NamesFailed w endpoints (λ e line. ((e.optional ≡ false) × (line ≡ member_failed e.name)) ⊎ (IsFirstFailed w endpoints asked e.iri × (line ≡ service_failed e.iri))) s err
+    → (s ≡ status.Done → Gives w endpoints asked block graphs graph_at (λ text lines. AreWritten text lines out err))
+    × (s ≡ status.WriteFault → Gives w endpoints asked block graphs graph_at (λ text lines. IsFront text out))
+    × NamesFailed w endpoints (λ e line. ((e.optional ≡ false) × WasAsked w endpoints asked block (Err (fed.Member e.name)) × (line ≡ member_failed e.name))
+    ⊎ (WasAsked w endpoints asked block (Err (fed.Service e.iri)) × IsFirstFailed w endpoints asked e.iri × (line ≡ service_failed e.iri))) s err
 Headline read w (Some (planned r q)) s out err =
     (endpoints : List EndpointParts) (asked : Query) (graphs : List (List Triple)) → IsTold w (read r) (read q) endpoints asked graphs
-    → (s ≡ status.Done → (rounds : List Round) × (kept : List Bool) × IsPlanLicensed w endpoints asked kept rounds × AreWritten (explained (parts_with (sources (of_kept kept graphs)) asked) endpoints) (left_lines endpoints rounds) out err)
-    × NamesFailed w endpoints (λ e line. (e.optional ≡ false) × (line ≡ member_failed e.name)) s err
+    → (s ≡ status.Done → Plans w endpoints asked graphs (λ text lines. AreWritten text lines out err))
+    × (s ≡ status.WriteFault → Plans w endpoints asked graphs (λ text lines. IsFront text out))
+    × NamesFailed w endpoints (λ e line. (e.optional ≡ false) × WasPlanned w endpoints asked (Err (fed.Member e.name)) × (line ≡ member_failed e.name)) s err
 Headline read w (Some (over_file g q)) s out err =
     (graph : List Triple) (asked : Query) → Holds (read g) graph_limit (λ content. IsGraphText g content graph) → Holds (read q) query_limit (λ content. Accepted content asked)
     → s ≡ status.Done → AreWritten (document (answer asked graph no_graphs (all_numbers (services asked)))) (silent_lines (services asked)) out err

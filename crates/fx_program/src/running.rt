@@ -46,8 +46,8 @@ pub fn run<R: Threads + Wait + Sync, F: Files, W: Wire + Send, D: Door, O: Sink,
     // only where its count of faults rose. `local` so over the file's graph. `generate` writes its four lines.
     ensures headline { OnWires W.tells_log W.counts_alone W.seen (wires_used (asked_in words.now)) wires.old wires.new (λ seen. Headline (file_read (F.seen files.old) (F.seen files.new)) seen (asked_in words.now) result (sink_written O.tells_held O.held O.write_faults out.old out.new) (sink_written E.tells_held E.held E.write_faults err.old err.new)) }
 
-    // Where besides each SERVICE is such as the command can take, no member may be left out, nothing fails and nothing is too long, the run is done, unless memory
-    // ran out.
+    // Where besides each SERVICE is such as the command can take, nothing fails and nothing is too long, the run is done, unless memory ran out. Faults at a member that the
+    // registry marks as optional don't count, unless a SERVICE without SILENT names its address.
     ensures completes { OnWires W.tells_log W.counts_alone W.seen (wires_used (asked_in words.now)) wires.old wires.new (λ seen. Completes (file_read (F.seen files.old) (F.seen files.new)) seen (D.seen door.old) (D.seen door.new) (asked_in words.now) result (sink_written O.tells_held O.held O.write_faults out.old out.new) (sink_written E.tells_held E.held E.write_faults err.old err.new)) }
 
     // Each status comes with its cause alone, and with its line on `err`, behind the lines of the connections that a member served, which are

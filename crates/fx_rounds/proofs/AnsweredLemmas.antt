@@ -114,7 +114,7 @@ module _ (w : WiresSeen) (es : List EndpointParts) (asked : Query) (new : List E
       let downs = downs_in w.tells w.alone it.asked it.went.between es asked plan block it.answers.kept.items it.went.last_kept it.went.abandoned it.went.rounds in
       let g = went_gained w.tells w.alone es asked block w.before w.after [] new (Ok all) told it in
       let l =
-      licences_in_any_order es w.before w.after (went_exchanged w.tells w.alone w.before w.after es asked [] new block (Ok all) it) g.exchanges lefts (downs ++ all.outcome.down) g.same
+      licences_in_any_order es asked w.before w.after (went_exchanged w.tells w.alone w.before w.after es asked [] new block (Ok all) it) g.exchanges lefts (downs ++ all.outcome.down) g.same
       (answers_are_licensed w.tells w.alone w.before w.after es asked [] new block all registry it) in
       record {
         left_out = members_are_left_once w.tells w.alone w.before w.after es asked [] new block all it;

@@ -92,7 +92,7 @@ module _ (a : List ℕ) where
   all_told tl td fl fd rl rd r x h k l m = omega (arith, h, k, l, m)
 
 pub licences_count : LicencesCount
-licences_count es s t xs left down it a =
+licences_count es q s t xs left down it a =
     let lefts = lefts_bad es left in
     let downs = downs_bad down in
     all_told a (lefts_told es a left) (downs_told a down) (lefts_failed es a left) (downs_failed a down) (replied_at a lefts) (replied_at a downs) (replied_at a (lefts ++ downs)) (exchanges_at a it.refused) (lefts_are a es left) (downs_are a down)

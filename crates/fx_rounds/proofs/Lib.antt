@@ -1,4 +1,5 @@
 pub mod AnsweredLemmas
+pub mod AskedForLemmas
 pub mod CountLemmas
 pub mod DownLemmas
 pub mod GainedLemmas

@@ -1,37 +1,42 @@
 -- With an answer there is a licence for all that was left out and for all that was down.
-use Rattle.std.proofs.Common.{◌≡◌, ◌∙◌, ap, sym, subst, refl, ℕ, suc, ◌+◌, ◌<◌, ◌≤◌, Bool, true, false, List, [], ◌∷◌, ◌++◌, append-nil, length, map, All, Option, Some, IfOk, Ok, Err, Result, IsPermutation, cond, slice_get, arith}
-use Rattle.std.specs.Prelude.{◌≢◌, AllPairs, bytes_eq}
+use Rattle.std.proofs.Common.{inl, inr, ◌≡◌, ◌∙◌, ap, sym, subst, refl, ℕ, suc, ◌+◌, ◌<◌, ◌≤◌, Bool, true, false, List, [], ◌∷◌, ◌++◌, append-nil, length, map, All, Option, Some, IfOk, Ok, Err, Result, IsPermutation, cond, slice_get, arith}
+use Rattle.std.specs.Prelude.{◌≢◌, AllPairs, Contains, bytes_eq}
 use Rattle.std.specs.List.{AllByRecursion}
 use Rattle.std.proofs.lemmas.Slice.Eq.{bytes_eq-Decides}
 use Rattle.std.proofs.lemmas.List.{map-append}
 use Rattle.std.proofs.lemmas.List.Concat.{flat_map-append}
-use Rattle.std.proofs.lemmas.List.Elements.{All-append, All-cons, All-from_recursion, recursion_from_All}
+use Rattle.std.proofs.lemmas.List.Elements.{All-append, All-contains, All-cons, All-from_recursion, All-weaker, recursion_from_All}
 use Rattle.std.proofs.lemmas.List.Sorted.{IsPermutation-refl, IsPermutation-append, IsPermutation-trans}
+use Rattle.fx_terms.specs.declared.triples.Triple.{Triple}
 use Rattle.fx_terms.proofs.SetLemmas.{among_from}
 use Rattle.fx_outside.specs.Endpoints.{EndpointParts}
 use Rattle.fx_algebra.specs.declared.queries.Group.{Group}
 use Rattle.fx_algebra.specs.declared.queries.Query.{Query}
+use Rattle.fx_algebra.specs.declared.units.Row.{Row}
 use Rattle.fx_algebra.specs.declared.units.Unit as unit
+use Rattle.fx_flows.specs.Flows.{IsBadBatch}
 use Rattle.fx_flows.specs.RunFlows.{HasFlowCause}
 use Rattle.fx_flows.specs.declared.flows.FlowError.{FlowError}
 use Rattle.fx_flows.specs.declared.flows.FlowError.TheVariants as flow
 use Rattle.fx_keys.specs.declared.probes.Probe.{Probe}
 use Rattle.fx_plan.specs.declared.parts.Part.{Part}
-use Rattle.fx_pool.specs.Reading.{a_service, an_ask, carried_for}
-use Rattle.fx_algebra.specs.Scopes.{scope}
+use Rattle.fx_pool.specs.declared.jobs.BadReply.{BadReply}
+use Rattle.fx_pool.proofs.WiresLemmas.{still_tell}
+use Rattle.fx_services.specs.Beside.{Occurrence}
+use Rattle.fx_services.specs.ServicesAsked.{IsBadService}
 use Rattle.fx_services.specs.declared.noted.Down.{Down}
 use Rattle.fx_services.specs.declared.noted.DownCause.TheVariants as down_cause
 use Rattle.fx_sources.specs.Probes.{missing}
 use Rattle.fx_sources.specs.Registries.{IsRegistry}
-use Rattle.fx_traffic.specs.Gains.{AreAfter, faults_at}
+use Rattle.fx_traffic.specs.Gains.{AreAfter, Tell, faults_at}
 use Rattle.fx_traffic.specs.Sent.{Sent}
 use Rattle.fx_traffic.proofs.GainLemmas.{gain_laws}
 use Rattle.fx_traffic.proofs.SentLemmas.{middle_changes}
 use Rattle.fx_walks.specs.GroupsAsked.{units_in}
 use Rattle.fx_walks.specs.Tasks.{tasks_with}
 use Rattle.fx_wire.specs.Exchanges.{Exchange, Seen, exchanged}
-use Rattle.fx_outcomes.specs.Asks.{IsProbeCause}
-use Rattle.fx_outcomes.specs.Calls.{AreCalls, Call, Came, HasComeTo, down_from, down_if, down_in, failed, failure_of, failures_at, lost, told}
+use Rattle.fx_outcomes.specs.Asks.{IsBadAsk, IsProbeCause}
+use Rattle.fx_outcomes.specs.Calls.{AreAllOrNone, AreCalls, Call, Came, HasComeTo, down_from, down_if, down_in, failed, failure_of, failures_at, lost, occurrences, told}
 use Rattle.fx_outcomes.specs.InRounds.{IsLast, plan_over}
 use Rattle.fx_outcomes.specs.Mediation.{FailedBeside, IsNamed}
 use Rattle.fx_outcomes.specs.RoundEnds.{AreAbandoned, IsAbandoned}
@@ -46,7 +51,8 @@ use Rattle.fx_outcomes.specs.declared.rounds.OutcomeInRounds.{OutcomeInRounds}
 use Rattle.fx_outcomes.specs.declared.rounds.Round.{Round}
 use Rattle.fx_rounds.specs.Gained.{rounds_exchanged}
 use Rattle.fx_rounds.specs.LeftOut.{left_in}
-use Rattle.fx_rounds.specs.Licences.{AnswersAreLicensed, IsBad, Licence, LicencesInAnyOrder, Replied, address_of, down_bad, down_failure, downs_bad, downs_failed, downs_in, left_address, left_bad, left_failure, lefts_bad, lefts_failed, replied, replied_in}
+use Rattle.fx_rounds.specs.Licences.{AnswersAreLicensed, IsBad, IsPlannedFor, Licence, LicencesInAnyOrder, Replied, address_of, down_bad, down_failure, downs_bad, downs_failed, downs_in, left_address, left_bad, left_failure, lefts_bad, lefts_failed, replied, replied_in}
+use Rattle.fx_rounds.proofs.AskedForLemmas.{HasUnitsFor, IsCalledOf, are_called, of_all_probes, units_for}
 use Rattle.fx_rounds.proofs.LeftOutLemmas.{all_left, marked, once}
 use Rattle.fx_rounds.proofs.ReplyLemmas.{HasReply, OwnReplies, found_among, lefts_own, one_endpoint, one_number, own_both, own_in_order, own_none, pairs_head, pairs_tail}
 
@@ -78,9 +84,19 @@ downs_append a (x ∷ xs) ys = add_in_front (cond {A = ℕ} (bytes_eq x.iri a) (
 in_turn : (s t u l m d e lm de : ℕ) → s + (l + d) ≤ t → t + (m + e) ≤ u → lm ≡ l + m → de ≡ d + e → s + (lm + de) ≤ u
 in_turn s t u l m d e lm de one two lefts downs = omega (arith, one, two, lefts, downs)
 
-module _ (es : List EndpointParts) where
-  licence_of_both : (s t u : List Seen) (xs ys : List Exchange) (l m : List Left) (d e : List Down) → Licence es s t xs l d → Licence es t u ys m e → Licence es s u (xs ++ ys) (l ++ m) (d ++ e)
-  licence_of_both s t u xs ys l m d e h k = record {
+-- the graphs that wires told they tell later on
+abbrev Keep : List Seen → List Seen → Type 0
+Keep s t = (a : List ℕ) (g : List Triple) → Tell s a g → Tell t a g
+
+after_keep : (s t : List Seen) → AreAfter s t → Keep s t
+after_keep s t after = λ a g told. still_tell s t a g after told
+
+module _ (es : List EndpointParts) (q : Query) where
+  still_bad : (s t : List Seen) → Keep s t → (x : Exchange) → IsBad es q t x → IsBad es q s x
+  still_bad s t keep x h = record { why = h.why; asked = h.asked; long = λ g told. h.long g (keep x.at.iri g told) }
+
+  licence_of_both : (s t u : List Seen) → Keep s t → (xs ys : List Exchange) (l m : List Left) (d e : List Down) → Licence es q s t xs l d → Licence es q t u ys m e → Licence es q s u (xs ++ ys) (l ++ m) (d ++ e)
+  licence_of_both s t u keep xs ys l m d e h k = record {
     counted = λ a.
         in_turn (faults_at s a) (faults_at t a) (faults_at u a) (lefts_failed es a l) (lefts_failed es a m) (downs_failed a d) (downs_failed a e) (lefts_failed es a (l ++ m)) (downs_failed a (d ++ e)) (h.counted a) (k.counted a) (lefts_append es a l m)
         (downs_append a d e);
@@ -89,7 +105,7 @@ module _ (es : List EndpointParts) where
     parted =
         IsPermutation-trans ((h.refused ++ k.refused) ++ (h.others ++ k.others)) ((h.refused ++ h.others) ++ (k.refused ++ k.others)) (xs ++ ys) (middle_changes h.refused k.refused h.others k.others)
         (IsPermutation-append (h.refused ++ h.others) xs (k.refused ++ k.others) ys h.parted k.parted);
-    each = All-append IsBad h.refused k.refused h.each k.each;
+    each = All-append (IsBad es q s) h.refused k.refused h.each (All-weaker (IsBad es q t) (IsBad es q s) (still_bad s t keep) k.refused k.each);
     told =
         subst (λ (v : List Replied). IsPermutation v (lefts_bad es (l ++ m) ++ downs_bad (d ++ e))) (sym (map-append replied_in h.refused k.refused))
         (subst (λ (v : List Replied). IsPermutation (map replied_in h.refused ++ map replied_in k.refused) (v ++ downs_bad (d ++ e))) (sym (flat_map-append (λ (x : Left). left_bad (left_address es x) x.why) l m))
@@ -98,7 +114,7 @@ module _ (es : List EndpointParts) where
         (IsPermutation-append (map replied_in h.refused) (lefts_bad es l ++ downs_bad d) (map replied_in k.refused) (lefts_bad es m ++ downs_bad e) h.told k.told) (middle_changes (lefts_bad es l) (downs_bad d) (lefts_bad es m) (downs_bad e)))));
   }
 
-  licence_from : (s t : List Seen) (xs : List Exchange) (l : List Left) (d : List Down) → ((a : List ℕ) → faults_at s a + (lefts_failed es a l + downs_failed a d) ≤ faults_at t a) → OwnReplies xs (lefts_bad es l ++ downs_bad d) → Licence es s t xs l d
+  licence_from : (s t : List Seen) (xs : List Exchange) (l : List Left) (d : List Down) → ((a : List ℕ) → faults_at s a + (lefts_failed es a l + downs_failed a d) ≤ faults_at t a) → OwnReplies (IsBad es q s) xs (lefts_bad es l ++ downs_bad d) → Licence es q s t xs l d
   licence_from s t xs l d counted own = record {
     counted = counted;
     refused = own.refused;
@@ -137,33 +153,47 @@ module _ (es : List EndpointParts) where
       (one_failed a n c.of.silent c.of.iri c.came) (calls_failed a (suc n) cs)
 
   module _ (s : List Seen) where
-    call_own : (n : ℕ) (silent : Bool) (iri : List ℕ) (g : Group) (came : Came) (own : List Exchange) → HasComeTo s es iri g came own → OwnReplies own (downs_bad (down_if n silent iri came))
-    call_own n silent iri g (told rows) own h = own_none own
-    call_own n true iri g (failed down_cause.Failed) own h = own_none own
-    call_own n true iri g (failed (down_cause.Bad bad)) own h =
+    abbrev Own : List Exchange → List Replied → Type 0
+    Own xs bads = OwnReplies (IsBad es q s) xs bads
+
+    none_own : (own : List Exchange) → Own own []
+    none_own own = own_none (IsBad es q s) own
+
+    -- the exchange with a bad reply is that of an occurrence of the query
+    is_bad_service : (o : Occurrence) → Contains (occurrences q) o → o.silent ≡ true → (bad : BadReply) (own : List Exchange) (e : EndpointParts) → Contains es e → e.iri ≡ o.iri → IsBadService (Tell s o.iri) e o.group own bad → IsBad es q s (exchanged e bad.request bad.reply)
+    is_bad_service o its silent bad own e here named h = record {
+      why = bad.why;
+      asked = inr (inr (record { occurrence = o; of_query = its; silent = silent; endpoint = here; named = named; posts = h.posts; fault = h.fault }));
+      long = λ g told. h.long g (subst (λ (a : List ℕ). Tell s a g) named told);
+    }
+
+    call_own : (n : ℕ) (silent : Bool) (iri : List ℕ) (g : Group) (came : Came) (own : List Exchange) → Contains (occurrences q) (record { silent = silent; iri = iri; group = g }) → HasComeTo s es iri g came own → Own own (downs_bad (down_if n silent iri came))
+    call_own n silent iri g (told rows) own its h = none_own own
+    call_own n true iri g (failed down_cause.Failed) own its h = none_own own
+    call_own n true iri g (failed (down_cause.Bad bad)) own its h =
         let x = exchanged h.0 bad.request bad.reply in
         let none : List Exchange = [] in
         record {
           refused = x ∷ [];
           others = [];
           parted = subst (IsPermutation (x ∷ none)) (sym h.3.alone) (IsPermutation-refl (x ∷ none));
-          each = All-cons IsBad x [] (record { carried = a_service (scope g); why = bad.why; fault = h.3.fault }) (All-from_recursion IsBad [] tt);
+          each = All-cons (IsBad es q s) x [] (is_bad_service (record { silent = true; iri = iri; group = g }) its refl bad own h.0 h.1 h.2 h.3) (All-from_recursion (IsBad es q s) [] tt);
           told = ap (λ (v : List ℕ). replied v bad.request bad.reply ∷ []) h.2;
         }
-    call_own n true iri g (failed (down_cause.TooLong size)) own h = own_none own
-    call_own n true iri g (failed down_cause.Unknown) own h = own_none own
-    call_own n false iri g (failed why) own h = own_none own
-    call_own n true iri g lost own h = own_none own
-    call_own n false iri g lost own h = own_none own
+    call_own n true iri g (failed (down_cause.TooLong size)) own its h = none_own own
+    call_own n true iri g (failed down_cause.Unknown) own its h = none_own own
+    call_own n false iri g (failed why) own its h = none_own own
+    call_own n true iri g lost own its h = none_own own
+    call_own n false iri g lost own its h = none_own own
 
-    calls_own : (n : ℕ) (calls : List Call) (xs : List Exchange) → AreCalls s es calls xs → OwnReplies xs (downs_bad (down_from n calls))
-    calls_own n [] xs h = own_none xs
-    calls_own n (c ∷ cs) xs h =
+    calls_own : (n : ℕ) (calls : List Call) (xs : List Exchange) → AllByRecursion (IsCalledOf q) calls → AreCalls s es calls xs → Own xs (downs_bad (down_from n calls))
+    calls_own n [] xs its h = none_own xs
+    calls_own n (c ∷ cs) xs its h =
         let first = down_if n c.of.silent c.of.iri c.came in
         let rest = down_from (suc n) cs in
-        subst (λ (v : List Exchange). OwnReplies v (downs_bad (first ++ rest))) (sym h.2)
-        (subst (OwnReplies (h.0 ++ h.1)) (sym (flat_map-append (λ (d : Down). down_bad d.iri d.why) first rest))
-        (own_both h.0 h.1 (downs_bad first) (downs_bad rest) (call_own n c.of.silent c.of.iri c.of.group c.came h.0 h.3) (calls_own (suc n) cs h.1 h.5)))
+        subst (λ (v : List Exchange). Own v (downs_bad (first ++ rest))) (sym h.2)
+        (subst (Own (h.0 ++ h.1)) (sym (flat_map-append (λ (d : Down). down_bad d.iri d.why) first rest))
+        (own_both (IsBad es q s) h.0 h.1 (downs_bad first) (downs_bad rest) (call_own n c.of.silent c.of.iri c.of.group c.came h.0 its.0 h.3) (calls_own (suc n) cs h.1 its.1 h.5)))
 
   -- ---- the member that a round leaves out
 
@@ -190,7 +220,7 @@ module _ (es : List EndpointParts) where
             one_more (faults_at s a) (failures_at a calls) (faults_at t a) here
         by false e = more (faults_at s a) (failures_at a calls) 0 (faults_at t a) (counted a) refl
 
-    module _ (registry : IsRegistry es) (q : Query) where
+    module _ (registry : IsRegistry es) where
       of_member : (at : ℕ) (error : FedError) → IsNamed es (flow.Member at) error → (error ≡ fed.Memory → ⊥) → FailedBeside s t es q calls error → Counts (record { at = at; why = left_cause.Failed })
       of_member at fed.Memory n known beside = absurd (known refl)
       of_member at (fed.Member name) n known beside =
@@ -213,17 +243,25 @@ module _ (es : List EndpointParts) where
           (λ a. more (faults_at s a) (failures_at a calls) (cond {A = ℕ} (bytes_eq (address_of (slice_get es at)) a) 0 0) (faults_at t a) (counted a) (not_failed (bytes_eq (address_of (slice_get es at)) a)))
       of_left flow.Memory l its error n known beside = absurd its
 
-  batch_reply : (s t : List Seen) (us : List unit.Unit) (block : ℕ) (wanted : List Sent) (xs : List Exchange) (why : FlowError) (l : Left) → IsLeftBy why l → HasFlowCause s t es us block wanted xs why → HasReply es xs l.at l.why
-  batch_reply s t us block wanted xs (flow.Member at) l its k = subst (λ (x : Left). HasReply es xs x.at x.why) (sym its) tt
-  batch_reply s t us block wanted xs (flow.BadReply at bad) l its k =
-      subst (λ (x : Left). HasReply es xs x.at x.why) (sym its) (
+  is_bad_batch : (s : List Seen) (bad : BadReply) (e : EndpointParts) (xs : List Exchange) (u : unit.Unit) (rows : List Row) → IsPlannedFor q u → (at : ℕ) → Contains u.members at → slice_get es at ≡ Some e → IsBadBatch (Tell s e.iri) e (record { unit = u; rows = rows }) xs bad
+      → IsBad es q s (exchanged e bad.request bad.reply)
+  is_bad_batch s bad e xs u rows its at member found h = record {
+    why = bad.why;
+    asked = inr (inl (record { unit = u; of_query = its; rows = rows; at = at; member = member; found = found; text = h.text; of_batch = h.of_batch; posts = h.posts; fault = h.fault }));
+    long = h.long;
+  }
+
+  batch_reply : (s t : List Seen) (us : List unit.Unit) → All (IsPlannedFor q) us → (block : ℕ) (wanted : List Sent) (xs : List Exchange) (why : FlowError) (l : Left) → IsLeftBy why l → HasFlowCause s t es us block wanted xs why → HasReply (IsBad es q s) es xs l.at l.why
+  batch_reply s t us its_units block wanted xs (flow.Member at) l its k = subst (λ (x : Left). HasReply (IsBad es q s) es xs x.at x.why) (sym its) tt
+  batch_reply s t us its_units block wanted xs (flow.BadReply at bad) l its k =
+      subst (λ (x : Left). HasReply (IsBad es q s) es xs x.at x.why) (sym its) (
         k.endpoint,
         ap (slice_get es) k.named ∙ k.found,
         k.cause.exchanged_so,
-        record { carried = carried_for k.endpoint (record { unit = k.unit; rows = k.batch }); why = bad.why; fault = k.cause.fault },
+        is_bad_batch s bad k.endpoint xs k.unit k.batch (All-contains (IsPlannedFor q) us k.unit its_units k.of_run) k.at k.member k.found k.cause,
       )
-  batch_reply s t us block wanted xs (flow.RequestTooLong at size) l its k = subst (λ (x : Left). HasReply es xs x.at x.why) (sym its) tt
-  batch_reply s t us block wanted xs flow.Memory l its k = absurd its
+  batch_reply s t us its_units block wanted xs (flow.RequestTooLong at size) l its k = subst (λ (x : Left). HasReply (IsBad es q s) es xs x.at x.why) (sym its) tt
+  batch_reply s t us its_units block wanted xs flow.Memory l its k = absurd its
 
   -- ---- those that ASKs leave out
 
@@ -233,13 +271,20 @@ module _ (es : List EndpointParts) where
   HasRisen s t at (left_cause.Bad bad) = Unit {0}
   HasRisen s t at (left_cause.TooLong size) = Unit {0}
 
-  module _ (s t : List Seen) (probes : List Probe) (xs : List Exchange) where
-    ask_reply : (why : FlowError) (l : Left) → IsLeftBy why l → IsProbeCause s t es probes xs why → HasReply es xs l.at l.why
-    ask_reply (flow.Member at) l its k = subst (λ (x : Left). HasReply es xs x.at x.why) (sym its) tt
+  is_bad_ask : (s : List Seen) (bad : BadReply) (e : EndpointParts) (xs : List Exchange) (p : Probe) → Contains (missing q (length es) []) p → slice_get es p.at ≡ Some e → IsBadAsk (Tell s e.iri) e p xs bad → IsBad es q s (exchanged e bad.request bad.reply)
+  is_bad_ask s bad e xs p among found h = record {
+    why = bad.why;
+    asked = inl (record { probe = p; of_query = among; found = found; posts = h.posts; fault = h.fault });
+    long = h.long;
+  }
+
+  module _ (s t : List Seen) (probes : List Probe) (of_query : (p : Probe) → Contains probes p → Contains (missing q (length es) []) p) (xs : List Exchange) where
+    ask_reply : (why : FlowError) (l : Left) → IsLeftBy why l → IsProbeCause s t es probes xs why → HasReply (IsBad es q s) es xs l.at l.why
+    ask_reply (flow.Member at) l its k = subst (λ (x : Left). HasReply (IsBad es q s) es xs x.at x.why) (sym its) tt
     ask_reply (flow.BadReply at bad) l its k =
-        subst (λ (x : Left). HasReply es xs x.at x.why) (sym its)
-        (k.endpoint, ap (slice_get es) k.named ∙ k.found, k.cause.exchanged_so, record { carried = an_ask; why = bad.why; fault = k.cause.fault })
-    ask_reply (flow.RequestTooLong at size) l its k = subst (λ (x : Left). HasReply es xs x.at x.why) (sym its) tt
+        subst (λ (x : Left). HasReply (IsBad es q s) es xs x.at x.why) (sym its)
+        (k.endpoint, ap (slice_get es) k.named ∙ k.found, k.cause.exchanged_so, is_bad_ask s bad k.endpoint xs k.probe (of_query k.probe k.among) k.found k.cause)
+    ask_reply (flow.RequestTooLong at size) l its k = subst (λ (x : Left). HasReply (IsBad es q s) es xs x.at x.why) (sym its) tt
     ask_reply flow.Memory l its k = absurd its
 
     ask_rose : (why : FlowError) (l : Left) → IsLeftBy why l → IsProbeCause s t es probes xs why → HasRisen s t l.at l.why
@@ -248,7 +293,7 @@ module _ (es : List EndpointParts) where
     ask_rose (flow.RequestTooLong at size) l its k = subst (λ (x : Left). HasRisen s t x.at x.why) (sym its) tt
     ask_rose flow.Memory l its k = absurd its
 
-    all_reply : (left : List Left) → AllByRecursion (IsLeftAtAsk s t es probes xs) left → AllByRecursion (λ (l : Left). HasReply es xs l.at l.why) left
+    all_reply : (left : List Left) → AllByRecursion (IsLeftAtAsk s t es probes xs) left → AllByRecursion (λ (l : Left). HasReply (IsBad es q s) es xs l.at l.why) left
     all_reply [] h = tt
     all_reply (l ∷ left) h = (ask_reply h.0.why l h.0.named h.0.cause, all_reply left h.1)
 
@@ -310,7 +355,7 @@ module _ (es : List EndpointParts) where
 
   -- ---- a query's rounds
 
-  module _ (registry : IsRegistry es) (tells alone : Bool) (q : Query) (block : ℕ) where
+  module _ (registry : IsRegistry es) (tells alone : Bool) (block : ℕ) where
     one_alone : (l : Left) → AllPairs (λ (k m : Left). k.at ≢ m.at) (l ∷ [])
     one_alone l = λ i j d low high. absurd (omega (arith, low, high))
 
@@ -320,47 +365,52 @@ module _ (es : List EndpointParts) where
     low_downs : (m l n k u : ℕ) → m + (l + n) ≤ u → k ≤ n → m + (l + k) ≤ u
     low_downs m l n k u h low = omega (arith, h, low)
 
-    round_licensed : (s t : List Seen) (plan : List Part) (r : Round) (h : IsAbandoned tells alone s t es q plan block r) → Licence es s t h.went.exchanges r.left (down_in h.went.calls)
-    round_licensed s t plan r h =
+    round_licensed : (s t : List Seen) (plan : List Part) → HasUnitsFor q plan → (r : Round) (h : IsAbandoned tells alone s t es q plan block r) → Licence es q s t h.went.exchanges r.left (down_in h.went.calls)
+    round_licensed s t plan units r h =
         let calls = h.went.calls in
-        let counts = of_left s t calls h.went.counted registry q h.why h.left h.its h.error h.named h.of_member h.went.own_failure in
+        let counts = of_left s t calls h.went.counted registry h.why h.left h.its h.error h.named h.of_member h.went.own_failure in
         let us = units_in (tasks_with plan h.went.found) in
         let alone_left : AllPairs (λ (k l : Left). k.at ≢ l.at) (h.left ∷ []) = one_alone h.left in
-        let own = lefts_own es registry.addresses (h.left ∷ []) h.went.of_runs alone_left (batch_reply s t us block h.went.texts h.went.of_runs h.why h.left h.its h.cause, tt) in
-        let both = own_both h.went.of_runs h.went.of_calls (lefts_bad es (h.left ∷ [])) (downs_bad (down_in calls)) own (calls_own s 0 calls h.went.of_calls h.went.are_calls) in
-        subst (λ (v : List Left). Licence es s t h.went.exchanges v (down_in calls)) (sym h.left_is)
+        let own = lefts_own (IsBad es q s) es registry.addresses (h.left ∷ []) h.went.of_runs alone_left (batch_reply s t us (units h.went.found) block h.went.texts h.went.of_runs h.why h.left h.its h.cause, tt) in
+        let both = own_both (IsBad es q s) h.went.of_runs h.went.of_calls (lefts_bad es (h.left ∷ [])) (downs_bad (down_in calls)) own (calls_own s 0 calls h.went.of_calls (are_called q calls h.went.called) h.went.are_calls) in
+        subst (λ (v : List Left). Licence es q s t h.went.exchanges v (down_in calls)) (sym h.left_is)
         (licence_from s t h.went.exchanges (h.left ∷ []) (down_in calls)
         (λ a. low_downs (faults_at s a) (lefts_failed es a (h.left ∷ [])) (failures_at a calls) (downs_failed a (down_in calls)) (faults_at t a) (counts a) (calls_failed a 0 calls))
-        (own_in_order (h.went.of_runs ++ h.went.of_calls) h.went.exchanges (lefts_bad es (h.left ∷ []) ++ downs_bad (down_in calls)) h.went.parted both))
+        (own_in_order (IsBad es q s) (h.went.of_runs ++ h.went.of_calls) h.went.exchanges (lefts_bad es (h.left ∷ []) ++ downs_bad (down_in calls)) h.went.parted both))
 
-    none_licensed : (s : List Seen) → Licence es s s [] [] []
-    none_licensed s = licence_from s s [] [] [] (λ a. omega arith) (own_none [])
+    none_licensed : (s : List Seen) → Licence es q s s [] [] []
+    none_licensed s = licence_from s s [] [] [] (λ a. omega arith) (own_none (IsBad es q s) [])
 
-    rounds_licensed : (plan : List Bool → List Part) (s t : List Seen) (kept last : List Bool) (rounds : List Round) (c : AreAbandoned tells alone s t es q plan block kept last rounds)
-        → Licence es s t (rounds_exchanged tells alone s t es q plan block kept last rounds c) (left_in rounds) (downs_in tells alone s t es q plan block kept last rounds c)
-    rounds_licensed plan s t kept last [] c = subst (λ (v : List Seen). Licence es s v [] [] []) (sym c.0) (none_licensed s)
-    rounds_licensed plan s t kept last (r ∷ rounds) c =
+    rounds_keep : (plan : List Bool → List Part) (s t : List Seen) (kept last : List Bool) (rounds : List Round) → AreAbandoned tells alone s t es q plan block kept last rounds → Keep s t
+    rounds_keep plan s t kept last [] c = λ a g told. subst (λ (v : List Seen). Tell v a g) (sym c.0) told
+    rounds_keep plan s t kept last (r ∷ rounds) c = λ a g told. rounds_keep plan c.0 t (without_all r.left kept) last rounds c.3 a g (after_keep s c.0 c.1.went.after_all a g told)
+
+    rounds_licensed : (plan : List Bool → List Part) → ((kept : List Bool) → HasUnitsFor q (plan kept)) → (s t : List Seen) (kept last : List Bool) (rounds : List Round) (c : AreAbandoned tells alone s t es q plan block kept last rounds)
+        → Licence es q s t (rounds_exchanged tells alone s t es q plan block kept last rounds c) (left_in rounds) (downs_in tells alone s t es q plan block kept last rounds c)
+    rounds_licensed plan units s t kept last [] c = subst (λ (v : List Seen). Licence es q s v [] [] []) (sym c.0) (none_licensed s)
+    rounds_licensed plan units s t kept last (r ∷ rounds) c =
         let rest = without_all r.left kept in
-        licence_of_both s c.0 t c.1.went.exchanges (rounds_exchanged tells alone c.0 t es q plan block rest last rounds c.3) r.left (left_in rounds) (down_in c.1.went.calls) (downs_in tells alone c.0 t es q plan block rest last rounds c.3)
-        (round_licensed s c.0 (plan kept) r c.1) (rounds_licensed plan c.0 t rest last rounds c.3)
+        licence_of_both s c.0 t (after_keep s c.0 c.1.went.after_all) c.1.went.exchanges (rounds_exchanged tells alone c.0 t es q plan block rest last rounds c.3) r.left (left_in rounds) (down_in c.1.went.calls) (downs_in tells alone c.0 t es q plan block rest last rounds c.3)
+        (round_licensed s c.0 (plan kept) (units kept) r c.1) (rounds_licensed plan units c.0 t rest last rounds c.3)
 
     -- the ASKs
-    pub asks_licensed : (s t : List Seen) (after : AreAfter s t) (probes : List Probe) (xs : List Exchange) (left : List Left) → AllPairs (λ (k l : Left). k.at ≢ l.at) left → All (λ (l : Left). IsMarked true es l.at) left → All (IsLeftAtAsk s t es probes xs) left
-        → Licence es s t xs left []
-    asks_licensed s t after probes xs left apart marks causes =
+    pub asks_licensed : (s t : List Seen) (after : AreAfter s t) (probes : List Probe) → ((p : Probe) → Contains probes p → Contains (missing q (length es) []) p) → (xs : List Exchange) (left : List Left) → AllPairs (λ (k l : Left). k.at ≢ l.at) left → All (λ (l : Left). IsMarked true es l.at) left → All (IsLeftAtAsk s t es probes xs) left
+        → Licence es q s t xs left []
+    asks_licensed s t after probes of_query xs left apart marks causes =
         let each = recursion_from_All (IsLeftAtAsk s t es probes xs) left causes in
-        let own = lefts_own es registry.addresses left xs apart (all_reply s t probes xs left each) in
+        let own = lefts_own (IsBad es q s) es registry.addresses left xs apart (all_reply s t probes of_query xs left each) in
         licence_from s t xs left []
         (λ a.
         no_downs (faults_at s a) (lefts_failed es a left) (faults_at t a)
-        (asks_counted registry.addresses s t after a left apart (recursion_from_All (λ (l : Left). IsMarked true es l.at) left marks) (all_rose s t probes xs left each)))
-        (subst (OwnReplies xs) (sym (append-nil (lefts_bad es left))) own)
+        (asks_counted registry.addresses s t after a left apart (recursion_from_All (λ (l : Left). IsMarked true es l.at) left marks) (all_rose s t probes of_query xs left each)))
+        (subst (OwnReplies (IsBad es q s) xs) (sym (append-nil (lefts_bad es left))) own)
 
     -- the last one
-    last_licensed : (s t : List Seen) (xs of_runs of_calls : List Exchange) (calls : List Call) → IsPermutation (of_runs ++ of_calls) xs → ((a : List ℕ) → faults_at s a + failures_at a calls ≤ faults_at t a) → AreCalls s es calls of_calls → Licence es s t xs [] (down_in calls)
-    last_licensed s t xs of_runs of_calls calls parted counted are =
+    last_licensed : (s t : List Seen) (xs of_runs of_calls : List Exchange) (calls : List Call) → IsPermutation (of_runs ++ of_calls) xs → ((a : List ℕ) → faults_at s a + failures_at a calls ≤ faults_at t a) → AreAllOrNone calls (occurrences q) → AreCalls s es calls of_calls → Licence es q s t xs [] (down_in calls)
+    last_licensed s t xs of_runs of_calls calls parted counted called are =
         licence_from s t xs [] (down_in calls) (λ a. low_downs (faults_at s a) 0 (failures_at a calls) (downs_failed a (down_in calls)) (faults_at t a) (still_low (faults_at s a) (failures_at a calls) (faults_at t a) (counted a)) (calls_failed a 0 calls))
-        (own_in_order (of_runs ++ of_calls) xs (downs_bad (down_in calls)) parted (own_both of_runs of_calls [] (downs_bad (down_in calls)) (own_none of_runs) (calls_own s 0 calls of_calls are)))
+        (own_in_order (IsBad es q s) (of_runs ++ of_calls) xs (downs_bad (down_in calls)) parted
+        (own_both (IsBad es q s) of_runs of_calls [] (downs_bad (down_in calls)) (own_none (IsBad es q s) of_runs) (calls_own s 0 calls of_calls (are_called q calls called) are)))
 
 -- ---- a query
 
@@ -379,19 +429,20 @@ answers_are_licensed tells alone before after es q old new block all registry w 
     let mid = rounds_exchanged tells alone w.asked w.went.between es q plan block w.answers.kept.items w.went.last_kept w.went.abandoned w.went.rounds in
     let downs = downs_in tells alone w.asked w.went.between es q plan block w.answers.kept.items w.went.last_kept w.went.abandoned w.went.rounds in
     let last = w.went.last in
-    let asks = asks_licensed es registry tells alone q block before w.asked w.asking.after_all probes w.asking.exchanges first (once es (everybody es) first fit.may_leave) (marked es (everybody es) first fit.may_leave) causes in
-    let rounds = rounds_licensed es registry tells alone q block plan w.asked w.went.between w.answers.kept.items w.went.last_kept w.went.abandoned w.went.rounds in
-    let end = last_licensed es registry tells alone q block w.went.between after last.exchanges last.of_runs last.of_calls last.calls last.parted last.counted last.are_calls in
-    let behind = licence_of_both es w.asked w.went.between after mid last.exchanges more [] downs (down_in last.calls) rounds end in
-    let whole = licence_of_both es before w.asked after w.asking.exchanges (mid ++ last.exchanges) first (more ++ []) [] (downs ++ down_in last.calls) asks behind in
+    let asks = asks_licensed es q registry tells alone block before w.asked w.asking.after_all probes (of_all_probes q (length es) old) w.asking.exchanges first (once es (everybody es) first fit.may_leave) (marked es (everybody es) first fit.may_leave) causes in
+    let rounds = rounds_licensed es q registry tells alone block plan (units_for es q old w.answers) w.asked w.went.between w.answers.kept.items w.went.last_kept w.went.abandoned w.went.rounds in
+    let end = last_licensed es q registry tells alone block w.went.between after last.exchanges last.of_runs last.of_calls last.calls last.parted last.counted last.called last.are_calls in
+    let keep = rounds_keep es q registry tells alone block plan w.asked w.went.between w.answers.kept.items w.went.last_kept w.went.abandoned w.went.rounds in
+    let behind = licence_of_both es q w.asked w.went.between after keep mid last.exchanges more [] downs (down_in last.calls) rounds end in
+    let whole = licence_of_both es q before w.asked after (after_keep before w.asked w.asking.after_all) w.asking.exchanges (mid ++ last.exchanges) first (more ++ []) [] (downs ++ down_in last.calls) asks behind in
     let xs = w.asking.exchanges ++ (mid ++ last.exchanges) in
     let lefts : left_in all.abandoned ≡ first ++ (more ++ []) = all_left first w.went.abandoned all.abandoned w.listed ∙ ap (λ (v : List Left). first ++ v) (sym (append-nil more)) in
     let down : all.outcome.down ≡ down_in last.calls = last_down all (down_in last.calls) w.went.ended w.told last.down in
-    subst (λ (v : List Left). Licence es before after xs v (downs ++ all.outcome.down)) (sym lefts)
-    (subst (λ (v : List Down). Licence es before after xs (first ++ (more ++ [])) (downs ++ v)) (sym down) whole)
+    subst (λ (v : List Left). Licence es q before after xs v (downs ++ all.outcome.down)) (sym lefts)
+    (subst (λ (v : List Down). Licence es q before after xs (first ++ (more ++ [])) (downs ++ v)) (sym down) whole)
 
 pub licences_in_any_order : LicencesInAnyOrder
-licences_in_any_order es s t xs ys left down same h = record {
+licences_in_any_order es q s t xs ys left down same h = record {
   counted = h.counted;
   refused = h.refused;
   others = h.others;

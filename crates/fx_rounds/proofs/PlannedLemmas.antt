@@ -54,9 +54,9 @@ module _ (w : WiresSeen) (es : List EndpointParts) (asked : Query) (new : List E
         let probes = missing asked (length es) [] in
         let fit : AreAnswers es probes it.answers = it.asking.fit in
         let causes : All (IsLeftAtAsk w.before w.after es probes it.asking.exchanges) left = it.asking.causes in
-        let own : Licence es w.before w.after it.asking.exchanges left [] =
-        asks_licensed es registry w.tells w.alone asked 0 w.before w.after it.asking.after_all probes it.asking.exchanges left (once es (everybody es) left fit.may_leave) (marked es (everybody es) left fit.may_leave) causes in
-        let licence : Licence es w.before w.after it.asking.exchanges (left_in p.abandoned) [] = subst (λ (v : List Left). Licence es w.before w.after it.asking.exchanges v []) (sym lefts_are) own in
+        let own : Licence es asked w.before w.after it.asking.exchanges left [] =
+        asks_licensed es asked registry w.tells w.alone 0 w.before w.after it.asking.after_all probes (λ p among. among) it.asking.exchanges left (once es (everybody es) left fit.may_leave) (marked es (everybody es) left fit.may_leave) causes in
+        let licence : Licence es asked w.before w.after it.asking.exchanges (left_in p.abandoned) [] = subst (λ (v : List Left). Licence es asked w.before w.after it.asking.exchanges v []) (sym lefts_are) own in
         record {
           left_out = subst (λ (v : List Left). AreLeftOut es v it.answers.kept.items) (sym lefts_are) (left_out es left it.answers.kept.items fit.may_leave fit.those_kept);
           leave = all_leave left [] p.abandoned (it.listed ∙ sym (append-nil (by_asks left))) (All-nil LeavesSomebody);

@@ -59,7 +59,7 @@ module _ (tells alone : Bool) (before after : List Seen) (es : List EndpointPart
       let downs = downs_in tells alone w.asked w.went.between es q plan block w.answers.kept.items w.went.last_kept w.went.abandoned w.went.rounds in
       let lefts = left_in all.abandoned in
       let l =
-      licences_in_any_order es before after (went_exchanged tells alone before after es q old new block (Ok all) w) g.exchanges lefts (downs ++ all.outcome.down) g.same
+      licences_in_any_order es q before after (went_exchanged tells alone before after es q old new block (Ok all) w) g.exchanges lefts (downs ++ all.outcome.down) g.same
       (answers_are_licensed tells alone before after es q old new block all registry w) in
       record {
         exchanges = g.exchanges;
@@ -70,7 +70,7 @@ module _ (tells alone : Bool) (before after : List Seen) (es : List EndpointPart
         each = l.each;
         enough = λ a.
             let counted : faults_at before a + (lefts_failed es a lefts + downs_failed a (downs ++ all.outcome.down)) ≤ faults_at after a = l.counted a in
-            let count = licences_count es before after g.exchanges lefts (downs ++ all.outcome.down) l a in
+            let count = licences_count es q before after g.exchanges lefts (downs ++ all.outcome.down) l a in
             let both = downs_behind es q a downs all.outcome.down in
             let listed : numbers_in es q a all.abandoned ≡ numbers_in es q a (by_asks w.answers.left.items ++ w.went.abandoned) = ap (numbers_in es q a) w.listed in
             let apart = numbers_behind es q a (by_asks w.answers.left.items) w.went.abandoned in

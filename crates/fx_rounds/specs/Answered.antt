@@ -63,8 +63,8 @@ pub record SentInRounds (w : WiresSeen) (endpoints : List EndpointParts) (asked 
 
 -- Each round leaves somebody out. The members that rounds leave out may be left out, each once, and the others are kept. Each occurrence of SERVICE came in the last round to what it did by its own exchanges alone, which are some of that
 -- round's, and these are down. No address has more members that were left out and occurrences that are down since an exchange failed than its count of faults rose by; and each that is for a bad reply
--- has an exchange of its own with this reply, as those have that were down in rounds which were abandoned. Where there is no other reason than that the IRI is no endpoint's, those are down
--- of which this is so.
+-- has an exchange of its own with this reply, which is bad for what that exchange asks for of the query, as those have that were down in rounds which were abandoned. Where there is no other reason than
+-- that the IRI is no endpoint's, those are down of which this is so.
 pub record AreLicensed (w : WiresSeen) (endpoints : List EndpointParts) (asked : Query) (block : ℕ) (kept : List Bool) (rounds : List Round) (noted : List Down) : Type 0 where
   pub left_out : AreLeftOut endpoints (left_in rounds) kept
   pub leave : All LeavesSomebody rounds
@@ -73,7 +73,7 @@ pub record AreLicensed (w : WiresSeen) (endpoints : List EndpointParts) (asked :
   pub exchanges : List Exchange
   pub gained : IsTrue w.tells → HaveGained w.before w.after exchanges
   pub earlier : List Down
-  pub licence : Licence endpoints w.before w.after exchanges (left_in rounds) (earlier ++ noted)
+  pub licence : Licence endpoints asked w.before w.after exchanges (left_in rounds) (earlier ++ noted)
   pub enough : AreEnough w.tells w.before w.after endpoints asked rounds noted
   pub in_rounds : SentInRounds w endpoints asked block kept rounds (places noted) exchanges
   pub since : List Seen
@@ -104,15 +104,15 @@ FaultsAreTold = (w : WiresSeen) (endpoints : List EndpointParts) (asked : Query)
 
 -- ---- a plan
 
--- The members that the ASKs of a query leave out may be left out, each once, and the others are kept. Nothing but ASKs was exchanged; and no address has more members that were left out since an
--- exchange failed than its count of faults rose by.
+-- The members that the ASKs of a query leave out may be left out, each once, and the others are kept. Nothing but ASKs was exchanged; no address has more members that were left out since an
+-- exchange failed than its count of faults rose by; and each that is for a bad reply has an exchange of its own with this reply, which is bad for what that exchange asks for of the query.
 pub record IsPlanLicensed (w : WiresSeen) (endpoints : List EndpointParts) (asked : Query) (kept : List Bool) (rounds : List Round) : Type 0 where
   pub left_out : AreLeftOut endpoints (left_in rounds) kept
   pub leave : All LeavesSomebody rounds
   pub counted : (address : List ℕ) → faults_at w.before address + lefts_failed endpoints address (left_in rounds) ≤ faults_at w.after address
   pub exchanges : List Exchange
   pub gained : IsTrue w.tells → HaveGained w.before w.after exchanges
-  pub licence : Licence endpoints w.before w.after exchanges (left_in rounds) []
+  pub licence : Licence endpoints asked w.before w.after exchanges (left_in rounds) []
   pub texts : List Sent
   pub unsent : List Sent
   pub are_asks : AreAsked endpoints asked [] texts

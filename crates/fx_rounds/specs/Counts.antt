@@ -44,7 +44,7 @@ exchanges_at address (x ∷ xs) = cond {A = ℕ} (bytes_eq x.at.iri address) 1 0
 
 -- of those that a licence is for they are as many as exchanges that failed and exchanges with a bad reply
 abbrev pub LicencesCount : Type 0
-LicencesCount = (endpoints : List EndpointParts) (before after : List Seen) (xs : List Exchange) (left : List Left) (down : List Down) → (it : Licence endpoints before after xs left down) → (address : List ℕ)
+LicencesCount = (endpoints : List EndpointParts) (q : Query) (before after : List Seen) (xs : List Exchange) (left : List Left) (down : List Down) → (it : Licence endpoints q before after xs left down) → (address : List ℕ)
     → lefts_told endpoints address left + downs_told address down ≡ (lefts_failed endpoints address left + downs_failed address down) + exchanges_at address it.refused
 
 -- ---- by numbers

@@ -1,19 +1,34 @@
 -- What it rests on that members were left out, and occurrences of SERVICE were down, since an exchange failed or a reply was bad.
-use Rattle.std.specs.Prelude.{◌≤◌, ◌+◌, ◌++◌, ◌∷◌, ℕ, Bool, List, [], All, IsPermutation, Option, None, Some, Ok, map, slice_get, bytes_eq, cond}
+use Rattle.std.specs.Prelude.{◌≡◌, ◌⊎◌, ◌<◌, ◌≤◌, ◌+◌, ◌++◌, ◌∷◌, ℕ, Bool, true, List, [], All, Contains, IsPermutation, Option, None, Some, Ok, length, map, slice_get, bytes_eq, cond}
 use Rattle.std.specs.List.{flat_map}
+use Rattle.fx_terms.specs.declared.triples.Triple.{Triple}
 use Rattle.fx_outside.specs.Endpoints.{EndpointParts}
+use Rattle.fx_algebra.specs.Scopes.{scope}
 use Rattle.fx_algebra.specs.declared.queries.Query.{Query}
+use Rattle.fx_algebra.specs.declared.units.Row.{Row}
+use Rattle.fx_algebra.specs.declared.units.Unit as unit
+use Rattle.fx_grammar.specs.Accepted.{Accepted}
+use Rattle.fx_http.specs.Requests.{request_of}
+use Rattle.fx_http.specs.declared.replies.ReplyError.TheVariants.{TooLong}
+use Rattle.fx_keys.specs.declared.probes.Probe.{Probe}
 use Rattle.fx_plan.specs.declared.parts.Part.{Part}
-use Rattle.fx_pool.specs.Reading.{Carried, HasFault}
+use Rattle.fx_pool.specs.Reading.{HasFault, a_service, an_ask, carried_for}
 use Rattle.fx_pool.specs.declared.faults.ReplyFault.{ReplyFault}
+use Rattle.fx_pool.specs.declared.faults.ReplyFault.TheVariants.{Http}
+use Rattle.fx_services.specs.Beside.{Occurrence}
+use Rattle.fx_services.specs.ServicesAsked.{service_text}
 use Rattle.fx_services.specs.declared.noted.Down.{Down}
 use Rattle.fx_services.specs.declared.noted.DownCause.{DownCause}
 use Rattle.fx_services.specs.declared.noted.DownCause.TheVariants as down_cause
-use Rattle.fx_sources.specs.Probes.{Entry}
+use Rattle.fx_sources.specs.Patterns.{patterns}
+use Rattle.fx_sources.specs.Probes.{Entry, missing}
 use Rattle.fx_sources.specs.Registries.{IsRegistry}
-use Rattle.fx_traffic.specs.Gains.{faults_at}
+use Rattle.fx_sources.specs.Sources.{ask_text}
+use Rattle.fx_spelling.specs.Units.{IsFit}
+use Rattle.fx_traffic.specs.Batches.{text_for}
+use Rattle.fx_traffic.specs.Gains.{Tell, faults_at}
 use Rattle.fx_wire.specs.Exchanges.{Exchange, Seen}
-use Rattle.fx_outcomes.specs.Calls.{down_in}
+use Rattle.fx_outcomes.specs.Calls.{down_in, occurrences}
 use Rattle.fx_outcomes.specs.InRounds.{WentInRounds, plan_over}
 use Rattle.fx_outcomes.specs.RoundEnds.{AreAbandoned}
 use Rattle.fx_outcomes.specs.Rounds.{without_all}
@@ -90,28 +105,67 @@ down_bad address down_cause.Unknown = []
 abbrev pub downs_bad : List Down → List Replied
 downs_bad down = flat_map (λ d. down_bad d.iri d.why) down
 
--- its reply has a fault, for what was asked
-pub record IsBad (x : Exchange) : Type 0 where
-  pub carried : Carried
+-- ---- what was asked, and the fault of the reply
+
+-- The exchange is the ASK of one of the query's probes, for the probe's endpoint, and its reply has this first fault for an ASK.
+pub record HasAskFault (endpoints : List EndpointParts) (q : Query) (x : Exchange) (why : ReplyFault) : Type 0 where
+  pub probe : Probe
+  pub of_query : Contains (missing q (length endpoints) []) probe
+  pub found : slice_get endpoints probe.at ≡ Some x.at
+  pub posts : x.request ≡ request_of x.at (ask_text probe.key.pattern)
+  pub fault : HasFault an_ask x.reply why
+
+-- A unit of the query's patterns outside SERVICE. Where some text is accepted as the query it can be asked for.
+pub record IsPlannedFor (q : Query) (u : unit.Unit) : Type 0 where
+  pub of_query : All (Contains (patterns q)) u.patterns
+  pub fit : (text : List ℕ) → Accepted text q → IsFit u
+
+-- The exchange asks a member of such a unit for a batch of it, these rows, in the form that the member takes, and its reply has this first fault for that batch in that form.
+pub record HasBatchFault (endpoints : List EndpointParts) (q : Query) (x : Exchange) (why : ReplyFault) : Type 0 where
+  pub unit : unit.Unit
+  pub of_query : IsPlannedFor q unit
+  pub rows : List Row
+  pub at : ℕ
+  pub member : Contains unit.members at
+  pub found : slice_get endpoints at ≡ Some x.at
+  pub text : List ℕ
+  pub of_batch : text_for x.at (record { unit = unit; rows = rows }) ≡ Some text
+  pub posts : x.request ≡ request_of x.at text
+  pub fault : HasFault (carried_for x.at (record { unit = unit; rows = rows })) x.reply why
+
+-- The exchange asks the endpoint that a silent occurrence of SERVICE of the query names for its group, and its reply has this first fault for the rows of that group.
+pub record HasServiceFault (endpoints : List EndpointParts) (q : Query) (x : Exchange) (why : ReplyFault) : Type 0 where
+  pub occurrence : Occurrence
+  pub of_query : Contains (occurrences q) occurrence
+  pub silent : occurrence.silent ≡ true
+  pub endpoint : Contains endpoints x.at
+  pub named : x.at.iri ≡ occurrence.iri
+  pub posts : x.request ≡ request_of x.at (service_text occurrence.group)
+  pub fault : HasFault (a_service (scope occurrence.group)) x.reply why
+
+-- The exchange asks for something of the query, and its reply has a fault for that very thing: an ASK of one of its probes, a batch of a unit of its patterns, or the group of one of its occurrences of
+-- SERVICE. Where these wires tell the graph of its address, the fault is that the reply is too long, and it is longer than a reply may be.
+pub record IsBad (endpoints : List EndpointParts) (q : Query) (before : List Seen) (x : Exchange) : Type 0 where
   pub why : ReplyFault
-  pub fault : HasFault carried x.reply why
+  pub asked : HasAskFault endpoints q x why ⊎ (HasBatchFault endpoints q x why ⊎ HasServiceFault endpoints q x why)
+  pub long : (graph : List Triple) → Tell before x.at.iri graph → (why ≡ Http TooLong) × (67108864 < length x.reply)
 
 -- ---- a licence
 
 -- At each address as many faults were counted at least as members were left out and occurrences were down since an exchange there failed. Where they were for bad replies,
--- each of these is that of an exchange of its own, which has this request to the address.
-pub record Licence (endpoints : List EndpointParts) (before after : List Seen) (xs : List Exchange) (left : List Left) (down : List Down) : Type 0 where
+-- each of these is that of an exchange of its own, which has this request to the address, and asks for something of the query for which this reply is bad.
+pub record Licence (endpoints : List EndpointParts) (q : Query) (before after : List Seen) (xs : List Exchange) (left : List Left) (down : List Down) : Type 0 where
   pub counted : (address : List ℕ) → faults_at before address + (lefts_failed endpoints address left + downs_failed address down) ≤ faults_at after address
   pub refused : List Exchange
   pub others : List Exchange
   pub parted : IsPermutation (refused ++ others) xs
-  pub each : All IsBad refused
+  pub each : All (IsBad endpoints q before) refused
   pub told : IsPermutation (map replied_in refused) (lefts_bad endpoints left ++ downs_bad down)
 
 -- in another order the exchanges license as much
 abbrev pub LicencesInAnyOrder : Type 0
-LicencesInAnyOrder = (endpoints : List EndpointParts) (before after : List Seen) (xs ys : List Exchange) (left : List Left) (down : List Down) → IsPermutation xs ys
-    → Licence endpoints before after xs left down → Licence endpoints before after ys left down
+LicencesInAnyOrder = (endpoints : List EndpointParts) (q : Query) (before after : List Seen) (xs ys : List Exchange) (left : List Left) (down : List Down) → IsPermutation xs ys
+    → Licence endpoints q before after xs left down → Licence endpoints q before after ys left down
 
 -- ---- of a query
 
@@ -126,5 +180,5 @@ downs_in tells alone before after endpoints q plan block kept last (r ∷ rounds
 abbrev pub AnswersAreLicensed : Type 0
 AnswersAreLicensed = (tells alone : Bool) (before after : List Seen) (endpoints : List EndpointParts) (q : Query) (old new : List Entry) (block : ℕ) (all : OutcomeInRounds)
     → IsRegistry endpoints → (w : WentInRounds tells alone before after endpoints q old new block (Ok all))
-    → Licence endpoints before after (went_exchanged tells alone before after endpoints q old new block (Ok all) w) (left_in all.abandoned)
+    → Licence endpoints q before after (went_exchanged tells alone before after endpoints q old new block (Ok all) w) (left_in all.abandoned)
     (downs_in tells alone w.asked w.went.between endpoints q (plan_over endpoints q old w.answers) block w.answers.kept.items w.went.last_kept w.went.abandoned w.went.rounds ++ all.outcome.down)

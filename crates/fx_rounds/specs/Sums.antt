@@ -20,15 +20,16 @@ abbrev pub numbers_in : List EndpointParts → Query → List ℕ → List Round
 numbers_in endpoints q address [] = 0
 numbers_in endpoints q address (r ∷ rounds) = numbers_at endpoints q address r.down + numbers_in endpoints q address rounds
 
--- Some of the exchanges of a call have a bad reply. At each address these, and the faults that were counted in it, are at least as many as the occurrences that were down in rounds which were
--- abandoned, the members that were left out since an exchange failed or for a bad reply, and the occurrences that are down for such a reason in the last round.
+-- Some of the exchanges of a call ask for something of the query and have a reply that is bad for it. At each address these, and the faults that were counted in it, are at least as many as the
+-- occurrences that were down in rounds which were abandoned, the members that were left out since an exchange failed or for a bad reply, and the occurrences that are down for such a reason in the last
+-- round.
 pub record AreEnough (tells : Bool) (before after : List Seen) (endpoints : List EndpointParts) (q : Query) (rounds : List Round) (down : List Down) : Type 0 where
   pub exchanges : List Exchange
   pub gained : IsTrue tells → HaveGained before after exchanges
   pub refused : List Exchange
   pub others : List Exchange
   pub parted : IsPermutation (refused ++ others) exchanges
-  pub each : All IsBad refused
+  pub each : All (IsBad endpoints q before) refused
   pub enough : (address : List ℕ) → faults_at before address + (numbers_in endpoints q address rounds + (lefts_told endpoints address (left_in rounds) + downs_told address down)) ≤ faults_at after address + exchanges_at address refused
 
 -- so it is with an answer

@@ -36,7 +36,7 @@ pub fn licences_in_any_order()
 {}
 
 /// With an answer, whatever was left out or is down since an exchange failed has its fault, counted in the call at its address; and whatever
-/// was or is for a bad reply has an exchange of the call, by itself, that got this reply.
+/// was or is for a bad reply has an exchange of the call, by itself, that asks for something of the query and got this reply, which is bad for it.
 pub fn answers_are_licensed()
     ensures { AnswersAreLicensed }
 {}

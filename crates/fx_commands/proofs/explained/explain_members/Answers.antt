@@ -2,12 +2,12 @@ use Rattle.std.proofs.Common.{◌≡◌, ◌∙◌, List, subst, sym}
 use Rattle.fx_outside.specs.Endpoints.{EndpointParts}
 use Rattle.fx_plan.specs.Explained.{explained}
 use Rattle.fx_traffic.specs.Gains.{wires_seen}
-use Rattle.fx_commands.specs.Explain.{IsPlanWritten}
+use Rattle.fx_commands.specs.Explain.{IsPlanCut, IsPlanWritten}
 use Rattle.fx_commands.specs.FedRefusals.{IsGivenEnd, fed_line}
 use Rattle.fx_commands.specs.MemberLines.{plan_lines}
 use Rattle.fx_local.specs.Sinks.{sink_written}
-use Rattle.fx_commands.proofs.QueryLemmas.{cut_so, fed_not_cut, fed_not_done, refused_wrote, wrote_so}
-use Rattle.fx_commands.proofs.ExplainLemmas.{plan_done, plan_given, plan_refused, plan_text}
+use Rattle.fx_commands.proofs.QueryLemmas.{cut_so, fed_not_cut, fed_not_done, front_cut, refused_wrote, wrote_so}
+use Rattle.fx_commands.proofs.ExplainLemmas.{plan_cut, plan_done, plan_given, plan_refused, plan_text}
 use Rattle.fx_commands.proofs.explained.explain_members.Goals as goal
 
 pub returns-in-Ok-clause-reported : goal.returns-in-Ok-clause-reported
@@ -52,3 +52,13 @@ returns-in-Ok-clause-write_fault g c = λ cut.
 
 pub returns-in-Err-clause-write_fault : goal.returns-in-Err-clause-write_fault
 returns-in-Err-clause-write_fault g c = λ cut. absurd (fed_not_cut c.in-Err.error (sym c.fed_status.ensures ∙ cut))
+
+pub returns-in-Ok-clause-cut : goal.returns-in-Ok-clause-cut
+returns-in-Ok-clause-cut g c = λ cut.
+    let w = wires_seen g.W.Wire.tells_log g.W.Wire.counts_alone g.W.Wire.seen c.args.wires.now c.plan.new.wires in
+    let out = sink_written g.O.Ends.tells_held g.O.Ends.held g.O.Ends.write_faults c.args.out.now c.write_plan.new.out in
+    plan_cut w c.args.members.now c.args.query.now c.in-Ok.plan out c.endpoints-endpoints.ensures.valid c.in-Ok.ensures.planned
+    (subst (λ (es : List EndpointParts). IsPlanCut es c.in-Ok.plan out) c.endpoints-endpoints.ensures.value (λ told. front_cut _ c.write_plan.result _ _ cut (c.write_plan.ensures.written told)))
+
+pub returns-in-Err-clause-cut : goal.returns-in-Err-clause-cut
+returns-in-Err-clause-cut g c = λ cut. absurd (fed_not_cut c.in-Err.error (sym c.fed_status.ensures ∙ cut))

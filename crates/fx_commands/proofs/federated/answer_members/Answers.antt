@@ -5,7 +5,7 @@ use Rattle.fx_commands.specs.FedRefusals.{IsGivenEnd, fed_line}
 use Rattle.fx_commands.specs.MemberLines.{answer_lines}
 use Rattle.fx_commands.specs.Query.{IsOutcomeWritten}
 use Rattle.fx_local.specs.Sinks.{sink_written}
-use Rattle.fx_commands.proofs.QueryLemmas.{cut_so, fed_not_cut, fed_not_done, given_done, given_reported, refusal_reported, refused_wrote, union_document, wrote_so}
+use Rattle.fx_commands.proofs.QueryLemmas.{cut_so, fed_not_cut, fed_not_done, front_cut, given_cut, given_done, given_reported, refusal_reported, refused_wrote, union_document, wrote_so}
 use Rattle.fx_commands.proofs.FaultLemmas.{counts_down_by}
 use Rattle.fx_commands.proofs.federated.answer_members.Goals as goal
 
@@ -58,3 +58,13 @@ returns-in-Ok-clause-write_fault g c = λ cut.
 
 pub returns-in-Err-clause-write_fault : goal.returns-in-Err-clause-write_fault
 returns-in-Err-clause-write_fault g c = λ cut. absurd (fed_not_cut c.in-Err.error (sym c.fed_status.ensures ∙ cut))
+
+pub returns-in-Ok-clause-cut : goal.returns-in-Ok-clause-cut
+returns-in-Ok-clause-cut g c = λ cut.
+    let w = wires_seen g.W.Wire.tells_log g.W.Wire.counts_alone g.W.Wire.seen c.args.wires.now c.outcome.new.wires in
+    let out = sink_written g.O.Ends.tells_held g.O.Ends.held g.O.Ends.write_faults c.args.out.now c.write_outcome.new.out in
+    given_cut w c.args.members.now c.args.query.now c.args.block c.in-Ok.all out c.endpoints-endpoints.ensures.valid c.in-Ok.ensures.answered
+    (λ told. front_cut _ c.write_outcome.result _ _ cut (c.write_outcome.ensures.written told))
+
+pub returns-in-Err-clause-cut : goal.returns-in-Err-clause-cut
+returns-in-Err-clause-cut g c = λ cut. absurd (fed_not_cut c.in-Err.error (sym c.fed_status.ensures ∙ cut))

@@ -13,7 +13,7 @@ use Rattle.fx_local.specs.Sinks.{sink_written}
 use Rattle.fx_local.specs.declared.statuses.Status.{Status}
 use Rattle.fx_local.specs.declared.statuses.Status.TheVariants as status
 use Rattle.fx_local.proofs.CountLemmas.{only_later, only_read}
-use Rattle.fx_commands.proofs.QueryLemmas.{a_union, answer_reported, cut_so, query_done, query_not_done, query_refused_before, query_since, query_wrote, registry_not_done, registry_refused_before, registry_wrote, wrote_so}
+use Rattle.fx_commands.proofs.QueryLemmas.{a_union, answer_reported, cut_so, query_cut, query_done, query_not_cut, query_not_done, query_refused_before, query_since, query_wrote, registry_not_cut, registry_not_done, registry_refused_before, registry_wrote, wrote_so}
 use Rattle.fx_commands.proofs.federated.run_query.Goals as goal
 
 pub returns-in-Err-clause-reported : goal.returns-in-Err-clause-reported
@@ -96,6 +96,22 @@ returns-clause-write_fault g c = λ cut.
     let query = read c.args.query.now in
     let since = query_since c.args.query.now _ _ ((g.F.Files.seen c.args.files.now).faults c.args.query.now) ((g.F.Files.seen c.load_registry.new.files).faults c.args.query.now) ((g.F.Files.seen c.load_query.new.files).faults c.args.query.now) (Ok c.in-Ok-load_query.asked) (c.load_registry.ensures.same c.args.query.now) (c.load_registry.ensures.kept c.args.query.now) c.in-Ok-load_query.ensures.outcome in
     cut_so _ _ (λ text k. a_union (map g.W.Wire.seen c.args.wires.now) registry query _ c.get.result.now text c.in-Ok.ensures.outcome (subst (λ (q : Query). GivesQuery query (Ok q)) (sym c.get.ensures) since) k) _ _ (c.answer_members.ensures.write_fault cut)
+
+pub returns-in-Err-clause-cut : goal.returns-in-Err-clause-cut
+returns-in-Err-clause-cut g c = λ cut. absurd (registry_not_cut c.in-Err.refusal (sym c.status.ensures ∙ cut))
+
+pub returns-in-Err-load_query-clause-cut : goal.returns-in-Err-load_query-clause-cut
+returns-in-Err-load_query-clause-cut g c = λ cut. absurd (query_not_cut c.in-Err-load_query.refusal (sym c.status-in-Err-load_query.ensures ∙ cut))
+
+pub returns-clause-cut : goal.returns-clause-cut
+returns-clause-cut g c = λ cut.
+    let w = wires_seen g.W.Wire.tells_log g.W.Wire.counts_alone g.W.Wire.seen c.args.wires.now c.answer_members.new.wires in
+    let read = file_read (g.F.Files.seen c.args.files.now) (g.F.Files.seen c.load_query.new.files) in
+    let registry = read c.args.registry.now in
+    let query = read c.args.query.now in
+    let since = query_since c.args.query.now _ _ ((g.F.Files.seen c.args.files.now).faults c.args.query.now) ((g.F.Files.seen c.load_registry.new.files).faults c.args.query.now) ((g.F.Files.seen c.load_query.new.files).faults c.args.query.now) (Ok c.in-Ok-load_query.asked) (c.load_registry.ensures.same c.args.query.now) (c.load_registry.ensures.kept c.args.query.now) c.in-Ok-load_query.ensures.outcome in
+    let out = sink_written g.O.Ends.tells_held g.O.Ends.held g.O.Ends.write_faults c.args.out.now c.answer_members.new.out in
+    query_cut w registry query _ c.get.result.now c.args.block out c.in-Ok.ensures.outcome (subst (λ (q : Query). GivesQuery query (Ok q)) (sym c.get.ensures) since) (c.answer_members.ensures.cut cut)
 
 pub returns-in-Err-clause-read_faults : goal.returns-in-Err-clause-read_faults
 returns-in-Err-clause-read_faults g c =

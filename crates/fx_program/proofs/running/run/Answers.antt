@@ -129,7 +129,7 @@ returns-in-Ok-Query-clause-headline g c =
     on_used g.W.Wire.seen g.W.Wire.tells_log g.W.Wire.counts_alone (λ (w : WiresSeen). Headline read w a c.run_query.result out err) (wires_used a) c.in-Ok-Query.workers c.min.result c.args.wires.now c.split_at_mut-used.result.0.now c.split_at_mut-used.result.1.now c.run_query.new.wires
     (ap wires_used is) c.min.ensures c.split_at_mut-used.ensures.front c.split_at_mut-used.ensures.back
     (subst (λ (o : Option Asked). Headline read w o c.run_query.result out err) (sym is)
-    (query_headline w (read c.in-Ok-Query.registry.now) (read c.in-Ok-Query.query.now) c.in-Ok-Query.block c.run_query.result told.0 out err told.1 told.2 c.run_query.ensures.done))
+    (query_headline w (read c.in-Ok-Query.registry.now) (read c.in-Ok-Query.query.now) c.in-Ok-Query.block c.run_query.result told.0 out err told.1 told.2 c.run_query.ensures.done c.run_query.ensures.cut))
 
 pub returns-in-Ok-Query-clause-completes : goal.returns-in-Ok-Query-clause-completes
 returns-in-Ok-Query-clause-completes g c =
@@ -243,7 +243,7 @@ returns-in-Ok-Explain-clause-headline g c =
     on_used g.W.Wire.seen g.W.Wire.tells_log g.W.Wire.counts_alone (λ (w : WiresSeen). Headline read w a c.run_explain.result out err) (wires_used a) 4 c.min-in-Ok-Explain.result c.args.wires.now c.split_at_mut-used-in-Ok-Explain.result.0.now c.split_at_mut-used-in-Ok-Explain.result.1.now c.run_explain.new.wires
     (ap wires_used is) c.min-in-Ok-Explain.ensures c.split_at_mut-used-in-Ok-Explain.ensures.front c.split_at_mut-used-in-Ok-Explain.ensures.back
     (subst (λ (o : Option Asked). Headline read w o c.run_explain.result out err) (sym is)
-    (explain_headline w (read c.in-Ok-Explain.registry.now) (read c.in-Ok-Explain.query.now) c.run_explain.result told.0 out err told.1 told.2 c.run_explain.ensures.done))
+    (explain_headline w (read c.in-Ok-Explain.registry.now) (read c.in-Ok-Explain.query.now) c.run_explain.result told.0 out err told.1 told.2 c.run_explain.ensures.done c.run_explain.ensures.cut))
 
 pub returns-in-Ok-Explain-clause-completes : goal.returns-in-Ok-Explain-clause-completes
 returns-in-Ok-Explain-clause-completes g c =
