@@ -40,7 +40,8 @@ use Rattle.fx_local.specs.GraphTexts.{IsGraphText, is_turtle}
 use Rattle.fx_local.specs.Files.{FileRead, Holds, IsQueryOf, IsQueryThat, IsRegistryOf}
 use Rattle.fx_commands.specs.FedRefusals.{IsGivenEnd}
 use Rattle.fx_commands.specs.Generator.{summary}
-use Rattle.fx_program.specs.Headline.{AreWritten, Gives, Headline, IsFront, IsTold, NamesFailed, Plans}
+use Rattle.fx_program.specs.Given.{Gives, Plans}
+use Rattle.fx_program.specs.Headline.{AreWritten, Headline, IsFront, IsTold, NamesFailed}
 use Rattle.fx_local.specs.Lines.{Gains}
 use Rattle.fx_commands.specs.MemberLines.{answer_lines, member_failed, plan_lines, service_failed}
 use Rattle.fx_local.specs.Local.{HasLines, IsWritten}

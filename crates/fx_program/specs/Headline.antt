@@ -1,24 +1,17 @@
 -- The theorem of `run`, to be read first: what is written where the wires tell the graphs of the members, and which endpoint is named as failed.
-use Rattle.std.specs.Prelude.{◌≡◌, ◌<◌, ◌++◌, ◌⊎◌, ℕ, Bool, false, List, [], map, Contains, IsTrue, Option, Some, Ok, Err}
+use Rattle.std.specs.Prelude.{◌≡◌, ◌<◌, ◌++◌, ◌⊎◌, ℕ, false, List, [], Contains, IsTrue, Option, Some, Ok, Err}
 use Rattle.fx_terms.specs.declared.triples.Triple.{Triple}
 use Rattle.fx_outside.specs.Endpoints.{EndpointParts}
 use Rattle.fx_outside.specs.Streams.{AppendsFront}
 use Rattle.fx_algebra.specs.Answers.{answer, no_graphs}
-use Rattle.fx_algebra.specs.Graphs.{union}
 use Rattle.fx_algebra.specs.Occurrences.{services}
-use Rattle.fx_algebra.specs.Units.{of_kept, sources}
 use Rattle.fx_algebra.specs.declared.queries.Query.{Query}
 use Rattle.fx_grammar.specs.Accepted.{Accepted}
 use Rattle.fx_results.specs.Documents.{document}
-use Rattle.fx_plan.specs.Explained.{explained}
 use Rattle.fx_sources.specs.Registries.{read_registry}
 use Rattle.fx_traffic.specs.Gains.{TellAll, WiresSeen, faults_at}
 use Rattle.fx_outcomes.specs.Mediation.{Serve}
-use Rattle.fx_walks.specs.Sections.{parts_with}
 use Rattle.fx_outcomes.specs.declared.federated.FedError.TheVariants as fed
-use Rattle.fx_outcomes.specs.declared.rounds.OutcomeInRounds.{OutcomeInRounds}
-use Rattle.fx_outcomes.specs.declared.rounds.PlanInRounds.{PlanInRounds}
-use Rattle.fx_rounds.specs.Answered.{AreLicensed, IsPlanLicensed}
 use Rattle.fx_rounds.specs.Refused.{IsFirstFailed}
 use Rattle.fx_local.specs.Limits.{graph_limit, query_limit, registry_limit}
 use Rattle.fx_local.specs.declared.statuses.Status.{Status}
@@ -29,8 +22,9 @@ use Rattle.fx_local.specs.GraphTexts.{IsGraphText}
 use Rattle.fx_commands.specs.Asking.{WasAsked, WasPlanned}
 use Rattle.fx_commands.specs.Generator.{summary}
 use Rattle.fx_local.specs.Lines.{Gains}
-use Rattle.fx_commands.specs.MemberLines.{down_lines, left_lines, member_failed, service_failed}
+use Rattle.fx_commands.specs.MemberLines.{member_failed, service_failed}
 use Rattle.fx_local.specs.Services.{all_numbers, silent_lines}
+use Rattle.fx_program.specs.Given.{Gives, Plans}
 use Rattle.fx_local.specs.Sinks.{SinkWritten}
 
 -- the registry has these endpoints, the query is this, and each wire tells the graph of each endpoint
@@ -50,19 +44,6 @@ IsFront text out = IsTrue out.tells → AppendsFront out.old out.new text
 abbrev pub NamesFailed : WiresSeen → List EndpointParts → (EndpointParts → List ℕ → Type 0) → Status → SinkWritten → Type 0
 NamesFailed w endpoints IsLine s err =
     s ≡ status.EndpointFault → (e : EndpointParts) × (line : List ℕ) × Contains endpoints e × (faults_at w.before e.iri < faults_at w.after e.iri) × IsLine e line × (IsTrue err.tells → Gains err.old err.new err.before err.after line)
-
--- The members were asked for the query in rounds, and gave an answer, of which this is so: its document is that over the union of the graphs of those that weren't left out in these very rounds, where the SERVICEs
--- are down that were in the last, each by its own cause; each of both has its line; no member is left out that may not be; and what was exchanged is the traffic of the query in these rounds.
-abbrev pub Gives : WiresSeen → List EndpointParts → Query → ℕ → List (List Triple) → (List ℕ → List Triple) → (List ℕ → List ℕ → Type 0) → Type 0
-Gives w endpoints asked block graphs graph_at Is =
-    (all : OutcomeInRounds) × (kept : List Bool) × WasAsked w endpoints asked block (Ok all) × AreLicensed w endpoints asked block kept all.abandoned all.outcome.down
-    × Is (document (answer asked (union (of_kept kept graphs)) graph_at (map (λ d. d.place) all.outcome.down))) (left_lines endpoints all.abandoned ++ down_lines all.outcome.down)
-
--- so it was for its plan
-abbrev pub Plans : WiresSeen → List EndpointParts → Query → List (List Triple) → (List ℕ → List ℕ → Type 0) → Type 0
-Plans w endpoints asked graphs Is =
-    (p : PlanInRounds) × (kept : List Bool) × WasPlanned w endpoints asked (Ok p) × IsPlanLicensed w endpoints asked kept p.abandoned
-    × Is (explained (parts_with (sources (of_kept kept graphs)) asked) endpoints) (left_lines endpoints p.abandoned)
 
 -- With `Done` `query` wrote the document that the members gave, and `explain` the plan, with the lines of this very run; with `WriteFault` a front of it. `local` wrote the document of the answer over the graph of
 -- the file, with a line for each SERVICE SILENT; and `generate` the four lines of the members that it makes, the last of which has the number of rows of its query over the union of their graphs. An endpoint is named

@@ -1,3 +1,4 @@
 pub mod Completeness
+pub mod Given
 pub mod Headline
 pub mod Runs
