@@ -1,5 +1,6 @@
 pub mod KindLaws
 pub mod Longest
+pub mod Nexts
 pub mod One
 pub mod Readers
 pub mod Runs

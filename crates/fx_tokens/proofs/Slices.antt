@@ -20,7 +20,7 @@ and_both true b e = (refl, e)
 and_both false b e = absurd (cc)
 
 -- both parts of a text are characters
-scalars_parts : (front rest : List ℕ) → scalars (front ++ rest) ≡ true → (scalars front ≡ true) × (scalars rest ≡ true)
+pub scalars_parts : (front rest : List ℕ) → scalars (front ++ rest) ≡ true → (scalars front ≡ true) × (scalars rest ≡ true)
 scalars_parts [] rest e = (refl, e)
 scalars_parts (c ∷ front) rest e =
     let h = and_both _ (scalars (front ++ rest)) e in
@@ -28,7 +28,7 @@ scalars_parts (c ∷ front) rest e =
     (rw h.0 g.0, g.1)
 
 -- where a text stands in the bytes
-moved : (bytes before text front rest : List ℕ) → bytes ≡ encode_utf8_all before ++ encode_utf8_all text → text ≡ front ++ rest → bytes ≡ encode_utf8_all (before ++ front) ++ encode_utf8_all rest
+pub moved : (bytes before text front rest : List ℕ) → bytes ≡ encode_utf8_all before ++ encode_utf8_all text → text ≡ front ++ rest → bytes ≡ encode_utf8_all (before ++ front) ++ encode_utf8_all rest
 moved bytes before text front rest e f =
     e ∙ ap (λ v. encode_utf8_all before ++ encode_utf8_all v) f ∙ ap (λ v. encode_utf8_all before ++ v) (encodes-append front rest)
     ∙ sym (append_assoc (encode_utf8_all before) (encode_utf8_all front) (encode_utf8_all rest)) ∙ ap (λ v. v ++ encode_utf8_all rest) (sym (encodes-append before front))
@@ -43,7 +43,7 @@ cut_out bytes before front rest e =
     ∙ ap (take (width before + width front - width before)) (drop-append_seam (encode_utf8_all before) (encode_utf8_all front ++ encode_utf8_all rest))
     ∙ ap (λ (n : ℕ). take n (encode_utf8_all front ++ encode_utf8_all rest)) long ∙ take-append_seam (encode_utf8_all front) (encode_utf8_all rest)
 
-slice : (bytes before text : List ℕ) (k : TokenKind) (front rest : List ℕ) → bytes ≡ encode_utf8_all before ++ encode_utf8_all text → scalars text ≡ true → text ≡ front ++ rest → IsToken k front
+pub slice : (bytes before text : List ℕ) (k : TokenKind) (front rest : List ℕ) → bytes ≡ encode_utf8_all before ++ encode_utf8_all text → scalars text ≡ true → text ≡ front ++ rest → IsToken k front
     → IsSlice bytes (record { kind = k; start = width before; end = width before + width front })
 slice bytes before text k front rest e s f t =
     let parts = scalars_parts front rest (ap scalars (sym f) ∙ s) in

@@ -1,12 +1,13 @@
 -- How a text is read as tokens, and where it can't be (SPARQL 1.1 section 19.8, and section 19.4 for comments). A text is the
 -- list of its characters; places are numbers of bytes.
-use Rattle.std.specs.Prelude.{◌≡◌, ℕ, ◌+◌, ◌<◌, ◌≤◌, slice_range, Bool, true, false, ◌||◌, ◌==◌, List, [], ◌∷◌, ◌++◌, length, Result, Ok, Err, if◌then◌else◌}
+use Rattle.std.specs.Prelude.{◌≡◌, ℕ, ◌+◌, ◌<◌, ◌≤◌, slice_range, drop, Option, Some, None, Bool, true, false, ◌||◌, ◌==◌, List, [], ◌∷◌, ◌++◌, length, Result, Ok, Err, if◌then◌else◌}
 use Rattle.std.specs.Str.{chars, IsCharBoundary}
 use Rattle.fx_tokens.specs.Answers.{width}
 use Rattle.fx_tokens.specs.Classes.{is_white_space, is_in_line, is_line_end}
 use Rattle.fx_tokens.specs.Forms.{One, Repeat}
 use Rattle.fx_tokens.specs.Kinds.{IsToken, TextPart}
 use Rattle.fx_tokens.specs.declared.Token.{Token}
+use Rattle.fx_tokens.specs.declared.Next.{Next}
 use Rattle.fx_tokens.specs.declared.TokenKind.{TokenKind}
 use Rattle.fx_tokens.specs.declared.TokenError.{TokenError}
 use Rattle.fx_tokens.specs.declared.TokenError.TheVariants.{Bad}
@@ -82,3 +83,15 @@ pub record IsSlice (text : List ℕ) (token : Token) : Type 0 where
 abbrev pub RiseFrom : ℕ → List Token → Type 0
 RiseFrom at [] = Unit {0}
 RiseFrom at (next ∷ tokens) = (at ≤ next.start) × RiseFrom next.end tokens
+
+-- The token that comes next in a text from a place on: it begins there or behind, and whatever the text reads as behind it, from the
+-- place on the text reads as that with the token in front.
+pub record IsNext (text : List ℕ) (at : ℕ) (token : Token) : Type 0 where
+  pub slice : IsSlice text token
+  pub rises : at ≤ token.start
+  pub reads : (answer : Result (List Token) TokenError) → Reads token.end (chars (drop token.end text)) answer → Reads at (chars (drop at text)) (with_front token answer)
+
+-- what comes next in a text from a place on, or that nothing does
+abbrev pub AnswersNext : List ℕ → ℕ → Option Next → Type 0
+AnswersNext text at None = Reads at (chars (drop at text)) (Ok [])
+AnswersNext text at (Some next) = IsNext text at next.token

@@ -12,10 +12,11 @@ pub mod laws;
 mod parts;
 mod reading;
 
-ghost use Rattle.std.specs.Prelude.{◌≡◌, ◌-◌, All, List, Result as Answer, Ok, Err, IfOk, IfErr, MatchResult};
-ghost use Rattle.std.specs.Str.{chars};
-ghost use Rattle.fx_tokens.specs.Answers.{UnlessMemory, width};
-ghost use Rattle.fx_tokens.specs.Reads.{Reads, IsSlice, RiseFrom};
+ghost use Rattle.std.specs.Prelude.{◌≡◌, All, List, drop, Result as Answer, Ok, Err, IfOk, IfErr, IfSome, MatchResult};
+ghost use Rattle.std.specs.Str.{chars, IsCharBoundary};
+ghost use Rattle.fx_tokens.specs.Answers.{UnlessMemory};
+ghost use Rattle.fx_tokens.specs.Reads.{Reads, IsSlice, RiseFrom, AnswersNext};
+ghost use Rattle.fx_tokens.specs.Scan.{Barren};
 
 use crate::classes::{Class, is_white_space};
 use crate::kinds::barren_behind;
@@ -57,6 +58,13 @@ pub struct Token {
     pub kind: TokenKind,
     pub start: u64,
     pub end: u64,
+}
+
+/// The next token of a text, and what is known of names with a prefix behind it: none begins where more than `barren` bytes are left.
+#[derive(Clone, Copy)]
+pub struct Next {
+    pub token: Token,
+    pub barren: usize,
 }
 
 /// Why no token stands where one would begin.
@@ -118,38 +126,63 @@ pub fn tokens(alloc: Global, text: &str) -> Result<Vec<Token>, TokenError>
     read(alloc, text)
 }
 
-/// Every type of this crate may be shared between threads and sent to them.
-pub fn all_shareable() {
-    shareable::<Token>();
-    shareable::<TokenKind>();
-    shareable::<TokenError>();
-    shareable::<TokenFault>();
-}
+/// The next token of a text from a place on, past white space and comments; none where nothing else stands behind the place.
+///
+/// `barren` is the number that came with the token before, or at first the text's length. It spares the call what was looked through
+/// before, so that the calls for all the tokens of a text take time by its length. `Bad` is as for `tokens`; `Memory` never comes.
+pub fn next_token(text: &str, place: u64, barren: usize) -> Result<Option<Next>, TokenError>
+    requires place { IsCharBoundary text.now place }
+    requires barren { Barren barren (chars (drop place text.now)) }
 
-fn read(alloc: Global, text: &str) -> Result<Vec<Token>, TokenError>
-    ensures found { IfOk result (λ tokens. Reads 0 (chars text.now) (Ok tokens.items)) }
-    ensures refused { IfErr result (λ e. UnlessMemory e (Reads 0 (chars text.now) (Err e))) }
+    // The text reads from the place on as what stands behind the token, with the token in front.
+    ensures found { IfOk result (AnswersNext text.now place) }
+    ensures refused { IfErr result (λ e. Reads place (chars (drop place text.now)) (Err e)) }
+
+    // The number is right for what stands behind the token.
+    ensures barren { IfOk result (λ next. IfSome next (λ n. Barren n.barren (chars (drop n.token.end text.now)))) }
 {
-    let size = width(text);
-    let mut tokens = Vec::new(alloc);
-    let mut rest = text;
-    let mut barren = size;
+    let size = text.len();
+    let mut rest = &text[place as usize..];
     'each: while let Some((first, behind)) = split_first(rest) {
         if is_white_space(first) {
             rest = behind;
         } else if first == '#' {
             rest = skip(behind, Class::InLine);
         } else if let Some((kind, after)) = longest(rest, barren) {
-            barren = barren_behind(rest, barren);
-            tokens.push(Token {
+            let token = Token {
                 kind,
                 start: (size - width(rest)) as u64,
                 end: (size - width(after)) as u64,
-            })?;
-            rest = after;
+            };
+            let barren = barren_behind(rest, barren);
+            return Ok(Some(Next { token, barren }));
         } else {
             return Err(fault(rest, size));
         }
     }
+    Ok(None)
+}
+
+fn read(alloc: Global, text: &str) -> Result<Vec<Token>, TokenError>
+    ensures found { IfOk result (λ tokens. Reads 0 (chars text.now) (Ok tokens.items)) }
+    ensures refused { IfErr result (λ e. UnlessMemory e (Reads 0 (chars text.now) (Err e))) }
+{
+    let mut tokens = Vec::new(alloc);
+    let mut place = 0;
+    let mut barren = text.len();
+    'each: while let Some(next) = next_token(text, place, barren)? {
+        tokens.push(next.token)?;
+        place = next.token.end;
+        barren = next.barren;
+    }
     Ok(tokens)
+}
+
+/// Every type of this crate may be shared between threads and sent to them.
+pub fn all_shareable() {
+    shareable::<Token>();
+    shareable::<TokenKind>();
+    shareable::<Next>();
+    shareable::<TokenError>();
+    shareable::<TokenFault>();
 }

@@ -84,7 +84,7 @@ unfolding document statements
 kept_document = kept_made _ (kept_statements [])
 
 -- a statement ends by itself
-ends_alone : (ps : Prefixes) (kind : Kind) → (statement ps).goes_on kind ≡ false
+pub ends_alone : (ps : Prefixes) (kind : Kind) → (statement ps).goes_on kind ≡ false
 unfolding statement declaration triples subject properties more_properties property verb object left_out literal text_suffix datatype iri_name
 ends_alone ps kind = refl
 

@@ -3,6 +3,7 @@ pub mod Choices
 pub mod Deciding
 pub mod Documented
 pub mod Exampled
+pub mod GrammarDots
 pub mod GrammarLaws
 pub mod Keeping
 pub mod KindLaws
@@ -13,9 +14,12 @@ pub mod PrintedLines
 pub mod PrintedPieces
 pub mod PrintedStatements
 pub mod PrintedTokens
+pub mod RuleDots
 pub mod RuleLaws
 pub mod RuleWindows
 pub mod Said
 pub mod SourceLaws
 pub mod TripleParts
 pub mod Whole
+pub mod WindowTokens
+pub mod WindowTurns

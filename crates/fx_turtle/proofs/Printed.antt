@@ -1,5 +1,5 @@
 -- What is printed of a graph is a document of that graph and of no other.
-use Rattle.std.proofs.Common.{List, [], sym, ap, ◌∙◌, subst, All}
+use Rattle.std.proofs.Common.{List, [], sym, subst, All}
 use Rattle.std.specs.List.{flat_map}
 use Rattle.fx_terms.specs.Triples.{IsTriple, triple_cmp}
 use Rattle.fx_terms.specs.declared.triples.Triple.{Triple}

@@ -12,7 +12,7 @@ behind step s [] = s
 behind step s (x ∷ xs) = behind step (step s x) xs
 
 module _ {T K W : Type 0} (G : Alphabet T K W) where
-  sees_none : (p : K → Bool) (ts : List T) → ((kind : K) → p kind ≡ false) → sees G p ts ≡ false
+  pub sees_none : (p : K → Bool) (ts : List T) → ((kind : K) → p kind ≡ false) → sees G p ts ≡ false
   sees_none p [] none = refl
   sees_none p (t ∷ ts) none = none (G.kind_of t)
 

@@ -12,6 +12,7 @@ use Rattle.fx_turtle.specs.Gives.{added}
 use Rattle.fx_turtle.specs.Grammar.{is_iri_name, begins_blank_node, begins_base, as_turtle, named_by, iri_name, datatype, text_suffix, literal, left_out, object, subject, verb, property, more_properties, properties, triples, Statement, declares, holds, declare, triples_in, declaration, statement, statements, document}
 use Rattle.fx_turtle.specs.Rule.{alphabet, Outcome, Refusal, Rule, one, token, shape_of, read_whole}
 use Rattle.fx_turtle.specs.Symbols as symbol
+use Rattle.fx_turtle.specs.Windows.{rest_of_document}
 use Rattle.fx_turtle.specs.Symbols.{Symbol, is, kind_of}
 use Rattle.fx_turtle.specs.declared.kinds.Kind.TheVariants as k
 use Rattle.fx_turtle.specs.declared.refusals.TurtleKind.TheVariants.{Unexpected, Unsupported}
@@ -110,9 +111,6 @@ same_statements ps qs ts h = same_from (length ts) ps qs ts h
 
 -- ---- the rest of a document, behind what was said before
 
-unfoldable pub rest_of_document : Prefixes → List Triple → List Symbol → Outcome (List Triple)
-rest_of_document ps front ts = and_then (added front (flat_map triples_in) ((statements ps).read ts)) (to_end alphabet)
-
 pub document_begins : (ts : List Symbol) → rest_of_document [] [] ts ≡ read_whole document ts
 unfolding rest_of_document added document rules.read_whole
 document_begins ts = go ((statements []).read ts)
@@ -165,7 +163,7 @@ module _ (ps : Prefixes) (ts : List Symbol) where
         unfolding statement
         held_undotted said dot r e f = rw (sees_alone (is k.AtPrefix) ts false no, sees_alone (is k.Prefix) ts false nor, base, e, f) refl
 
-statement_law : (ps : Prefixes) → laws.Lawful alphabet (statement ps)
+pub statement_law : (ps : Prefixes) → laws.Lawful alphabet (statement ps)
 statement_law ps = (kept_statement ps).law
 
 statement_fits : (ps : Prefixes) → rules.Shaped (shape_of (statement [])) (statement ps)

@@ -1,15 +1,15 @@
 -- What private functions answer on the way from a text to its graph.
-use Rattle.std.specs.Prelude.{◌≡◌, ◌⊎◌, ℕ, ◌≤◌, List, [], Result, Ok, Err, IfOk, IfErr, MatchResult}
+use Rattle.std.specs.Prelude.{◌≡◌, ◌⊎◌, ℕ, ◌≤◌, List, drop, Result, Ok, Err, IfOk, IfErr, MatchResult}
+use Rattle.std.specs.Str.{chars}
 use Rattle.fx_terms.specs.Graphs as graphs
 use Rattle.fx_terms.specs.declared.triples.Triple.{Triple}
+use Rattle.fx_tokens.specs.Reads.{Reads}
 use Rattle.fx_tokens.specs.declared.Token as read
 use Rattle.fx_tokens.specs.declared.TokenError.{TokenError}
+use Rattle.fx_tokens.specs.declared.TokenFault.{TokenFault}
 use Rattle.fx_tokens.specs.declared.TokenError.TheVariants.{Bad, Memory as NoMemory}
 use Rattle.fx_grammar.specs.Refused.{place_of}
 use Rattle.fx_turtle.specs.Documents.{IsTurtleOf, IsRefused}
-use Rattle.fx_turtle.specs.Grammar.{document}
-use Rattle.fx_turtle.specs.Rule.{Refusal, read_whole}
-use Rattle.fx_turtle.specs.Symbols.{symbols}
 use Rattle.fx_turtle.specs.declared.faults.Fault.{Fault}
 use Rattle.fx_turtle.specs.declared.faults.Fault.TheVariants as fault
 use Rattle.fx_turtle.specs.declared.refusals.TurtleKind.{TurtleKind}
@@ -38,26 +38,19 @@ abbrev pub bad_token : TokenError → TurtleError
 bad_token (Bad place fault) = Refused BadToken place
 bad_token NoMemory = Memory
 
--- where the grammar refuses the tokens of a text
-abbrev pub fault_at : List ℕ → List read.Token → Fault → TurtleError
-fault_at bytes tokens (fault.Refused why left) = Refused why (place_of bytes tokens left)
-fault_at bytes tokens fault.Memory = Memory
+-- no token stands somewhere from a place on, unless memory ran out
+abbrev pub NoToken : List ℕ → ℕ → TurtleError → Type 0
+NoToken bytes at Memory = Unit {0}
+NoToken bytes at (Refused kind place) = (fault : TokenFault) × Reads at (chars (drop at bytes)) (Err (Bad place fault)) × (kind ≡ BadToken)
 
 -- it stands at one of so many tokens, or behind them
 abbrev pub StandsWithin : ℕ → Fault → Type 0
 StandsWithin n (fault.Refused why left) = left ≤ n
 StandsWithin n fault.Memory = Unit {0}
 
--- the answer is a refusal of the grammar, unless memory ran out
-abbrev pub AnswersFault : List ℕ → List read.Token → TurtleError → Type 0
-AnswersFault bytes tokens (Refused kind place) = (refusal : Refusal) × (read_whole document (symbols bytes tokens) ≡ Err refusal) × (kind ≡ refusal.why) × (place ≡ place_of bytes tokens refusal.left)
-AnswersFault bytes tokens Memory = Unit {0}
-
--- the grammar reads these triples
-abbrev pub Says : List ℕ → List read.Token → List Triple → Type 0
-Says bytes tokens triples = read_whole document (symbols bytes tokens) ≡ Ok (triples, [])
-
--- the answer is the graph of what the grammar reads
-abbrev pub AnswersGraph : List ℕ → List read.Token → Result (List Triple) TurtleError → Type 0
-AnswersGraph bytes tokens (Ok graph) = (triples : List Triple) × Says bytes tokens triples × (graph ≡ graph_of triples)
-AnswersGraph bytes tokens (Err e) = AnswersFault bytes tokens e
+-- where the grammar refuses a token of a window, and what stands behind it is tokens; or else where no token stands behind it
+abbrev pub RefusesAt : List ℕ → List read.Token → ℕ → Fault → TurtleError → Type 0
+RefusesAt bytes window at fault.Memory e = e ≡ Memory
+RefusesAt bytes window at (fault.Refused why left) e =
+    ((more : List read.Token) × Reads at (chars (drop at bytes)) (Ok more) × (e ≡ Refused why (place_of bytes window left)))
+    ⊎ ((error : TokenError) × Reads at (chars (drop at bytes)) (Err error) × (e ≡ bad_token error))

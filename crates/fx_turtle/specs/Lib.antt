@@ -8,3 +8,4 @@ pub mod Printed
 pub mod Rule
 pub mod Sources
 pub mod Symbols
+pub mod Windows

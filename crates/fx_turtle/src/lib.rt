@@ -18,6 +18,7 @@ pub mod refusals;
 mod sources;
 mod statements;
 mod triples;
+mod windows;
 
 pub use kinds::Kind;
 pub use reading::read_turtle;

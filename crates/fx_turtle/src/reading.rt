@@ -1,18 +1,22 @@
 //! Documents are read.
-ghost use Rattle.std.specs.Prelude.{◌≡◌, ℕ, Err, ◌≤◌, All, List, length, IfOk, MatchResult};
+ghost use Rattle.std.specs.Prelude.{◌≡◌, ℕ, Err, ◌≤◌, List, drop, length, IfOk, IfErr, MatchResult};
+ghost use Rattle.std.specs.Str.{chars, IsCharBoundary};
 ghost use Rattle.fx_terms.specs.declared.triples.Triple.{Triple as TripleParts};
-ghost use Rattle.fx_tokens.specs.Reads.{IsSlice};
+ghost use Rattle.fx_tokens.specs.Scan.{Barren};
 ghost use Rattle.fx_grammar.specs.Refused.{place_of as token_place};
 ghost use Rattle.fx_turtle.specs.Answers as answers;
-ghost use Rattle.fx_turtle.specs.Documents.{IsTurtleOf, IsRefused, RefusesSo};
+ghost use Rattle.fx_turtle.specs.Documents.{IsTurtle, IsTurtleOf, IsRefused, RefusesSo};
+ghost use Rattle.fx_turtle.specs.Windows.{Filled};
 ghost use Rattle.fx_turtle.specs.declared.refusals.TurtleKind.{TurtleKind as Kind};
 
 use crate::faults::Fault;
+use crate::prefixes::Prefixes;
 use crate::refusals::{TurtleError, TurtleKind};
 use crate::sources::Source;
-use crate::statements::document;
+use crate::statements::window;
+use crate::windows::{Position, fill, scan};
 use fx_terms::{Graph, Memory, RecentIris, Triple, read_utf8};
-use fx_tokens::{Token, TokenError, tokens};
+use fx_tokens::{Token, TokenError};
 use std::alloc::Global;
 
 /// The graph that a Turtle document is (RDF 1.1 Turtle), in this project's profile: IRIs are absolute, there are no blank nodes,
@@ -53,8 +57,56 @@ fn read_bytes(alloc: Global, bytes: &[u8]) -> Result<Graph, TurtleError>
 fn read_text(alloc: Global, text: &str) -> Result<Graph, TurtleError>
     ensures { answers.IsAnswer text.now result }
 {
-    match tokens(alloc, text) {
-        Ok(read) => read_tokens(alloc, text, read.as_slice()),
+    match triples(alloc, text) {
+        Ok(triples) => match Graph::of(triples) {
+            Ok(graph) => Ok(graph),
+            Err(Memory) => Err(TurtleError::Memory),
+        },
+        Err(error) => Err(error),
+    }
+}
+
+// The triples of the document that the text is. One window of tokens stands in memory at a time.
+fn triples(alloc: Global, text: &str) -> Result<Vec<Triple>, TurtleError>
+    ensures found { IfOk result (λ triples. IsTurtle text.now triples.items) }
+    ensures refused { IfErr result (answers.IsCause text.now) }
+{
+    // (prefixes make IRIs short, so there are more of them than in a text of N-Triples)
+    let Ok(mut recent) = RecentIris::of_document(alloc, text.len().saturating_mul(3)) else {
+        return Err(TurtleError::Memory);
+    };
+    let mut prefixes = Prefixes::new(alloc);
+    let mut triples = Vec::new(alloc);
+    let mut tokens = Vec::new(alloc);
+    let mut at = next_window(text, start(text), &mut tokens)?;
+    'each: while !tokens.is_empty() {
+        let source = Source::of(text, tokens.as_slice());
+        if let Err(fault) = window(alloc, &source, &mut prefixes, &mut recent, &mut triples) {
+            return Err(refusal(text, tokens.as_slice(), at, fault));
+        }
+        at = next_window(text, at, &mut tokens)?;
+    }
+    Ok(triples)
+}
+
+fn start(text: &str) -> Position
+    ensures place { result.place ≡ 0 }
+    ensures barren { Barren result.barren (chars text.now) }
+{
+    Position {
+        place: 0,
+        barren: text.len(),
+    }
+}
+
+fn next_window(text: &str, from: Position, window: &mut Vec<Token>) -> Result<Position, TurtleError>
+    requires place { IsCharBoundary text.now from.place }
+    requires barren { Barren from.barren (chars (drop from.place text.now)) }
+    ensures filled { IfOk result (Filled text.now from.place window.new.items) }
+    ensures refused { IfErr result (answers.NoToken text.now from.place) }
+{
+    match fill(text, from, window) {
+        Ok(to) => Ok(to),
         Err(error) => Err(bad_token(error)),
     }
 }
@@ -71,42 +123,21 @@ fn bad_token(error: TokenError) -> TurtleError
     }
 }
 
-fn read_tokens(alloc: Global, text: &str, read: &[Token]) -> Result<Graph, TurtleError>
-    requires { All (IsSlice text.now) read.now }
-    ensures { answers.AnswersGraph text.now read.now result }
-{
-    match triples(alloc, text, read) {
-        Ok(triples) => match Graph::of(triples) {
-            Ok(graph) => Ok(graph),
-            Err(Memory) => Err(TurtleError::Memory),
-        },
-        Err(error) => Err(error),
-    }
-}
-
-// The triples of the document that the tokens are.
-fn triples(alloc: Global, text: &str, read: &[Token]) -> Result<Vec<Triple>, TurtleError>
-    requires { All (IsSlice text.now) read.now }
-    ensures { MatchResult result (λ triples. answers.Says text.now read.now triples.items) (answers.AnswersFault text.now read.now) }
-{
-    let Ok(mut recent) = RecentIris::of_document(alloc, text.len()) else {
-        return Err(TurtleError::Memory);
-    };
-    let source = Source::of(text, read);
-    match document(alloc, &source, &mut recent) {
-        Ok(triples) => Ok(triples),
-        Err(fault) => Err(fault_at(text, read, fault)),
-    }
-}
-
-fn fault_at(text: &str, read: &[Token], fault: Fault) -> TurtleError
-    requires { answers.StandsWithin (length read.now) fault }
-    ensures { result ≡ answers.fault_at text.now read.now fault }
+// Why a text is refused whose grammar has a fault in a window, behind which it is read from a position on. A place where no token
+// stands comes first.
+fn refusal(text: &str, window: &[Token], behind: Position, fault: Fault) -> TurtleError
+    requires place { IsCharBoundary text.now behind.place }
+    requires barren { Barren behind.barren (chars (drop behind.place text.now)) }
+    requires within { answers.StandsWithin (length window.now) fault }
+    ensures { answers.RefusesAt text.now window.now behind.place fault result }
 {
     match fault {
-        Fault::Refused { why, left } => TurtleError::Refused {
-            kind: why,
-            place: place_of(text, read, left),
+        Fault::Refused { why, left } => match scan(text, behind) {
+            Ok(()) => TurtleError::Refused {
+                kind: why,
+                place: place_of(text, window, left),
+            },
+            Err(error) => bad_token(error),
         },
         Fault::Memory => TurtleError::Memory,
     }

@@ -1,4 +1,4 @@
-//! Statements, and the documents that they are.
+//! Statements, and the windows that they are.
 ghost use Rattle.std.specs.Prelude.{◌≡◌, IfOk, []};
 ghost use Rattle.std.specs.Str.{chars};
 ghost use Rattle.fx_turtle.specs.Gives.{Gives, GivesAt, Takes};
@@ -6,6 +6,7 @@ ghost use Rattle.fx_turtle.specs.Grammar as grammar;
 ghost use Rattle.fx_turtle.specs.Rule as rule;
 ghost use Rattle.fx_turtle.specs.Sources.{left, picked};
 ghost use Rattle.fx_turtle.specs.Symbols as symbol;
+ghost use Rattle.fx_turtle.specs.Windows.{ReadsWindow};
 
 use crate::faults::Fault;
 use crate::kinds::Kind;
@@ -20,21 +21,21 @@ use fx_terms::{Iri, Memory, RecentIris, Triple};
 use fx_tokens::{TokenKind, decoding};
 use std::alloc::Global;
 
-/// The triples of the document that all the tokens are.
-pub fn document(
+/// The statements that all the tokens are: prefixes and triples more.
+pub fn window(
     alloc: Global,
     source: &Source,
+    prefixes: &mut Prefixes,
     recent: &mut RecentIris,
-) -> Result<Vec<Triple>, Fault>
-    ensures { Gives (λ triples. (triples.items, [])) result (rule.read_whole grammar.document (left source.now 0)) }
+    triples: &mut Vec<Triple>,
+) -> Result<(), Fault>
+    ensures { ReadsWindow prefixes.old prefixes.new triples.old.items triples.new.items (left source.now 0) result }
 {
-    let mut prefixes = Prefixes::new(alloc);
-    let mut triples = Vec::new(alloc);
     let mut at = 0;
     'each: while source.count(at) > 0 {
-        at = statement(alloc, source, at, &mut prefixes, recent, &mut triples)?;
+        at = statement(alloc, source, at, prefixes, recent, triples)?;
     }
-    Ok(triples)
+    Ok(())
 }
 
 // A statement: a prefix more, or triples more.

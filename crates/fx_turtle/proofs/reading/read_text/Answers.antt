@@ -1,13 +1,8 @@
-use Rattle.std.proofs.Common.{List, subst}
-use Rattle.fx_tokens.specs.declared.Token as read
-use Rattle.fx_turtle.specs.Answers.{AnswersGraph}
-use Rattle.fx_turtle.proofs.Answering.{tokens_answered, error_answered}
+use Rattle.fx_turtle.proofs.Answering.{turtle_answered, cause_answered}
 use Rattle.fx_turtle.proofs.reading.read_text.Goals as goal
 
-pub returns-in-Ok : goal.returns-in-Ok
-returns-in-Ok c =
-    tokens_answered c.args.text.now c.in-Ok.read.items c.utf8.text c.in-Ok.ensures.found c.read_tokens.result
-    (subst (λ (ts : List read.Token). AnswersGraph c.args.text.now ts c.read_tokens.result) c.as_slice.ensures.value c.read_tokens.ensures)
+pub returns-in-Ok-of : goal.returns-in-Ok-of
+returns-in-Ok-of c = turtle_answered c.args.text.now c.in-Ok.triples.items c.in-Ok-of.graph c.in-Ok.ensures.found c.in-Ok-of.ensures.exact
 
 pub returns-in-Err : goal.returns-in-Err
-returns-in-Err c = error_answered c.args.text.now c.in-Err.error c.utf8.text c.in-Err.ensures.refused c.bad_token.result c.bad_token.ensures
+returns-in-Err c = cause_answered c.args.text.now c.in-Err.error c.in-Err.ensures.refused
