@@ -6,7 +6,7 @@ use Rattle.fx_http.specs.Requests.{line}
 
 -- a status that a reply is written with (RFC 9110, 15)
 abbrev pub is_written_status : ℕ → Bool
-is_written_status status = list_any (λ s. s == status) (200 ∷ 400 ∷ 405 ∷ 411 ∷ 413 ∷ 415 ∷ [])
+is_written_status status = list_any (λ s. s == status) (200 ∷ 400 ∷ 405 ∷ 411 ∷ 413 ∷ 415 ∷ 502 ∷ [])
 
 -- what the status is called
 abbrev pub reason_of : ℕ → List ℕ
@@ -16,7 +16,8 @@ reason_of status =
     else if status == 405 then codes "Method Not Allowed"
     else if status == 411 then codes "Length Required"
     else if status == 413 then codes "Content Too Large"
-    else codes "Unsupported Media Type"
+    else if status == 415 then codes "Unsupported Media Type"
+    else codes "Bad Gateway"
 
 -- the methods that are allowed, where another was used
 abbrev pub allowed : ℕ → List ℕ

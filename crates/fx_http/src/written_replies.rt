@@ -7,7 +7,7 @@ use fx_terms::Memory;
 use std::alloc::{AllocError, Global};
 
 /// The reply with a status and a body: results in JSON for the status 200, and else plain text. Its connection is closed
-/// behind it. The status is 200, 400, 405, 411, 413 or 415.
+/// behind it. The status is 200, 400, 405, 411, 413, 415 or 502.
 pub fn reply_bytes(alloc: Global, status: u16, body: &[u8]) -> Result<Vec<u8>, Memory>
     requires { is_written_status status ≡ true }
     ensures exact { IfOk result (λ bytes. bytes.items ≡ reply_of status body.now) }
@@ -43,7 +43,8 @@ fn reason(status: u16) -> &'static str
         405 => "Method Not Allowed",
         411 => "Length Required",
         413 => "Content Too Large",
-        _ => "Unsupported Media Type",
+        415 => "Unsupported Media Type",
+        _ => "Bad Gateway",
     }
 }
 

@@ -19,7 +19,7 @@ use Rattle.fx_grammar.specs.Accepted.{Accepted}
 use Rattle.fx_wire.specs.Honest.{IsHonest, Replies}
 use Rattle.fx_evaluation.specs.FirstHere.{first_up, first_here}
 use Rattle.fx_member.specs.GraphWires.{RepliesTo}
-use Rattle.fx_member.specs.Served.{Told, told, own_line, by_services, query_told, IsTextTold, IsTold, asked, refused, IsServed, IsLaidOut}
+use Rattle.fx_member.specs.Served.{Told, told, own_line, by_services, query_told, IsTextToldBy, IsToldBy, asked, refused, IsServedBy, IsLaidOut}
 
 no_service : (os : List Occurrence) (place : ℕ) → os ≡ [] → first_up [] 0 os ≡ Some place → ⊥
 no_service [] place e h = cc
@@ -52,19 +52,20 @@ asks_refusal input kind.NoLength code s h = h
 asks_refusal input kind.TooLong code s h = h
 asks_refusal input kind.Ended code s h = h
 
-pub served_text : (graph : List Triple) (input text : List ℕ) (t : Told) (status : ℕ) (reply : List ℕ) → Asks input (Ok text) → IsTextTold graph text t → IsLaidOut t status reply → IsServed graph input status reply
-served_text graph input text t status reply a k l = record {
-  body = t.body;
-  told = subst (λ (s : ℕ). IsTold graph input (told s t.body)) (sym l.is_status) (asked text a k);
-  laid_out = l.is_reply ∙ ap (λ s. reply_of s t.body) (sym l.is_status);
-}
+module _ (Tells : Query → Told → Type 0) (input : List ℕ) where
+  pub served_text : (text : List ℕ) (t : Told) (status : ℕ) (reply : List ℕ) → Asks input (Ok text) → IsTextToldBy Tells text t → IsLaidOut t status reply → IsServedBy Tells input status reply
+  served_text text t status reply a k l = record {
+    body = t.body;
+    told = subst (λ (s : ℕ). IsToldBy Tells input (told s t.body)) (sym l.is_status) (asked text a k);
+    laid_out = l.is_reply ∙ ap (λ s. reply_of s t.body) (sym l.is_status);
+  }
 
-pub served_refusal : (graph : List Triple) (input : List ℕ) (error : RequestError) (code status : ℕ) (reply : List ℕ) → Asks input (Err error) → status_of error ≡ Some code → IsLaidOut (told code (own_line (request_error_name error))) status reply → IsServed graph input status reply
-served_refusal graph input error code status reply a s l = record {
-  body = own_line (request_error_name error);
-  told = subst (λ (n : ℕ). IsTold graph input (told n (own_line (request_error_name error)))) (sym l.is_status) (refused error code a s refl);
-  laid_out = l.is_reply ∙ ap (λ n. reply_of n (own_line (request_error_name error))) (sym l.is_status);
-}
+  pub served_refusal : (error : RequestError) (code status : ℕ) (reply : List ℕ) → Asks input (Err error) → status_of error ≡ Some code → IsLaidOut (told code (own_line (request_error_name error))) status reply → IsServedBy Tells input status reply
+  served_refusal error code status reply a s l = record {
+    body = own_line (request_error_name error);
+    told = subst (λ (n : ℕ). IsToldBy Tells input (told n (own_line (request_error_name error)))) (sym l.is_status) (refused error code a s refl);
+    laid_out = l.is_reply ∙ ap (λ n. reply_of n (own_line (request_error_name error))) (sym l.is_status);
+  }
 
 -- ---- what a request asks
 

@@ -37,21 +37,42 @@ query_told q graph = by_services (services q) q graph
 abbrev pub syntax_told : SyntaxKind → ℕ → Told
 syntax_told kind place = told 400 (own_line (kind_name kind ++ codes " at " ++ decimal place))
 
--- a text is answered as the query that it is, or refused
-pub data IsTextTold (graph : List Triple) (text : List ℕ) (t : Told) : Type 0 where
-  accepted : (q : Query) → Accepted text q → t ≡ query_told q graph → IsTextTold graph text t
-  refused : (kind : SyntaxKind) (place : ℕ) → IsRefused text kind place → t ≡ syntax_told kind place → IsTextTold graph text t
+-- ---- by whoever tells something of a query
+
+-- a text is answered by what is told of the query that it is, or refused
+pub data IsTextToldBy (Tells : Query → Told → Type 0) (text : List ℕ) (t : Told) : Type 0 where
+  accepted : (q : Query) → Accepted text q → Tells q t → IsTextToldBy Tells text t
+  refused : (kind : SyntaxKind) (place : ℕ) → IsRefused text kind place → t ≡ syntax_told kind place → IsTextToldBy Tells text t
 
 -- a request is answered by the text that it asks, or refused
-pub data IsTold (graph : List Triple) (input : List ℕ) (t : Told) : Type 0 where
-  asked : (text : List ℕ) → Asks input (Ok text) → IsTextTold graph text t → IsTold graph input t
-  refused : (error : RequestError) (status : ℕ) → Asks input (Err error) → status_of error ≡ Some status → t ≡ told status (own_line (request_error_name error)) → IsTold graph input t
+pub data IsToldBy (Tells : Query → Told → Type 0) (input : List ℕ) (t : Told) : Type 0 where
+  asked : (text : List ℕ) → Asks input (Ok text) → IsTextToldBy Tells text t → IsToldBy Tells input t
+  refused : (error : RequestError) (status : ℕ) → Asks input (Err error) → status_of error ≡ Some status → t ≡ told status (own_line (request_error_name error)) → IsToldBy Tells input t
 
 -- the whole reply to an input, with its status
-pub record IsServed (graph : List Triple) (input : List ℕ) (status : ℕ) (reply : List ℕ) : Type 0 where
+pub record IsServedBy (Tells : Query → Told → Type 0) (input : List ℕ) (status : ℕ) (reply : List ℕ) : Type 0 where
   pub body : List ℕ
-  pub told : IsTold graph input (told status body)
+  pub told : IsToldBy Tells input (told status body)
   pub laid_out : reply ≡ reply_of status body
+
+-- ---- by a member over its graph
+
+abbrev pub TellsOver : List Triple → Query → Told → Type 0
+TellsOver graph q t = t ≡ query_told q graph
+
+-- a text is answered as the query that it is, or refused
+abbrev pub IsTextTold : List Triple → List ℕ → Told → Type 0
+IsTextTold graph text t = IsTextToldBy (TellsOver graph) text t
+
+-- a request is answered by the text that it asks, or refused
+abbrev pub IsTold : List Triple → List ℕ → Told → Type 0
+IsTold graph input t = IsToldBy (TellsOver graph) input t
+
+-- the whole reply to an input, with its status
+abbrev pub IsServed : List Triple → List ℕ → ℕ → List ℕ → Type 0
+IsServed graph input status reply = IsServedBy (TellsOver graph) input status reply
+
+-- ---- bytes
 
 -- a status and a reply's bytes are those of what is told
 pub record IsLaidOut (t : Told) (status : ℕ) (reply : List ℕ) : Type 0 where

@@ -1,9 +1,9 @@
 //! Serving one request.
-ghost use Rattle.std.specs.Prelude.{◌≡◌, ◌≢◌, ◌≤◌, ◌++◌, [], ℕ, List, true, Err, IfOk, IsTrue};
+ghost use Rattle.std.specs.Prelude.{◌≡◌, ◌≢◌, ◌≤◌, ◌++◌, [], ℕ, List, true, Err, IfOk, IsTrue, Some};
 ghost use Rattle.fx_algebra.specs.Answers.{answer_alone};
 ghost use Rattle.fx_algebra.specs.Occurrences.{services};
 ghost use Rattle.fx_http.specs.Replies.{IsReply};
-ghost use Rattle.fx_http.specs.Requests.{TakesOfRequest};
+ghost use Rattle.fx_http.specs.Requests.{TakesOfRequest, request_error_name, status_of};
 ghost use Rattle.fx_http.specs.WrittenReplies.{is_written_status};
 ghost use Rattle.fx_member.specs.GraphWires.{RepliesTo};
 ghost use Rattle.fx_member.specs.Served.{IsLaidOut, IsServed, IsTextTold, Told, own_line, query_told, syntax_told, told};
@@ -109,10 +109,22 @@ pub fn prepare<S: Source>(alloc: Global, store: &Store, source: &mut S) -> Resul
 {
     match read_request(alloc, source) {
         Ok(asked) => Ok(text_reply(alloc, store, asked.text())?),
-        Err(error) => match error.status() {
-            Some(status) => Ok(with_name(alloc, status, error.name())?),
-            None => Err(lost(error)),
-        },
+        Err(error) => refused_reply(alloc, error),
+    }
+}
+
+/// The reply to a request that is refused, which names what it is refused for.
+///
+/// Where the request wasn't read, since a read failed or memory ran out, there is none.
+pub fn refused_reply(alloc: Global, error: RequestError) -> Result<Reply, ServeError>
+    ensures told { IfOk result (λ reply. (status : ℕ) × (status_of error ≡ Some status) × IsLaidOut (told status (own_line (request_error_name error))) reply.status reply.bytes.items) }
+    ensures fault { result ≡ Err ServeError.ReadFault → error ≡ RequestError.Fault }
+    ensures memory { result ≢ Err ServeError.ReadFault → error ≢ RequestError.Fault }
+    ensures unwritten { result ≢ Err ServeError.WriteFault }
+{
+    match error.status() {
+        Some(status) => Ok(with_name(alloc, status, error.name())?),
+        None => Err(lost(error)),
     }
 }
 
@@ -141,8 +153,8 @@ fn text_reply(alloc: Global, store: &Store, text: &[u8]) -> Result<Reply, Memory
     }
 }
 
-// The reply that says why a text is no query, and where.
-fn syntax_reply(alloc: Global, kind: SyntaxKind, place: u64) -> Result<Reply, Memory>
+/// The reply that says why a text is no query, and where.
+pub fn syntax_reply(alloc: Global, kind: SyntaxKind, place: u64) -> Result<Reply, Memory>
     ensures { IfOk result (λ reply. IsLaidOut (syntax_told kind place) reply.status reply.bytes.items) }
 {
     let kind = kind.name();
@@ -163,18 +175,17 @@ fn query_reply(alloc: Global, store: &Store, query: &Query) -> Result<Reply, Mem
     }
 }
 
-// The reply with an answer.
-fn with_answer(alloc: Global, answer: &Answer) -> Result<Reply, Memory>
-    requires { binds_columns answer.now ≡ true }
+/// The reply with an answer. It means the answer, where that binds its columns alone.
+pub fn with_answer(alloc: Global, answer: &Answer) -> Result<Reply, Memory>
     ensures told { IfOk result (λ reply. IsLaidOut (told 200 (document answer.now)) reply.status reply.bytes.items) }
-    ensures means { IfOk result (λ reply. Replies reply.bytes.items answer.now) }
+    ensures means { binds_columns answer.now ≡ true → IfOk result (λ reply. Replies reply.bytes.items answer.now) }
 {
     let document = write(alloc, answer)?;
     with_body(alloc, 200, document.as_slice())
 }
 
-// The reply with a name on a line of its own.
-fn with_name(alloc: Global, status: u16, name: &str) -> Result<Reply, Memory>
+/// The reply with a name on a line of its own. The status is one that a reply is written with.
+pub fn with_name(alloc: Global, status: u16, name: &str) -> Result<Reply, Memory>
     requires { is_written_status status ≡ true }
     ensures { IfOk result (λ reply. IsLaidOut (told status (own_line name.now)) reply.status reply.bytes.items) }
 {

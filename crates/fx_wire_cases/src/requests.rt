@@ -86,6 +86,7 @@ fn written_status(text: &str) -> Option<u16>
         "411" => Some(411),
         "413" => Some(413),
         "415" => Some(415),
+        "502" => Some(502),
         _ => None,
     }
 }

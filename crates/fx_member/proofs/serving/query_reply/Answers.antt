@@ -9,9 +9,6 @@ use Rattle.fx_member.proofs.AnswerLemmas.{spelled_answer}
 use Rattle.fx_member.proofs.HonestLemmas.{answered, without_service}
 use Rattle.fx_member.proofs.serving.query_reply.Goals as goal
 
-pub with_answer-requires : goal.with_answer-requires
-with_answer-requires c = subst (λ (a : Answer). binds_columns a ≡ true) (sym (c.in-Ok.ensures.answer no_graphs)) (spelled_answer c.args.query.now c.args.store.now no_graphs [] c.requires)
-
 pub returns-in-Ok-clause-told : goal.returns-in-Ok-clause-told
 returns-in-Ok-clause-told c =
     let q = c.args.query.now in
@@ -20,4 +17,6 @@ returns-in-Ok-clause-told c =
     subst (λ (t : Told). IfOk c.with_answer.result (λ reply. IsLaidOut t reply.status reply.bytes.items)) same c.with_answer.ensures.told
 
 pub returns-in-Ok-clause-means : goal.returns-in-Ok-clause-means
-returns-in-Ok-clause-means c = answered (λ reply. reply.bytes.items) c.with_answer.result c.args.store.now c.args.query.now c.in-Ok.answer (c.in-Ok.ensures.answer no_graphs) c.with_answer.ensures.means
+returns-in-Ok-clause-means c =
+    let binds : binds_columns c.in-Ok.answer ≡ true = subst (λ (a : Answer). binds_columns a ≡ true) (sym (c.in-Ok.ensures.answer no_graphs)) (spelled_answer c.args.query.now c.args.store.now no_graphs [] c.requires) in
+    answered (λ reply. reply.bytes.items) c.with_answer.result c.args.store.now c.args.query.now c.in-Ok.answer (c.in-Ok.ensures.answer no_graphs) (c.with_answer.ensures.means binds)
