@@ -2,7 +2,7 @@
 
 use crate::{counting, devices, runs, served};
 use fx_bound_cases::batches;
-use fx_mediator_cases::{engine, mediations};
+use fx_mediator_cases::{engine, gateways, mediations};
 use fx_plan_cases::{plans, registries, sources};
 use fx_pool_cases::jobs;
 use fx_text_cases::{
@@ -26,6 +26,7 @@ pub fn answer<R: Threads + Wait + Sync>(
         "jobs" => jobs::answer(rt, alloc, call, inputs),
         "engine" => engine::answer(rt, alloc, call, inputs),
         "mediations" => mediations::answer(rt, alloc, call, inputs),
+        "gateway" => gateways::answer(rt, alloc, call, inputs),
         "commands" => counting::answer(rt, alloc, call, inputs),
         "served" => served::answer(rt, alloc, call, inputs),
         "devices" => devices::answer(rt, alloc, call, inputs),

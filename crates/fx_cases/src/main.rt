@@ -16,7 +16,7 @@ use std::{fs, io};
 use tables::{Outcome, try_table};
 
 // The tables, in the order of the crates whose calls they try.
-const TABLES: [&str; 27] = [
+const TABLES: [&str; 28] = [
     "terms",
     "outside",
     "ntriples",
@@ -38,6 +38,7 @@ const TABLES: [&str; 27] = [
     "jobs",
     "engine",
     "mediations",
+    "gateway",
     "commands",
     "runs",
     "hostile",

@@ -1,5 +1,5 @@
 -- The query of `count_rows` is accepted from its text, and has no SERVICE; and what the members give for it is counted.
-use Rattle.std.proofs.Common.{◌≡◌, ◌∙◌, ap, sym, subst, refl, ℕ, zero, suc, ◌<◌, ◌≤◌, true, false, List, [], ◌∷◌, ◌++◌, map, length, max, codes, Some, None, Ok, Err, inl, inr, arith}
+use Rattle.std.proofs.Common.{◌≡◌, ◌∙◌, ap, sym, subst, refl, ℕ, zero, suc, ◌<◌, ◌≤◌, Bool, true, false, List, [], ◌∷◌, ◌++◌, map, length, max, codes, Some, None, Ok, Err, inl, inr, arith}
 use Rattle.std.specs.Prelude.{All, Result, nat_le, bytes_eq, if◌then◌else◌}
 use Rattle.std.specs.List.{flat_map, list_all}
 use Rattle.std.specs.Str.{IsAscii}
@@ -38,20 +38,30 @@ use Rattle.fx_sources.specs.Probes.{Entry}
 use Rattle.fx_traffic.specs.Gains.{TellAll, WiresSeen}
 use Rattle.fx_outcomes.specs.Calls.{AreAllOrNone, Call, down_in, occurrence_in, occurrences}
 use Rattle.fx_services.specs.Beside.{Occurrence}
-use Rattle.fx_outcomes.specs.Mediation.{Federated, Serve}
 use Rattle.fx_services.specs.Noted.{places}
 use Rattle.fx_walks.specs.Unknown.{first_unknown, unknown_of}
 use Rattle.fx_services.specs.declared.noted.Down.{Down}
 use Rattle.fx_services.specs.declared.noted.DownCause.TheVariants as cause
 use Rattle.fx_outcomes.specs.declared.federated.FedError.{FedError}
 use Rattle.fx_outcomes.specs.declared.federated.FedError.TheVariants as fed
-use Rattle.fx_outcomes.specs.declared.federated.Outcome.{Outcome}
 use Rattle.fx_outcomes.specs.declared.rounds.OutcomeInRounds.{OutcomeInRounds}
 use Rattle.fx_commands.specs.Counting.{IsOfMember, IsRowCount, WasCounted, age, first_address, generated_elements, generated_members, generated_query, generated_text, is_young, knows, linked, rows_in, second_address, thirty}
-use Rattle.fx_commands.specs.Asking.{IsUnmarked}
 use Rattle.fx_commands.specs.MemberSteps.{IsAnswered}
 use Rattle.fx_commands.proofs.QueryLemmas.{known_from_nothing}
+use Rattle.fx_outcomes.specs.Mediation.{Serve}
+use Rattle.fx_outcomes.specs.InRounds.{FederatedInRounds, WentInRounds}
+use Rattle.fx_outcomes.specs.Outcomes.{AllTell}
+use Rattle.fx_outcomes.specs.Rounds.{everybody}
+use Rattle.fx_algebra.specs.Units.{of_kept}
+use Rattle.fx_algebra.proofs.KeptLemmas.{all_kept}
+use Rattle.fx_sources.proofs.KeptLemmas.{replicate_kept}
+use Rattle.fx_rounds.specs.LeftOut.{IsUnmarked}
+use Rattle.fx_rounds.specs.Refused.{IsFirstFailed}
 use Rattle.fx_rounds.proofs.DownLemmas.{no_refused}
+use Rattle.fx_rounds.proofs.LicenceLemmas.{last_down}
+use Rattle.fx_rounds.proofs.LeftOutLemmas.{answers_went}
+use Rattle.fx_rounds.proofs.RefusedLemmas.{services_failed}
+use Rattle.fx_rounds.proofs.UnmarkedLemmas.{nobody_is_left}
 
 -- ---- the elements of the query
 
@@ -272,24 +282,42 @@ graph_at a b c address = if bytes_eq address first_address then a else if bytes_
 serves : (a b c : List Triple) → Serve (graph_at a b c) generated_members (a ∷ b ∷ c ∷ [])
 serves a b c = (refl, (refl, (refl, tt)))
 
-module _ (w : WiresSeen) (entries : List Entry) where
-  nothing_called : (result : Result Outcome FedError) (f : Federated w.tells w.alone w.before w.after generated_members generated_query [] entries 15 result) → f.calls ≡ []
-  nothing_called result f = no_call f.calls (occurrences generated_query) none_occur f.called
+-- queries can't do without any of the members
+unmarked : All IsUnmarked generated_members
+unmarked = All-from_recursion IsUnmarked generated_members (refl, (refl, (refl, tt)))
 
-  answer_is : (outcome : Outcome) (a b c : List Triple) → Federated w.tells w.alone w.before w.after generated_members generated_query [] entries 15 (Ok outcome) → TellAll w.before generated_members (a ∷ b ∷ c ∷ []) → outcome.answer ≡ answer_alone generated_query (union (a ∷ b ∷ c ∷ []))
-  answer_is outcome a b c f told =
+module _ (w : WiresSeen) (entries : List Entry) where
+  abbrev Given : Result OutcomeInRounds FedError → Type 0
+  Given r = FederatedInRounds w.tells w.alone w.before w.after generated_members generated_query [] entries 15 r
+
+  abbrev Went : Result OutcomeInRounds FedError → Type 0
+  Went r = WentInRounds w.tells w.alone w.before w.after generated_members generated_query [] entries 15 r
+
+  none_down : (all : OutcomeInRounds) (it : Went (Ok all)) → all.outcome.down ≡ []
+  none_down all it =
+      last_down all (down_in it.went.last.calls) it.went.ended it.told it.went.last.down
+      ∙ ap down_in (no_call it.went.last.calls (occurrences generated_query) none_occur it.went.last.called)
+
+  -- each member is kept
+  of_each : (a b c : List Triple) (all : OutcomeInRounds) (it : Went (Ok all)) → of_kept it.went.last_kept (a ∷ b ∷ c ∷ []) ≡ a ∷ b ∷ c ∷ []
+  of_each a b c all it =
+      let none = nobody_is_left w.tells w.alone w.before w.after generated_members generated_query [] entries 15 (Ok all) it unmarked in
+      ap (λ (v : List Bool). of_kept v (a ∷ b ∷ c ∷ [])) none.2 ∙ all_kept (everybody generated_members) (a ∷ b ∷ c ∷ []) (replicate_kept 3)
+
+  answer_is : (all : OutcomeInRounds) (a b c : List Triple) → Went (Ok all) → TellAll w.before generated_members (a ∷ b ∷ c ∷ []) → all.outcome.answer ≡ answer_alone generated_query (union (a ∷ b ∷ c ∷ []))
+  answer_is all a b c it told =
       let graphs = a ∷ b ∷ c ∷ [] in
-      let none_down : outcome.down ≡ [] = f.down ∙ ap down_in (nothing_called (Ok outcome) f) in
-      f.answer graphs (known_from_nothing w.before generated_members graphs told) (graph_at a b c) (serves a b c)
-      ∙ ap (λ (noted : List Down). answer generated_query (union graphs) (graph_at a b c) (places noted)) none_down
+      it.answer graphs (known_from_nothing w.before generated_members graphs told) (graph_at a b c) (serves a b c)
+      ∙ ap (λ (v : List (List Triple)). answer generated_query (union v) (graph_at a b c) (places all.outcome.down)) (of_each a b c all it)
+      ∙ ap (λ (noted : List Down). answer generated_query (union graphs) (graph_at a b c) (places noted)) (none_down all it)
       ∙ answers_alike (union graphs) (graph_at a b c)
 
-  row_count : (outcome : Outcome) → Federated w.tells w.alone w.before w.after generated_members generated_query [] entries 15 (Ok outcome) → IsRowCount w.before (length (rows_in outcome.answer))
-  row_count outcome f [] told = absurd told
-  row_count outcome f (a ∷ []) told = absurd told.1
-  row_count outcome f (a ∷ b ∷ []) told = absurd told.1.1
-  row_count outcome f (a ∷ b ∷ c ∷ []) told = ap (λ (x : Answer). length (rows_in x)) (answer_is outcome a b c f told)
-  row_count outcome f (a ∷ b ∷ c ∷ d ∷ graphs) told = absurd told.1.1.1
+  row_count : (all : OutcomeInRounds) → Went (Ok all) → IsRowCount w.before (length (rows_in all.outcome.answer))
+  row_count all it [] told = absurd told
+  row_count all it (a ∷ []) told = absurd told.1
+  row_count all it (a ∷ b ∷ []) told = absurd told.1.1
+  row_count all it (a ∷ b ∷ c ∷ []) told = ap (λ (x : Answer). length (rows_in x)) (answer_is all a b c it told)
+  row_count all it (a ∷ b ∷ c ∷ d ∷ graphs) told = absurd told.1.1.1
 
   known_service : (iri : List ℕ) → unknown_of generated_members generated_query ≡ Some iri → ⊥
   known_service iri h = not_both (sym h ∙ ap (first_unknown generated_members) no_services)
@@ -297,13 +325,17 @@ module _ (w : WiresSeen) (entries : List Entry) where
       not_both : Some iri ≡ None → ⊥
       not_both h = cc
 
-  of_member : (e : FedError) → Federated w.tells w.alone w.before w.after generated_members generated_query [] entries 15 (Err e) → IsOfMember e
-  of_member (fed.Member name) f = tt
-  of_member (fed.Service iri) f = absurd (no_refused f.calls cause.Failed iri (nothing_called (Err (fed.Service iri)) f) f.cause.0)
-  of_member (fed.BadReply name bad) f = tt
-  of_member (fed.RequestTooLong name size) f = tt
-  of_member (fed.UnknownService iri) f = absurd (known_service iri f.known)
-  of_member fed.Memory f = tt
+  -- no occurrence of SERVICE is refused, since there is none
+  no_service : (iri : List ℕ) → IsFirstFailed w generated_members generated_query iri → ⊥
+  no_service iri k = no_refused k.calls cause.Failed iri (no_call k.calls (occurrences generated_query) none_occur (inr k.all_called)) k.first
+
+  of_member : (e : FedError) → AllTell w.tells w.before → Given (Err e) → IsOfMember e
+  of_member (fed.Member name) alike f = tt
+  of_member (fed.Service iri) alike f = absurd (no_service iri (services_failed w generated_members generated_query entries 15 iri alike f).1)
+  of_member (fed.BadReply name bad) alike f = tt
+  of_member (fed.RequestTooLong name size) alike f = tt
+  of_member (fed.UnknownService iri) alike f = absurd (known_service iri f.known)
+  of_member fed.Memory alike f = tt
 
 -- ---- what is counted
 
@@ -313,22 +345,20 @@ none_given all h = cc
 the_want : (r : Result OutcomeInRounds FedError) (e : FedError) → r ≡ Err e → r ≡ Err fed.Memory → e ≡ fed.Memory
 the_want r e a b = cc
 
--- queries can't do without any of the members
-unmarked : All IsUnmarked generated_members
-unmarked = All-from_recursion IsUnmarked generated_members (refl, (refl, (refl, tt)))
-
 pub counted : (w : WiresSeen) (all : OutcomeInRounds) (count : ℕ) → count ≡ length (rows_in all.outcome.answer) → IsAnswered w generated_members generated_query 15 (Ok all) → IsRowCount w.before count
 counted w all count is (inl none) = absurd (none_given all none.1)
-counted w all count is (inr given) = subst (IsRowCount w.before) (sym is) (row_count w given.entries all.outcome (given.in_one unmarked))
+counted w all count is (inr given) =
+    subst (IsRowCount w.before) (sym is)
+    (row_count w given.entries all (answers_went w.tells w.alone w.before w.after generated_members generated_query [] given.entries 15 all given.in_rounds))
 
 pub was_counted : (w : WiresSeen) (all : OutcomeInRounds) (count : ℕ) → count ≡ length (rows_in all.outcome.answer) → IsAnswered w generated_members generated_query 15 (Ok all) → WasCounted w (Ok count)
 was_counted w all count is (inl none) = absurd (none_given all none.1)
-was_counted w all count is (inr given) = inr (given.entries, Ok all.outcome, given.in_one unmarked, ap Ok is)
+was_counted w all count is (inr given) = inr (Ok all, given, ap Ok is)
 
 pub was_refused : (w : WiresSeen) (e : FedError) → IsAnswered w generated_members generated_query 15 (Err e) → WasCounted w (Err e)
 was_refused w e (inl none) = inl (none.0, ap Err (the_want (Err e) e refl none.1))
-was_refused w e (inr given) = inr (given.entries, Err e, given.in_one unmarked, refl)
+was_refused w e (inr given) = inr (Err e, given, refl)
 
 pub refused_by : (w : WiresSeen) (e : FedError) → IsAnswered w generated_members generated_query 15 (Err e) → IsOfMember e
 refused_by w e (inl none) = subst IsOfMember (sym (the_want (Err e) e refl none.1)) tt
-refused_by w e (inr given) = of_member w given.entries e (given.in_one unmarked)
+refused_by w e (inr given) = of_member w given.entries e given.alike given.in_rounds

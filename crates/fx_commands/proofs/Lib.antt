@@ -3,5 +3,4 @@ pub mod QueryLemmas
 pub mod ExplainLemmas
 pub mod CountingLemmas
 pub mod MembersLemmas
-pub mod UnmarkedLemmas
 pub mod GeneratorLemmas

@@ -1,15 +1,12 @@
 -- What is seen of the wires of a run that asks the members of a registry, why it ends before any is asked, and what it means that they were asked.
-use Rattle.std.specs.Prelude.{◌≡◌, ◌⊎◌, ℕ, false, List, [], All, Result, Ok, Err}
+use Rattle.std.specs.Prelude.{◌≡◌, ◌⊎◌, ℕ, List, [], Result}
 use Rattle.fx_outside.specs.Endpoints.{EndpointParts}
 use Rattle.fx_algebra.specs.declared.queries.Query.{Query}
-use Rattle.fx_plan.specs.declared.parts.Part.{Part}
 use Rattle.fx_sources.specs.Probes.{Entry}
 use Rattle.fx_traffic.specs.Gains.{WiresSeen}
 use Rattle.fx_outcomes.specs.InRounds.{FederatedInRounds, PlannedInRounds}
-use Rattle.fx_outcomes.specs.Mediation.{Federated, Planned}
 use Rattle.fx_outcomes.specs.Outcomes.{AllTell}
 use Rattle.fx_outcomes.specs.declared.federated.FedError.{FedError}
-use Rattle.fx_outcomes.specs.declared.federated.Outcome.{Outcome}
 use Rattle.fx_outcomes.specs.declared.rounds.OutcomeInRounds.{OutcomeInRounds}
 use Rattle.fx_outcomes.specs.declared.rounds.PlanInRounds.{PlanInRounds}
 use Rattle.fx_grammar.specs.declared.refusals.SyntaxKind.{SyntaxKind}
@@ -36,30 +33,13 @@ IsRefusedBefore r q s text = ⊥
 
 -- ---- members that were asked
 
--- queries can't do without it
-abbrev pub IsUnmarked : EndpointParts → Type 0
-IsUnmarked e = e.optional ≡ false
-
--- what the last round gave, or the refusal
-abbrev pub outcome_in : Result OutcomeInRounds FedError → Result Outcome FedError
-outcome_in (Ok all) = Ok all.outcome
-outcome_in (Err e) = Err e
-
--- the parts of the plan, or the refusal
-abbrev pub parts_of : Result PlanInRounds FedError → Result (List Part) FedError
-parts_of (Ok p) = Ok p.parts.items
-parts_of (Err e) = Err e
-
--- Endpoints were asked for a query in rounds, with a new cache and in batches of so many rows at most, by wires of which all tell their logs or none. Where no endpoint may be
--- left out, there is one round, of which more is known.
+-- Endpoints were asked for a query in rounds, with a new cache and in batches of so many rows at most, by wires of which all tell their logs or none.
 pub record WasAsked (w : WiresSeen) (endpoints : List EndpointParts) (asked : Query) (block : ℕ) (result : Result OutcomeInRounds FedError) : Type 0 where
   pub alike : AllTell w.tells w.before
   pub entries : List Entry
   pub in_rounds : FederatedInRounds w.tells w.alone w.before w.after endpoints asked [] entries block result
-  pub in_one : All IsUnmarked endpoints → Federated w.tells w.alone w.before w.after endpoints asked [] entries block (outcome_in result)
 
 -- so it was for its plan
 pub record WasPlanned (w : WiresSeen) (endpoints : List EndpointParts) (asked : Query) (result : Result PlanInRounds FedError) : Type 0 where
   pub entries : List Entry
   pub in_rounds : PlannedInRounds w.tells w.alone w.before w.after endpoints asked [] entries result
-  pub in_one : All IsUnmarked endpoints → Planned w.tells w.alone w.before w.after endpoints asked [] entries (parts_of result)

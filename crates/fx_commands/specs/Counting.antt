@@ -19,14 +19,12 @@ use Rattle.fx_algebra.specs.declared.queries.Element.TheVariants as element
 use Rattle.fx_algebra.specs.declared.queries.Form.TheVariants as form
 use Rattle.fx_algebra.specs.declared.queries.Group.{roll-Group}
 use Rattle.fx_algebra.specs.declared.queries.Query.{Query}
-use Rattle.fx_sources.specs.Probes.{Entry}
 use Rattle.fx_traffic.specs.Gains.{TellAll, WiresSeen}
 use Rattle.fx_wire.specs.Exchanges.{Seen}
-use Rattle.fx_outcomes.specs.Mediation.{Federated}
 use Rattle.fx_outcomes.specs.declared.federated.FedError.{FedError}
 use Rattle.fx_outcomes.specs.declared.federated.FedError.TheVariants as fed
-use Rattle.fx_outcomes.specs.declared.federated.Outcome.{Outcome}
-use Rattle.fx_commands.specs.Asking.{IsUnasked}
+use Rattle.fx_outcomes.specs.declared.rounds.OutcomeInRounds.{OutcomeInRounds}
+use Rattle.fx_commands.specs.Asking.{IsUnasked, WasAsked}
 
 -- ---- the query
 
@@ -109,12 +107,12 @@ IsOfMember (fed.UnknownService iri) = ⊥
 IsOfMember fed.Memory = Unit {0}
 
 -- the number of the rows that the members gave, or their refusal
-abbrev pub IsCounted : Result Outcome FedError → Result ℕ FedError → Type 0
-IsCounted (Ok outcome) result = result ≡ Ok (length (rows_in outcome.answer))
+abbrev pub IsCounted : Result OutcomeInRounds FedError → Result ℕ FedError → Type 0
+IsCounted (Ok all) result = result ≡ Ok (length (rows_in all.outcome.answer))
 IsCounted (Err e) result = result ≡ Err e
 
 -- The members were asked for the query with a new cache, in batches of 15 rows: what was exchanged, and each refusal by its cause; unless there was no memory for that.
 abbrev pub WasCounted : WiresSeen → Result ℕ FedError → Type 0
 WasCounted w result =
     (IsUnasked w × (result ≡ Err fed.Memory))
-    ⊎ ((entries : List Entry) × (outcome : Result Outcome FedError) × Federated w.tells w.alone w.before w.after generated_members generated_query [] entries 15 outcome × IsCounted outcome result)
+    ⊎ ((given : Result OutcomeInRounds FedError) × WasAsked w generated_members generated_query 15 given × IsCounted given result)

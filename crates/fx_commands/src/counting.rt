@@ -23,7 +23,7 @@ const BLOCK: u32 = 15;
 /// `http://127.0.0.1:9000/sparql`, and the same with 9001 and 9002:
 /// `SELECT ?a ?c WHERE { ?a <http://g/knows> ?b . ?b <http://g/knows> ?c . ?c <http://g/age> ?n FILTER ( ?n < 30 ) }`.
 ///
-/// The members are asked over the wires, with a new cache, in batches of 15 rows. The errors come as those of `federate_in_rounds`, but for `Service` and `UnknownService`,
+/// The members are asked over the wires, with a new cache, in batches of 15 rows. The errors come as those of `federate`, but for `Service` and `UnknownService`,
 /// which never come.
 pub fn count_rows<R: Threads + Wait + Sync, W: Wire + Send>(
     rt: &R,

@@ -15,7 +15,7 @@ ghost use Rattle.fx_local.specs.Sinks.{IsCutShort, Wrote, sink_written};
 use crate::lines;
 use crate::refusals::{fed_status, write_fed_error};
 use fx_algebra::Query;
-use fx_engine::{FedError, Options, OutcomeInRounds, federate_in_rounds};
+use fx_engine::{FedError, Options, OutcomeInRounds, federate};
 use fx_local::reports::{write_no_memory, write_query_refusal, write_registry_refusal};
 use fx_local::{Report, Status, load_query, load_registry, write_report};
 use fx_outside::{Endpoint, Files, Sink};
@@ -125,7 +125,7 @@ pub fn outcome<R: Threads + Wait + Sync, W: Wire + Send>(
     ensures wired { AreAfter (map W.seen wires.old) (map W.seen wires.new) }
 {
     match AskCache::new(alloc) {
-        Ok(mut cache) => federate_in_rounds(
+        Ok(mut cache) => federate(
             rt,
             alloc,
             query,

@@ -25,8 +25,8 @@ use Rattle.fx_outcomes.specs.Calls.{Call}
 use Rattle.fx_outcomes.specs.InRounds.{FederatedInRounds, PlannedInRounds, HoldsAnswers, IsLast, WentRound, by_asks, plan_over}
 use Rattle.fx_outcomes.specs.Mediation.{AreKnown, IsNamed, KnowsServices, Serve}
 use Rattle.fx_outcomes.specs.Outcomes.{HasOutcomeCause, Outcomed}
-use Rattle.fx_outcomes.specs.RoundEnds.{AreAbandoned, IsToldOf, LeavesOut}
-use Rattle.fx_outcomes.specs.Rounds.{AskedMembers, AreStillKept}
+use Rattle.fx_outcomes.specs.RoundEnds.{AreAbandoned, LeavesOut}
+use Rattle.fx_outcomes.specs.Rounds.{AreStillKept, AskedMembers, IsRequired}
 use Rattle.fx_outcomes.specs.declared.federated.FedError.{FedError}
 use Rattle.fx_outcomes.specs.declared.federated.FedError.TheVariants as fed
 use Rattle.fx_outcomes.specs.declared.federated.Outcome.{Outcome}
@@ -120,7 +120,7 @@ module _ (tells alone : Bool) (s t : List Seen) (es : List EndpointParts) (q : Q
     -- the last round's answer is that over the graphs of who is kept
     is_answered : (outcome : Outcome) → k.ended ≡ Ok outcome → Answered outcome
     is_answered outcome same graphs knows services serve =
-        let its = subst (λ (o : Result Outcome FedError). Outcomed (IsToldOf true es) (LeavesOut true es) tells alone k.between u es q (plan k.last_kept) block o) same k.last in
+        let its = subst (λ (o : Result Outcome FedError). Outcomed (IsRequired es) (LeavesOut es) tells alone k.between u es q (plan k.last_kept) block o) same k.last in
         its.answer (of_kept k.last_kept graphs) services
         (record {
           all = graphs;
@@ -134,8 +134,8 @@ module _ (tells alone : Bool) (s t : List Seen) (es : List EndpointParts) (q : Q
     -- a last round is never refused for a SERVICE that is unknown
     not_unknown : (iri : List ℕ) → k.ended ≡ Err (fed.UnknownService iri) → ⊥
     not_unknown iri same =
-        let its = subst (λ (o : Result Outcome FedError). Outcomed (IsToldOf true es) (LeavesOut true es) tells alone k.between u es q (plan k.last_kept) block o) same k.last in
-        of_cause (IsToldOf true es) k.between u its.found its.calls its.texts its.of_runs iri its.cause
+        let its = subst (λ (o : Result Outcome FedError). Outcomed (IsRequired es) (LeavesOut es) tells alone k.between u es q (plan k.last_kept) block o) same k.last in
+        of_cause (IsRequired es) k.between u its.found its.calls its.texts its.of_runs iri its.cause
       where
         of_batch : (why : FlowError) → IsNamed es why (fed.UnknownService iri) → ⊥
         of_batch (flow.Member at) n = n

@@ -10,8 +10,7 @@ pub mod EndLemmas
 pub mod AlternativesLemmas
 pub mod AnsweredLemmas
 pub mod AskableLemmas
-pub mod BatchCauseLemmas
-pub mod FederationLemmas
+pub mod PlacedLemmas
 pub mod RunTaskLemmas
 pub mod TogetherLemmas
 pub mod SharedLemmas

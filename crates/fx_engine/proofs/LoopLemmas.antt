@@ -25,8 +25,8 @@ use Rattle.fx_walks.specs.Sections.{parts_with}
 use Rattle.fx_walks.specs.Tasks.{tasks_with}
 use Rattle.fx_outcomes.specs.InRounds.{IsLast, WentRound, plan_over}
 use Rattle.fx_outcomes.specs.Outcomes.{Outcomed}
-use Rattle.fx_outcomes.specs.RoundEnds.{AreAbandoned, IsAbandoned, IsToldOf, LeavesOut, RoundEnded}
-use Rattle.fx_outcomes.specs.Rounds.{AreStillKept, IsLeftBy, MayLeave, kept_choice, kept_entries, without, without_all}
+use Rattle.fx_outcomes.specs.RoundEnds.{AreAbandoned, IsAbandoned, LeavesOut, RoundEnded}
+use Rattle.fx_outcomes.specs.Rounds.{AreStillKept, IsLeftBy, IsRequired, MayLeave, kept_choice, kept_entries, without, without_all}
 use Rattle.fx_outcomes.specs.declared.federated.FedError.{FedError}
 use Rattle.fx_outcomes.specs.declared.federated.FedError.TheVariants as fed
 use Rattle.fx_outcomes.specs.declared.federated.Outcome.{Outcome}
@@ -179,7 +179,7 @@ module _ (tells alone : Bool) (es : List EndpointParts) (q : Query) (plan : List
   -- ---- how they end
 
   abbrev Last : List Seen → List Seen → List Bool → Result Outcome FedError → Type 0
-  Last t u kept r = Outcomed (IsToldOf true es) (LeavesOut true es) tells alone t u es q (plan kept) block r
+  Last t u kept r = Outcomed (IsRequired es) (LeavesOut es) tells alone t u es q (plan kept) block r
 
   ended_so : (s t u : List Seen) (kept mid : List Bool) (rounds : List Round) → AreAbandoned tells alone s t es q plan block kept mid rounds → (r : Result Outcome FedError) → Last t u mid r → (all : Result OutcomeInRounds FedError) → IsLast r all → IfOk all (λ x. x.abandoned ≡ rounds)
       → WentRound tells alone s u es q plan block kept all
@@ -203,7 +203,7 @@ module _ (tells alone : Bool) (es : List EndpointParts) (q : Query) (plan : List
   -- memory ran out before a round
   pub went_lost : (s t : List Seen) (kept mid : List Bool) (rounds : List Round) → AreAbandoned tells alone s t es q plan block kept mid rounds → AllTell tells t → (text : List ℕ) → Accepted text q → WentRound tells alone s t es q plan block kept (Err fed.Memory)
   went_lost s t kept mid rounds h tell text accepted =
-      went_refused s t t kept mid rounds h fed.Memory (lost_outcomed tells alone t t tell tell es q text accepted (plan mid) block (not_invoked tells alone t es _) (IsToldOf true es) (LeavesOut true es) (inr tt))
+      went_refused s t t kept mid rounds h fed.Memory (lost_outcomed tells alone t t tell tell es q text accepted (plan mid) block (not_invoked tells alone t es _) (IsRequired es) (LeavesOut es) tt)
 
   -- or behind one that was abandoned
   as_lost : (t u : List Seen) (mid : List Bool) (same : FlowError → Type 0) (e : FedError) → Outcomed same same tells alone t u es q (plan mid) block (Err e) → Last t u mid (Err fed.Memory)
@@ -232,9 +232,9 @@ module _ (tells alone : Bool) (es : List EndpointParts) (q : Query) (plan : List
     faultless = tt;
     runs = k.runs;
     answer = tt;
-    cause = inl (flow.Memory, tt, tt, inr tt);
+    cause = inl (flow.Memory, tt, tt, tt);
     own_failure = tt;
-    in_turn = inl (flow.Memory, tt, tt, inr tt);
+    in_turn = inl (flow.Memory, tt, tt, tt);
   }
 
   pub went_unnoted : (s t u : List Seen) (kept mid : List Bool) (rounds : List Round) → AreAbandoned tells alone s t es q plan block kept mid rounds → (r : Round) → IsAbandoned tells alone t u es q (plan mid) block r → WentRound tells alone s u es q plan block kept (Err fed.Memory)
@@ -252,17 +252,17 @@ module _ (tells alone : Bool) (question : Question) (old : List Entry) (a : Answ
   -- a round over these members, or none
   abbrev pub Over : List Seen → List Seen → List Bool → Result Ended FedError → Type 0
   Over t u kept r =
-      ((u ≡ t) × (r ≡ Err fed.Memory)) ⊎ (RoundEnded true tells alone t u question.registry.now question.query.now (plan_over question.registry.now question.query.now old a kept) question.block r × LeavesKept question kept r)
+      ((u ≡ t) × (r ≡ Err fed.Memory)) ⊎ (RoundEnded tells alone t u question.registry.now question.query.now (plan_over question.registry.now question.query.now old a kept) question.block r × LeavesKept question kept r)
 
-  its_leaves : (t u : List Seen) (kept : List Bool) (r : Result Ended FedError) → RoundEnded true tells alone t u its_endpoints question.query.now (its_plan kept) question.block r → LeavesKept question kept r
+  its_leaves : (t u : List Seen) (kept : List Bool) (r : Result Ended FedError) → RoundEnded tells alone t u its_endpoints question.query.now (its_plan kept) question.block r → LeavesKept question kept r
   its_leaves t u kept (Ok (ended.Answered outcome)) h = tt
   its_leaves t u kept (Ok (ended.Abandoned r)) h =
-      leaves_kept tells alone t u its_endpoints question.query.now kept (kept_entries kept (zip a.probes.items a.truths.items) old) question.block r h.1
+      leaves_kept tells alone t u its_endpoints question.query.now kept (kept_entries kept (zip a.probes.items a.truths.items) old) question.block r h
   its_leaves t u kept (Err e) h = tt
 
-  pub over_round : (t u : List Seen) (kept : List Bool) (parts : List Part) → question.leaves ≡ true → parts ≡ its_plan kept → (r : Result Ended FedError) → RoundEnded question.leaves tells alone t u its_endpoints question.query.now parts question.block r → Over t u kept r
-  over_round t u kept parts leaves are r h =
-      let k = subst (λ (v : List Part). RoundEnded true tells alone t u its_endpoints question.query.now v question.block r) are (subst (λ (b : Bool). RoundEnded b tells alone t u its_endpoints question.query.now parts question.block r) leaves h) in
+  pub over_round : (t u : List Seen) (kept : List Bool) (parts : List Part) → parts ≡ its_plan kept → (r : Result Ended FedError) → RoundEnded tells alone t u its_endpoints question.query.now parts question.block r → Over t u kept r
+  over_round t u kept parts are r h =
+      let k = subst (λ (v : List Part). RoundEnded tells alone t u its_endpoints question.query.now v question.block r) are h in
       inr (k, its_leaves t u kept r k)
 
   module _ (s t u : List Seen) (first mid lent : List Bool) (rounds : List Round) (gone : AreAbandoned tells alone s t its_endpoints question.query.now its_plan question.block first mid rounds) (same : lent ≡ mid) where
@@ -285,7 +285,7 @@ module _ (tells alone : Bool) (question : Question) (old : List Entry) (a : Answ
         (subst (λ (x : FedError). Went t (Err x)) (sym lost) (went_lost tells alone its_endpoints question.query.now its_plan question.block s t first mid rounds gone tell text accepted))
     over_stopped tell text accepted e (inr h) =
         went_refused tells alone its_endpoints question.query.now its_plan question.block s t u first mid rounds gone e
-        (subst (λ (v : List Bool). Outcomed (IsToldOf true its_endpoints) (LeavesOut true its_endpoints) tells alone t u its_endpoints question.query.now (its_plan v) question.block (Err e)) same h.0)
+        (subst (λ (v : List Bool). Outcomed (IsRequired its_endpoints) (LeavesOut its_endpoints) tells alone t u its_endpoints question.query.now (its_plan v) question.block (Err e)) same h.0)
 
     not_lost : (x : Ended) → ended_so_far x ≡ refused fed.Memory → ⊥
     not_lost x h = cc
@@ -293,16 +293,16 @@ module _ (tells alone : Bool) (question : Question) (old : List Entry) (a : Answ
     pub over_given : (x : Ended) → Over t u lent (Ok x) → (outcome : Outcome) → x ≡ ended.Answered outcome → (all : OutcomeInRounds) → all.outcome ≡ outcome → all.abandoned ≡ rounds → Went u (Ok all)
     over_given x (inl h) outcome is all given listed = absurd (not_lost x h.1)
     over_given x (inr h) outcome is all given listed =
-        let k = subst (λ (e : Ended). RoundEnded true tells alone t u its_endpoints question.query.now (its_plan lent) question.block (Ok e)) is h.0 in
+        let k = subst (λ (e : Ended). RoundEnded tells alone t u its_endpoints question.query.now (its_plan lent) question.block (Ok e)) is h.0 in
         went_given tells alone its_endpoints question.query.now its_plan question.block s t u first mid rounds gone outcome
-        (subst (λ (v : List Bool). Outcomed (IsToldOf true its_endpoints) (LeavesOut true its_endpoints) tells alone t u its_endpoints question.query.now (its_plan v) question.block (Ok outcome)) same k) all given listed
+        (subst (λ (v : List Bool). Outcomed (IsRequired its_endpoints) (LeavesOut its_endpoints) tells alone t u its_endpoints question.query.now (its_plan v) question.block (Ok outcome)) same k) all given listed
 
     pub over_abandoned : (x : Ended) → Over t u lent (Ok x) → (r : Round) → x ≡ ended.Abandoned r → IsAbandoned tells alone t u its_endpoints question.query.now (its_plan mid) question.block r × All (MayLeave its_endpoints mid) r.left
     over_abandoned x (inl h) r is = absurd (not_lost x h.1)
     over_abandoned x (inr h) r is =
-        let k = subst (λ (e : Ended). RoundEnded true tells alone t u its_endpoints question.query.now (its_plan lent) question.block (Ok e)) is h.0 in
+        let k = subst (λ (e : Ended). RoundEnded tells alone t u its_endpoints question.query.now (its_plan lent) question.block (Ok e)) is h.0 in
         let m = subst (λ (e : Ended). LeavesKept question lent (Ok e)) is h.1 in (
-          subst (λ (v : List Bool). IsAbandoned tells alone t u its_endpoints question.query.now (its_plan v) question.block r) same k.1,
+          subst (λ (v : List Bool). IsAbandoned tells alone t u its_endpoints question.query.now (its_plan v) question.block r) same k,
           subst (λ (v : List Bool). All (MayLeave its_endpoints v) r.left) same m,
         )
 

@@ -29,16 +29,16 @@ AnsweredBy w q plan rows answer = AnswerAsked w q.registry.now q.block (tasks_wi
 
 -- its occurrences of SERVICE were invoked, and then its runs were asked for
 abbrev pub EndedBy : WiresSeen → Question → List Part → Result Ended FedError → Type 0
-EndedBy w q plan result = RoundEnded q.leaves w.tells w.alone w.before w.after q.registry.now q.query.now plan q.block result
+EndedBy w q plan result = RoundEnded w.tells w.alone w.before w.after q.registry.now q.query.now plan q.block result
 
 -- so they were, if all occurrences of SERVICE had been invoked before and had these rows, and these of them were down
 abbrev pub EndedBehindAll : WiresSeen → Question → List Part → List Down → List (List Bindings) → Result Ended FedError → Type 0
 EndedBehindAll w q plan down rows result =
     (start : List Seen) → AllTell w.tells start → AreInvoked w.tells w.alone start w.before q.registry.now (occurrences q.query.now) down rows
-    → RoundEnded q.leaves w.tells w.alone start w.after q.registry.now q.query.now plan q.block result
+    → RoundEnded w.tells w.alone start w.after q.registry.now q.query.now plan q.block result
 
 -- and if the first of them had these rows, and the next, which isn't silent, had none for this reason
 abbrev pub OutcomedBehindStop : WiresSeen → Question → List Part → List (List Bindings) → ServiceError → FedError → Type 0
 OutcomedBehindStop w q plan rows why error =
     (start : List Seen) → AllTell w.tells start → IsStopped w.tells w.alone start w.before q.registry.now (occurrences q.query.now) rows why
-    → RoundEnded q.leaves w.tells w.alone start w.after q.registry.now q.query.now plan q.block (Err error)
+    → RoundEnded w.tells w.alone start w.after q.registry.now q.query.now plan q.block (Err error)

@@ -30,7 +30,7 @@ LeavesKept q kept (Err e) = Unit {0}
 abbrev pub RoundOver : WiresSeen → Question → List Entry → Answers → List Bool → Result Ended FedError → Type 0
 RoundOver w q old a kept result =
     ((w.after ≡ w.before) × (result ≡ Err fed.Memory))
-    ⊎ (RoundEnded true w.tells w.alone w.before w.after q.registry.now q.query.now (plan_over q.registry.now q.query.now old a kept) q.block result × LeavesKept q kept result)
+    ⊎ (RoundEnded w.tells w.alone w.before w.after q.registry.now q.query.now (plan_over q.registry.now q.query.now old a kept) q.block result × LeavesKept q kept result)
 
 abbrev pub WentOver : WiresSeen → Question → List Entry → Answers → Result OutcomeInRounds FedError → Type 0
 WentOver w q old a result = WentRound w.tells w.alone w.before w.after q.registry.now q.query.now (plan_over q.registry.now q.query.now old a) q.block a.kept.items result

@@ -4,7 +4,6 @@
 mod answers;
 mod groups;
 mod hands;
-pub mod in_rounds;
 pub mod mediator;
 mod outcomes;
 mod questions;
@@ -19,5 +18,4 @@ pub use fx_outcomes::{
 };
 pub use fx_pool::{BadReply, ReplyFault};
 pub use fx_services::{Down, DownCause};
-pub use in_rounds::{federate_in_rounds, federate_in_rounds_by, plan_in_rounds, plan_in_rounds_by};
 pub use mediator::{federate, federate_by, plan_parts, plan_parts_by};

@@ -28,7 +28,7 @@ use std::alloc::Global;
 /// The outcome of a query over the union of the endpoints' graphs, by the parts of its plan, in text order.
 ///
 /// All occurrences of SERVICE are invoked first, side by side. Then the runs are asked for, in text order, up to the first occurrence without SILENT that has no rows, if there
-/// is one: a refusal of a run before it comes first, and then its own. Where members may be left out, one that is marked as optional is, for its refusal, and this round is abandoned;
+/// is one: a refusal of a run before it comes first, and then its own. A member that is marked as optional is left out for its refusal, and this round is abandoned;
 /// behind an occurrence that has no rows the refusal is this one's then.
 pub(crate) fn outcome_by_plan<H: DoesJobs<W> + DoesFlows<W>, W: Wire>(
     hands: &H,
@@ -96,10 +96,10 @@ fn end_for(
     error: FlowError,
 ) -> Result<Ended, FedError>
     requires { IsPlaced (length question.now.registry.now) error }
-    ensures { IsEndFor question.now.leaves question.now.registry.now down.now error result }
+    ensures { IsEndFor question.now.registry.now down.now error result }
 {
     let endpoints = question.registry.endpoints();
-    if !leaves_out(question.leaves, endpoints, &error) {
+    if !leaves_out(endpoints, &error) {
         return Err(named(alloc, endpoints, error));
     }
     match left_by(error) {
@@ -112,17 +112,16 @@ fn end_for(
 }
 
 // Whether the member that a refusal names is left out for it.
-fn leaves_out(leaves: bool, endpoints: &[Endpoint], error: &FlowError) -> bool
+fn leaves_out(endpoints: &[Endpoint], error: &FlowError) -> bool
     requires { IsPlaced (length endpoints.now) error.now }
-    ensures { IsWhether leaves endpoints.now error.now result }
+    ensures { IsWhether endpoints.now error.now result }
 {
-    leaves
-        && match error {
-            FlowError::Member { at } => endpoints[*at as usize].is_optional(),
-            FlowError::BadReply { at, bad: _ } => endpoints[*at as usize].is_optional(),
-            FlowError::RequestTooLong { at, length: _ } => endpoints[*at as usize].is_optional(),
-            FlowError::Memory => false,
-        }
+    match error {
+        FlowError::Member { at } => endpoints[*at as usize].is_optional(),
+        FlowError::BadReply { at, bad: _ } => endpoints[*at as usize].is_optional(),
+        FlowError::RequestTooLong { at, length: _ } => endpoints[*at as usize].is_optional(),
+        FlowError::Memory => false,
+    }
 }
 
 // The round that is abandoned for this member, in which these occurrences were down.
@@ -181,10 +180,10 @@ fn first_refusal(
 ) -> FedError
     requires named { IsPlaced (length question.now.registry.now) first }
     requires placed { spec.IsPlacedAt (length question.now.registry.now) error }
-    ensures { IsFirstOf question.now.leaves question.now.registry.now first error result }
+    ensures { IsFirstOf question.now.registry.now first error result }
 {
     let endpoints = question.registry.endpoints();
-    if leaves_out(question.leaves, endpoints, &first) {
+    if leaves_out(endpoints, &first) {
         told(alloc, endpoints, error)
     } else {
         named(alloc, endpoints, first)

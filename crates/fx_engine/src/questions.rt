@@ -11,7 +11,5 @@ pub(crate) struct Question<'a> {
     pub(crate) registry: &'a Registry,
     /// How many rows one request asks for at most.
     pub(crate) block: u32,
-    /// Whether members that are marked as optional are left out where they fail.
-    pub(crate) leaves: bool,
     ghost block_fits: { (0 < block) × (block ≤ 64) },
 }

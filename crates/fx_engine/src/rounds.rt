@@ -33,7 +33,6 @@ pub(crate) fn behind_asks<H: DoesJobs<W> + DoesFlows<W>, W: Wire>(
     requires wired { (0 < length wires.old) × (length wires.old ≤ 16) }
     requires spellable { IsSpellable question.now.query.now }
     requires known { unknown_of question.now.registry.now question.now.query.now ≡ None }
-    requires leaves { question.now.leaves ≡ true }
     requires fit { AreAnswers question.now.registry.now (missing question.now.query.now (length question.now.registry.now) cache.old) answers }
     ensures { WentBehindAsks (seen W.Wire wires.old wires.new) question.now cache.old cache.new answers result }
 {
@@ -158,7 +157,6 @@ pub(crate) fn in_rounds<H: DoesJobs<W> + DoesFlows<W>, W: Wire>(
     requires wired { (0 < length wires.old) × (length wires.old ≤ 16) }
     requires spellable { IsSpellable question.now.query.now }
     requires known { unknown_of question.now.registry.now question.now.query.now ≡ None }
-    requires leaves { question.now.leaves ≡ true }
     requires fit { AreAnswers question.now.registry.now (missing question.now.query.now (length question.now.registry.now) cache.now) answers.now }
     requires all { kept.items ≡ answers.now.kept.items }
     ensures { WentOver (seen W.Wire wires.old wires.new) question.now cache.now answers.now result }
@@ -203,7 +201,6 @@ fn round<H: DoesJobs<W> + DoesFlows<W>, W: Wire>(
     requires wired { (0 < length wires.old) × (length wires.old ≤ 16) }
     requires spellable { IsSpellable question.now.query.now }
     requires known { unknown_of question.now.registry.now question.now.query.now ≡ None }
-    requires leaves { question.now.leaves ≡ true }
     requires fit { AreAnswers question.now.registry.now (missing question.now.query.now (length question.now.registry.now) cache.now) answers.now }
     requires still { AreStillKept kept.now answers.now.kept.items }
     ensures { RoundOver (seen W.Wire wires.old wires.new) question.now cache.now answers.now kept.now result }

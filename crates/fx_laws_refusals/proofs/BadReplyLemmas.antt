@@ -143,7 +143,7 @@ module _ (w : WiresSeen) (es : List EndpointParts) (asked : Query) (new : List E
       at_asks h
       (bad_at_ask w.before w.after es (missing asked (length es) []) h.asking.exchanges name bad h.why h.asking.cause h.asking.required (subst (IsNamed es h.why) (sym (same_refusal (fed.BadReply name bad) h.error h.is)) h.named))
   own_bad alike registry (inr (inr it)) =
-      by (bad_at_last (LeavesOut true es) w.tells w.alone it.went.between w.after es asked (plan_over es asked [] it.answers it.went.last_kept) block name bad it.went.ended it.went.last it.told)
+      by (bad_at_last (LeavesOut es) w.tells w.alone it.went.between w.after es asked (plan_over es asked [] it.answers it.went.last_kept) block name bad it.went.ended it.went.last it.told)
     where
       by : AtRequired es name (AtBatch es (units_in (tasks_with (plan_over es asked [] it.answers it.went.last_kept) it.went.last.found)) block it.went.last.texts (λ e u rows. IsBadBatch (Tell it.went.between e.iri) e (record { unit = u; rows = rows }) it.went.last.of_runs bad))
           ⊎ AtNamed es name (λ e. HasFirstRefused it.went.last.calls (cause.Bad bad) e.iri) → Own

@@ -30,7 +30,6 @@ use Rattle.fx_outcomes.specs.Calls.{AreAllOrNone, Call, HasFirstRefused, occurre
 use Rattle.fx_outcomes.specs.InRounds.{IsLast}
 use Rattle.fx_outcomes.specs.Mediation.{AtNamed, HasName, IsNamed}
 use Rattle.fx_outcomes.specs.Outcomes.{HasOutcomeCause, HasRefusal, Outcomed}
-use Rattle.fx_outcomes.specs.RoundEnds.{IsToldOf}
 use Rattle.fx_outcomes.specs.Rounds.{IsMarked, IsRequired}
 use Rattle.fx_outcomes.specs.declared.federated.FedError.{FedError}
 use Rattle.fx_outcomes.specs.declared.federated.FedError.TheVariants as fed
@@ -70,14 +69,6 @@ required_named es name P at it e same found has marked p =
     let one : marked.0 ≡ e = cc in
     let required : e.optional ≡ false = sym (ap (λ (d : EndpointParts). d.optional) one) ∙ marked.2 in
     (e, found_here es at e found, its_name es at it e name same found has, (required, p))
-
--- where members may be left out, a refusal is told of one that mustn't be
-not_false : true ≡ false → ⊥
-not_false h = cc
-
-told_required : (es : List EndpointParts) (why : FlowError) → IsToldOf true es why → IsRequired es why
-told_required es why (inl none) = absurd (not_false none)
-told_required es why (inr required) = required
 
 -- ---- at an ASK
 
@@ -166,43 +157,43 @@ sent_among es u rows at e text member found is =
 -- ---- the last round was refused for the cause that is told
 
 module _ (Untold : FlowError → Type 0) (tells alone : Bool) (u t : List Seen) (es : List EndpointParts) (q : Query) (plan : List Part) (block : ℕ) where
-  abbrev Causes : (ended : Result Outcome FedError) → Outcomed (IsToldOf true es) Untold tells alone u t es q plan block ended → FedError → Type 0
-  Causes ended k e = HasOutcomeCause (IsToldOf true es) u t es plan k.found block k.calls k.texts k.of_runs e
+  abbrev Causes : (ended : Result Outcome FedError) → Outcomed (IsRequired es) Untold tells alone u t es q plan block ended → FedError → Type 0
+  Causes ended k e = HasOutcomeCause (IsRequired es) u t es plan k.found block k.calls k.texts k.of_runs e
 
-  bad_cause : (name : List ℕ) (bad : BadReply) (ended : Result Outcome FedError) → (k : Outcomed (IsToldOf true es) Untold tells alone u t es q plan block ended) → IsLast ended (Err (fed.BadReply name bad)) → Causes ended k (fed.BadReply name bad)
+  bad_cause : (name : List ℕ) (bad : BadReply) (ended : Result Outcome FedError) → (k : Outcomed (IsRequired es) Untold tells alone u t es q plan block ended) → IsLast ended (Err (fed.BadReply name bad)) → Causes ended k (fed.BadReply name bad)
   bad_cause name bad (Ok outcome) k same = absurd same
-  bad_cause name bad (Err e) k same = subst (HasOutcomeCause (IsToldOf true es) u t es plan k.found block k.calls k.texts k.of_runs) (sym same) k.cause
+  bad_cause name bad (Err e) k same = subst (HasOutcomeCause (IsRequired es) u t es plan k.found block k.calls k.texts k.of_runs) (sym same) k.cause
 
-  long_cause : (name : List ℕ) (size : ℕ) (ended : Result Outcome FedError) → (k : Outcomed (IsToldOf true es) Untold tells alone u t es q plan block ended) → IsLast ended (Err (fed.RequestTooLong name size))
+  long_cause : (name : List ℕ) (size : ℕ) (ended : Result Outcome FedError) → (k : Outcomed (IsRequired es) Untold tells alone u t es q plan block ended) → IsLast ended (Err (fed.RequestTooLong name size))
       → Causes ended k (fed.RequestTooLong name size)
   long_cause name size (Ok outcome) k same = absurd same
-  long_cause name size (Err e) k same = subst (HasOutcomeCause (IsToldOf true es) u t es plan k.found block k.calls k.texts k.of_runs) (sym same) k.cause
+  long_cause name size (Err e) k same = subst (HasOutcomeCause (IsRequired es) u t es plan k.found block k.calls k.texts k.of_runs) (sym same) k.cause
 
-  pub service_at_last : (iri : List ℕ) (ended : Result Outcome FedError) → (k : Outcomed (IsToldOf true es) Untold tells alone u t es q plan block ended) → IsLast ended (Err (fed.Service iri)) → HasRefusal u t es k.calls (fed.Service iri)
+  pub service_at_last : (iri : List ℕ) (ended : Result Outcome FedError) → (k : Outcomed (IsRequired es) Untold tells alone u t es q plan block ended) → IsLast ended (Err (fed.Service iri)) → HasRefusal u t es k.calls (fed.Service iri)
   service_at_last iri (Ok outcome) k same = absurd same
-  service_at_last iri (Err e) k same = by (subst (HasOutcomeCause (IsToldOf true es) u t es plan k.found block k.calls k.texts k.of_runs) (sym same) k.cause)
+  service_at_last iri (Err e) k same = by (subst (HasOutcomeCause (IsRequired es) u t es plan k.found block k.calls k.texts k.of_runs) (sym same) k.cause)
     where
-      by : HasOutcomeCause (IsToldOf true es) u t es plan k.found block k.calls k.texts k.of_runs (fed.Service iri) → HasRefusal u t es k.calls (fed.Service iri)
+      by : HasOutcomeCause (IsRequired es) u t es plan k.found block k.calls k.texts k.of_runs (fed.Service iri) → HasRefusal u t es k.calls (fed.Service iri)
       by (inl b) = absurd (no_service_named es iri b.0 b.2)
       by (inr r) = r
 
   -- at a batch, or at an occurrence
-  pub bad_at_last : (name : List ℕ) (bad : BadReply) (ended : Result Outcome FedError) → (k : Outcomed (IsToldOf true es) Untold tells alone u t es q plan block ended) → IsLast ended (Err (fed.BadReply name bad))
+  pub bad_at_last : (name : List ℕ) (bad : BadReply) (ended : Result Outcome FedError) → (k : Outcomed (IsRequired es) Untold tells alone u t es q plan block ended) → IsLast ended (Err (fed.BadReply name bad))
       → AtRequired es name (AtBatch es (units_in (tasks_with plan k.found)) block k.texts (λ e it rows. IsBadBatch (Tell u e.iri) e (record { unit = it; rows = rows }) k.of_runs bad)) ⊎ AtNamed es name (λ e. HasFirstRefused k.calls (cause.Bad bad) e.iri)
   bad_at_last name bad ended k same = by (bad_cause name bad ended k same)
     where
       by : Causes ended k (fed.BadReply name bad)
           → AtRequired es name (AtBatch es (units_in (tasks_with plan k.found)) block k.texts (λ e it rows. IsBadBatch (Tell u e.iri) e (record { unit = it; rows = rows }) k.of_runs bad)) ⊎ AtNamed es name (λ e. HasFirstRefused k.calls (cause.Bad bad) e.iri)
-      by (inl b) = inl (bad_at_batch u t es (units_in (tasks_with plan k.found)) block k.texts k.of_runs name bad b.0 b.1 (told_required es b.0 b.3) b.2)
+      by (inl b) = inl (bad_at_batch u t es (units_in (tasks_with plan k.found)) block k.texts k.of_runs name bad b.0 b.1 b.3 b.2)
       by (inr r) = inr r
 
-  pub long_at_last : (name : List ℕ) (size : ℕ) (ended : Result Outcome FedError) → (k : Outcomed (IsToldOf true es) Untold tells alone u t es q plan block ended) → IsLast ended (Err (fed.RequestTooLong name size))
+  pub long_at_last : (name : List ℕ) (size : ℕ) (ended : Result Outcome FedError) → (k : Outcomed (IsRequired es) Untold tells alone u t es q plan block ended) → IsLast ended (Err (fed.RequestTooLong name size))
       → AtRequired es name (AtBatch es (units_in (tasks_with plan k.found)) block k.texts (λ e it rows. IsLongBatch e (record { unit = it; rows = rows }) size)) ⊎ AtNamed es name (λ e. HasFirstRefused k.calls (cause.TooLong size) e.iri)
   long_at_last name size ended k same = by (long_cause name size ended k same)
     where
       by : Causes ended k (fed.RequestTooLong name size)
           → AtRequired es name (AtBatch es (units_in (tasks_with plan k.found)) block k.texts (λ e it rows. IsLongBatch e (record { unit = it; rows = rows }) size)) ⊎ AtNamed es name (λ e. HasFirstRefused k.calls (cause.TooLong size) e.iri)
-      by (inl b) = inl (long_at_batch u t es (units_in (tasks_with plan k.found)) block k.texts k.of_runs name size b.0 b.1 (told_required es b.0 b.3) b.2)
+      by (inl b) = inl (long_at_batch u t es (units_in (tasks_with plan k.found)) block k.texts k.of_runs name size b.0 b.1 b.3 b.2)
       by (inr r) = inr r
 
 -- ---- an occurrence that was refused first

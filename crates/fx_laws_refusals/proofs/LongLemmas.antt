@@ -108,7 +108,7 @@ module _ (w : WiresSeen) (es : List EndpointParts) (asked : Query) (new : List E
       at_asks
       (long_at_ask w.before w.after es (missing asked (length es) []) h.asking.exchanges name size h.why h.asking.cause h.asking.required (subst (IsNamed es h.why) (sym (same_refusal (fed.RequestTooLong name size) h.error h.is)) h.named))
   own_long alike (inr (inr it)) =
-      by (long_at_last (LeavesOut true es) w.tells w.alone it.went.between w.after es asked (plan_over es asked [] it.answers it.went.last_kept) block name size it.went.ended it.went.last it.told)
+      by (long_at_last (LeavesOut es) w.tells w.alone it.went.between w.after es asked (plan_over es asked [] it.answers it.went.last_kept) block name size it.went.ended it.went.last it.told)
     where
       by : AtRequired es name (AtBatch es (units_in (tasks_with (plan_over es asked [] it.answers it.went.last_kept) it.went.last.found)) block it.went.last.texts (λ e u rows. IsLongBatch e (record { unit = u; rows = rows }) size))
           ⊎ AtNamed es name (λ e. HasFirstRefused it.went.last.calls (cause.TooLong size) e.iri) → Own

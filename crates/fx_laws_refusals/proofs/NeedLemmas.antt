@@ -42,7 +42,7 @@ module _ (w : WiresSeen) (es : List EndpointParts) (asked : Query) (new : List E
   service_needed iri (inr (inl h)) = absurd (no_service_named es iri h.why (subst (IsNamed es h.why) (sym (same_refusal (fed.Service iri) h.error h.is)) h.named))
   service_needed iri (inr (inr it)) =
       let last = it.went.last in
-      let k = service_at_last (LeavesOut true es) w.tells w.alone it.went.between w.after es asked (plan_over es asked [] it.answers it.went.last_kept) block iri it.went.ended last it.told in
+      let k = service_at_last (LeavesOut es) w.tells w.alone it.went.between w.after es asked (plan_over es asked [] it.answers it.went.last_kept) block iri it.went.ended last it.told in
       (k.1, asked_plainly asked last.calls cause.Failed iri last.called k.0)
 
   bad_needed : (name : List ℕ) (bad : BadReply) → Went (fed.BadReply name bad) → AtNamed es name (IsNeededFor asked)
@@ -51,7 +51,7 @@ module _ (w : WiresSeen) (es : List EndpointParts) (asked : Query) (new : List E
       required_is_needed es name asked _
       (bad_at_ask w.before w.after es (missing asked (length es) []) h.asking.exchanges name bad h.why h.asking.cause h.asking.required (subst (IsNamed es h.why) (sym (same_refusal (fed.BadReply name bad) h.error h.is)) h.named))
   bad_needed name bad (inr (inr it)) =
-      by (bad_at_last (LeavesOut true es) w.tells w.alone it.went.between w.after es asked (plan_over es asked [] it.answers it.went.last_kept) block name bad it.went.ended it.went.last it.told)
+      by (bad_at_last (LeavesOut es) w.tells w.alone it.went.between w.after es asked (plan_over es asked [] it.answers it.went.last_kept) block name bad it.went.ended it.went.last it.told)
     where
       by : {P : EndpointParts → Type 0} → AtRequired es name P ⊎ AtNamed es name (λ e. HasFirstRefused it.went.last.calls (cause.Bad bad) e.iri) → AtNamed es name (IsNeededFor asked)
       by (inl b) = required_is_needed es name asked _ b
@@ -63,7 +63,7 @@ module _ (w : WiresSeen) (es : List EndpointParts) (asked : Query) (new : List E
       required_is_needed es name asked _
       (long_at_ask w.before w.after es (missing asked (length es) []) h.asking.exchanges name size h.why h.asking.cause h.asking.required (subst (IsNamed es h.why) (sym (same_refusal (fed.RequestTooLong name size) h.error h.is)) h.named))
   long_needed name size (inr (inr it)) =
-      by (long_at_last (LeavesOut true es) w.tells w.alone it.went.between w.after es asked (plan_over es asked [] it.answers it.went.last_kept) block name size it.went.ended it.went.last it.told)
+      by (long_at_last (LeavesOut es) w.tells w.alone it.went.between w.after es asked (plan_over es asked [] it.answers it.went.last_kept) block name size it.went.ended it.went.last it.told)
     where
       by : {P : EndpointParts → Type 0} → AtRequired es name P ⊎ AtNamed es name (λ e. HasFirstRefused it.went.last.calls (cause.TooLong size) e.iri) → AtNamed es name (IsNeededFor asked)
       by (inl b) = required_is_needed es name asked _ b

@@ -4,8 +4,8 @@ ghost use Rattle.fx_grammar.specs.Accepted.{IsSpellable};
 
 use fx_algebra::Query;
 use fx_engine::{
-    Down, DownCause, FedError, Options, Outcome, ReplyFault, fault_code, fault_words, federate,
-    plan_parts,
+    Down, DownCause, FedError, LeftCause, Options, OutcomeInRounds, ReplyFault, Round, fault_code,
+    fault_words, federate, plan_parts,
 };
 use fx_notation::{escapes, shown};
 use fx_plan::explain;
@@ -46,7 +46,7 @@ pub(crate) fn answered<R: Threads + Wait + Sync, W: Wire + Send>(
         return None;
     }
     match federate(rt, alloc, query, registry, cache, Options { block }, wires) {
-        Ok(outcome) => outcome_text(alloc, &outcome),
+        Ok(all) => outcome_text(alloc, &all),
         Err(error) => refusal_text(alloc, &error),
     }
 }
@@ -64,7 +64,7 @@ pub(crate) fn planned<R: Threads + Wait + Sync, W: Wire + Send>(
 {
     let mut cache = AskCache::new(alloc).ok()?;
     match plan_parts(rt, alloc, query, registry, &mut cache, wires) {
-        Ok(parts) => explain(alloc, parts.as_slice(), registry.endpoints()).ok(),
+        Ok(plan) => explain(alloc, plan.parts.as_slice(), registry.endpoints()).ok(),
         Err(error) => refusal_text(alloc, &error),
     }
 }
@@ -75,6 +75,21 @@ pub(crate) fn registry_of(alloc: Global, members: usize) -> Option<Registry> {
     for number in 0..members {
         let (name, port) = (name_of(number)?, port_of(number)?);
         writeln!(text, "{name} http://127.0.0.1:{port}/sparql").ok()?;
+    }
+    Registry::read(alloc, text.as_bytes()).ok()
+}
+
+/// The same, where those are marked as optional whose names these are.
+pub(crate) fn marked_registry(alloc: Global, members: usize, marked: &str) -> Option<Registry> {
+    let mut text = String::new(alloc);
+    for number in 0..members {
+        let (name, port) = (name_of(number)?, port_of(number)?);
+        let flag = if marked.contains(name) {
+            " optional"
+        } else {
+            ""
+        };
+        writeln!(text, "{name} http://127.0.0.1:{port}/sparql{flag}").ok()?;
     }
     Registry::read(alloc, text.as_bytes()).ok()
 }
@@ -107,16 +122,41 @@ pub(crate) fn port_of(number: usize) -> Option<u16> {
     }
 }
 
-// The answer, and behind it each SERVICE that is down.
-fn outcome_text(alloc: Global, outcome: &Outcome) -> Option<String> {
-    let mut text = shown::answer(alloc, &outcome.answer)?;
-    for down in outcome.down.as_slice() {
+// The answer, and behind it each SERVICE that is down, and each round that was abandoned.
+fn outcome_text(alloc: Global, all: &OutcomeInRounds) -> Option<String> {
+    let mut text = shown::answer(alloc, &all.outcome.answer)?;
+    for down in all.outcome.down.as_slice() {
         push_down(&mut text, down)?;
+    }
+    for round in all.abandoned.as_slice() {
+        push_round(&mut text, round)?;
     }
     Some(text)
 }
 
-fn push_down(text: &mut String, down: &Down) -> Option<()> {
+/// The members that it left out, and the numbers of the SERVICEs that were down in it.
+pub(crate) fn push_round(text: &mut String, round: &Round) -> Option<()> {
+    for left in round.left.as_slice() {
+        let name = name_of(left.at as usize)?;
+        write!(text, " left out {name} ").ok()?;
+        push_left_cause(text, &left.why)?;
+    }
+    for number in round.down.as_slice() {
+        write!(text, " while {number} was down").ok()?;
+    }
+    Some(())
+}
+
+fn push_left_cause(text: &mut String, why: &LeftCause) -> Option<()> {
+    match why {
+        LeftCause::Failed => text.push_str("Failed").ok(),
+        LeftCause::Bad(bad) => push_fault(text, bad.why),
+        LeftCause::TooLong { length } => write!(text, "TooLong {length}").ok(),
+    }
+}
+
+/// A SERVICE that is down, and why.
+pub(crate) fn push_down(text: &mut String, down: &Down) -> Option<()> {
     let (place, iri) = (down.place, down.iri.text());
     write!(text, " down {place} {iri} ").ok()?;
     push_cause(text, &down.why)
@@ -139,7 +179,8 @@ fn push_fault(text: &mut String, why: ReplyFault) -> Option<()> {
     }
 }
 
-fn refusal_text(alloc: Global, refusal: &FedError) -> Option<String> {
+/// A refusal.
+pub(crate) fn refusal_text(alloc: Global, refusal: &FedError) -> Option<String> {
     match refusal {
         FedError::Member { name } => {
             let name = name.as_str();

@@ -6,7 +6,7 @@ ghost use Rattle.std.specs.Prelude.{◌≡◌, ◌<◌, ◌≤◌, IfSome, lengt
 use crate::calls;
 use crate::calls::{address, parsed, registry_of};
 use fx_notation::{escapes, fields};
-use fx_sources::AskCache;
+use fx_sources::{AskCache, Registry};
 use fx_terms::Iri;
 use fx_wire::ScriptWire;
 use std::alloc::Global;
@@ -23,7 +23,8 @@ pub fn answer<R: Threads + Wait + Sync>(
 ) -> Option<String> {
     match (call, inputs) {
         ("federate", [query, first, second]) => federated(rt, alloc, query, first, second),
-        ("federate with one cache", steps) => federated_in_turn(rt, alloc, steps),
+        ("federate with one cache", steps) => federated_in_turn(rt, alloc, false, steps),
+        ("federate without B, if need be", steps) => federated_in_turn(rt, alloc, true, steps),
         ("plan_parts", [query, first, second]) => planned(rt, alloc, query, first, second),
         _ => None,
     }
@@ -37,9 +38,17 @@ fn federated<R: Threads + Wait + Sync>(
     first: &str,
     second: &str,
 ) -> Option<String> {
+    let registry = registry_of(alloc, 2)?;
     let mut wires = wires_of(alloc, first, second)?;
     let mut cache = AskCache::new(alloc).ok()?;
-    let answer = answered(rt, alloc, query, &mut cache, wires.as_mut_slice())?;
+    let answer = answered(
+        rt,
+        alloc,
+        &registry,
+        query,
+        &mut cache,
+        wires.as_mut_slice(),
+    )?;
     let count = exchanges(wires.as_slice())?;
     format!(in alloc; "{count} exchanges: {answer}").ok()
 }
@@ -52,35 +61,50 @@ fn exchanges(wires: &[ScriptWire]) -> Option<u64> {
     Some(count)
 }
 
-// Queries that are answered one after the other with one cache, each with the replies of the endpoints behind it.
+// Queries that are answered one after the other with one cache, each with the replies of the endpoints behind it, where B is optional or not.
 fn federated_in_turn<R: Threads + Wait + Sync>(
     rt: &R,
     alloc: Global,
+    optional: bool,
     steps: &[&str],
 ) -> Option<String> {
+    let registry = registry_with(alloc, optional)?;
     let mut cache = AskCache::new(alloc).ok()?;
     let mut text = String::new(alloc);
     for step in steps.chunks(3) {
         let [query, first, second] = step else {
             return None;
         };
-        let told = told(rt, alloc, &mut cache, query, first, second)?;
+        let told = told(rt, alloc, &registry, &mut cache, query, first, second)?;
         fields::add_behind(&mut text, " || ", told.as_str())?;
     }
     Some(text)
+}
+
+// A, and B as it is.
+fn registry_with(alloc: Global, optional: bool) -> Option<Registry> {
+    if !optional {
+        return registry_of(alloc, 2);
+    }
+    Registry::read(
+        alloc,
+        b"A http://127.0.0.1:8001/sparql\nB http://127.0.0.1:8002/sparql optional\n",
+    )
+    .ok()
 }
 
 // What is sent, the answer, and how many entries the cache holds then.
 fn told<R: Threads + Wait + Sync>(
     rt: &R,
     alloc: Global,
+    registry: &Registry,
     cache: &mut AskCache,
     query: &str,
     first: &str,
     second: &str,
 ) -> Option<String> {
     let mut wires = wires_of(alloc, first, second)?;
-    let answer = answered(rt, alloc, query, cache, wires.as_mut_slice())?;
+    let answer = answered(rt, alloc, registry, query, cache, wires.as_mut_slice())?;
     let sent = sent(alloc, wires.as_slice())?;
     let held = cache.len();
     format!(in alloc; "{sent} => {answer} holds {held}").ok()
@@ -90,15 +114,15 @@ fn told<R: Threads + Wait + Sync>(
 fn answered<R: Threads + Wait + Sync>(
     rt: &R,
     alloc: Global,
+    registry: &Registry,
     field: &str,
     cache: &mut AskCache,
     wires: &mut [ScriptWire],
 ) -> Option<String>
     requires { (0 < length wires.old) × (length wires.old ≤ 16) }
 {
-    let registry = registry_of(alloc, 2)?;
     let query = parsed(alloc, field)?;
-    calls::answered(rt, alloc, query.get(), 15, &registry, cache, wires)
+    calls::answered(rt, alloc, query.get(), 15, registry, cache, wires)
 }
 
 // The text of the plan, or the refusal.
@@ -142,8 +166,8 @@ fn sent(alloc: Global, wires: &[ScriptWire]) -> Option<String> {
     Some(text)
 }
 
-// One wire over both endpoints.
-fn wires_of(alloc: Global, first: &str, second: &str) -> Option<Vec<ScriptWire>>
+/// One wire over both endpoints.
+pub(crate) fn wires_of(alloc: Global, first: &str, second: &str) -> Option<Vec<ScriptWire>>
     ensures { IfSome result (λ wires. length wires.items ≡ 1) }
 {
     let mut script = Vec::new(alloc);

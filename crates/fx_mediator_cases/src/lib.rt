@@ -3,4 +3,5 @@
 
 mod calls;
 pub mod engine;
+pub mod gateways;
 pub mod mediations;

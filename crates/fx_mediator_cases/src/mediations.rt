@@ -145,8 +145,13 @@ fn explained<R: Threads + Wait + Sync>(
     calls::planned(rt, alloc, query.get(), &registry, wires)
 }
 
-// The letter of each member with the numbers of its ASKs and of its other texts, and what the call gave.
-fn told(alloc: Global, wires: &[GraphWire], members: usize, given: &str) -> Option<String> {
+/// The letter of each member with the numbers of its ASKs and of its other texts, and what the call gave.
+pub(crate) fn told(
+    alloc: Global,
+    wires: &[GraphWire],
+    members: usize,
+    given: &str,
+) -> Option<String> {
     let mut text = String::new(alloc);
     for number in 0..members {
         let (asks, others) = sent_to(wires, port_of(number)?)?;
@@ -179,8 +184,8 @@ fn plus_one(number: u64) -> Option<u64> {
     number.checked_add(1)
 }
 
-// One wire over all members.
-fn wires_of(alloc: Global, fields: &[&str]) -> Option<Vec<GraphWire>>
+/// One wire over all members.
+pub(crate) fn wires_of(alloc: Global, fields: &[&str]) -> Option<Vec<GraphWire>>
     ensures { IfSome result (λ wires. length wires.items ≡ 1) }
 {
     let mut wires = Vec::new(alloc);
@@ -196,8 +201,8 @@ fn wire_of(alloc: Global, fields: &[&str]) -> Option<GraphWire> {
     GraphWire::new(alloc, graphs).ok()
 }
 
-// A wire over all members whose exchanges with these numbers fail.
-fn failing_wire(alloc: Global, fields: &[&str], fails: &str) -> Option<FaultWire> {
+/// A wire over all members whose exchanges with these numbers fail.
+pub(crate) fn failing_wire(alloc: Global, fields: &[&str], fails: &str) -> Option<FaultWire> {
     let wire = wire_of(alloc, fields)?;
     FaultWire::new(alloc, wire, fields::numbers(alloc, fails)?, Vec::new(alloc)).ok()
 }

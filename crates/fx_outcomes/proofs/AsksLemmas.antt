@@ -1,18 +1,14 @@
 -- What asking for probes leaves of wires: all of them at once, or in pieces.
-use Rattle.std.proofs.Common.{◌≡◌, ◌∙◌, ap, sym, subst, refl, ℕ, ◌+◌, ◌<◌, ◌≤◌, Bool, List, [], ◌++◌, map, Some, None, IfOk, IfErr, IsTrue, Result, Ok, Err, All, Contains, IsPermutation, Option, length, slice_get, take, drop, take-append-drop, arith, append-nil}
+use Rattle.std.proofs.Common.{◌≡◌, ◌∙◌, ap, sym, subst, ℕ, ◌+◌, ◌<◌, ◌≤◌, Bool, List, [], ◌++◌, map, Some, None, IsTrue, All, Contains, Option, length, slice_get, take, drop, take-append-drop, arith, append-nil}
 use Rattle.std.specs.List.{AllByRecursion, zip}
-use Rattle.std.proofs.lemmas.List.{length-map, map-append}
-use Rattle.std.proofs.lemmas.List.Elements.{All-contains, All-drop, All-from_recursion, All-map, recursion_from_All}
+use Rattle.std.proofs.lemmas.List.{map-append}
+use Rattle.std.proofs.lemmas.List.Elements.{All-contains, All-drop, All-map, recursion_from_All}
 use Rattle.std.proofs.lemmas.List.Sorted.{All-permutation, Contains-permutation, IsPermutation-refl}
-use Rattle.fx_terms.specs.declared.triples.Triple.{Triple}
 use Rattle.fx_terms.proofs.SetLemmas.{Among, among_from, contains_from}
 use Rattle.fx_outside.specs.Endpoints.{EndpointParts}
 use Rattle.fx_spelling.specs.Printable.{IsTriple}
 use Rattle.fx_keys.specs.declared.probes.Probe.{Probe}
-use Rattle.fx_sources.specs.Sources as source
-use Rattle.fx_traffic.specs.Gains.{TellAll, faults_at}
-use Rattle.fx_traffic.proofs.GainLemmas.{gain_laws}
-use Rattle.fx_traffic.proofs.SentLemmas.{sent_laws}
+use Rattle.fx_traffic.specs.Gains.{faults_at}
 use Rattle.fx_wire.specs.Exchanges.{Exchange, Seen}
 use Rattle.fx_pool.specs.Jobs.{AreDone, failures_at}
 use Rattle.fx_pool.specs.Runs.{AreOfJobs, WiresDid, jobs_at}
@@ -20,91 +16,18 @@ use Rattle.fx_flows.specs.declared.flows.FlowError.{FlowError}
 use Rattle.fx_flows.specs.declared.flows.FlowError.TheVariants as flow
 use Rattle.fx_pool.specs.declared.jobs.JobReply.{JobReply}
 use Rattle.fx_pool.specs.declared.jobs.JobReply.TheVariants as reply
-use Rattle.fx_pool.proofs.WireLemmas.{after_itself}
 use Rattle.fx_services.proofs.InTurnLemmas.{did_in_turn, did_in_vain}
 use Rattle.fx_pool.proofs.RunLemmas.{all_wanted, behind, jobs_both, of_both}
 use Rattle.fx_pool.specs.declared.jobs.Job.{Job}
-use Rattle.fx_outcomes.specs.AskSteps.{AreTruthsOf, IsRefusal, IsRefused, job_of}
-use Rattle.fx_outcomes.specs.Asks.{AskedAll, HasFailedAsk, HasProbeCause, IsAnsweredBy, IsAskRead}
+use Rattle.fx_outcomes.specs.AskSteps.{IsRefusal, IsRefused, job_of}
+use Rattle.fx_outcomes.specs.Asks.{HasFailedAsk, HasProbeCause, IsAskRead}
 use Rattle.fx_pool.proofs.WiresLemmas.{AllTell}
-use Rattle.fx_outcomes.proofs.ProbeLemmas.{AllAmong, SplitAsks, all_answered, all_read, all_told, among_probes, as_many, asks_sent, cause, done_at, failed_counts, no_failures, split_asks}
+use Rattle.fx_outcomes.proofs.ProbeLemmas.{AllAmong, SplitAsks, all_read, among_probes, cause, done_at, failed_counts, no_failures, split_asks}
 
 module _ (tells alone : Bool) (es : List EndpointParts) where
   -- ---- at once
 
-  -- none was asked for
-  pub unasked : (s : List Seen) (ps : List Probe) → AskedAll tells alone s s es ps (Err flow.Memory)
-  unasked s ps = record {
-    exchanges = [];
-    gained = λ told. gain_laws.nothing s;
-    after_all = after_itself s;
-    quiet = λ is. tt;
-    asked = [];
-    unasked = ps;
-    split = IsPermutation-refl ps;
-    wanted = [];
-    left = [];
-    texts = refl;
-    sent = IsPermutation-refl [];
-    whole = tt;
-    many = tt;
-    faultless = tt;
-    answered = tt;
-    told = tt;
-    cause = tt;
-    failed = tt;
-  }
-
-  -- or there is none to ask for
-  pub none : (s : List Seen) → AskedAll tells alone s s es [] (Ok [])
-  none s = record {
-    exchanges = [];
-    gained = λ told. gain_laws.nothing s;
-    after_all = after_itself s;
-    quiet = λ is address. refl;
-    asked = [];
-    unasked = [];
-    split = IsPermutation-refl [];
-    wanted = [];
-    left = [];
-    texts = refl;
-    sent = IsPermutation-refl [];
-    whole = refl;
-    many = refl;
-    faultless = All-from_recursion (IsAskRead []) [] tt;
-    answered = All-from_recursion (IsAnsweredBy es []) [] tt;
-    told = λ graphs told. All-from_recursion (source.Tells graphs) [] tt;
-    cause = tt;
-    failed = tt;
-  }
-
-  all_of : (ps : List Probe) → IsPermutation (ps ++ []) ps
-  all_of ps = subst (λ (v : List Probe). IsPermutation v ps) (sym (append-nil ps)) (IsPermutation-refl ps)
-
   module _ (s t : List Seen) (ps : List Probe) where
-    -- memory lacked for the replies
-    pub asked_in_vain : WiresDid tells alone s t es (map job_of ps) None → AskedAll tells alone s t es ps (Err flow.Memory)
-    asked_in_vain h = record {
-      exchanges = h.exchanges;
-      gained = h.gained;
-      after_all = h.left;
-      quiet = λ is. tt;
-      asked = ps;
-      unasked = [];
-      split = all_of ps;
-      wanted = h.of_jobs.wanted;
-      left = h.of_jobs.left;
-      texts = asks_sent es ps h.of_jobs.wanted h.of_jobs.of_jobs;
-      sent = h.of_jobs.sent;
-      whole = tt;
-      many = tt;
-      faultless = tt;
-      answered = tt;
-      told = tt;
-      cause = tt;
-      failed = tt;
-    }
-
     -- what the replies tell of a refusal
     module _ (triples : All (λ p. IsTriple p.key.pattern) ps) (rs : List JobReply) (h : WiresDid tells alone s t es (map job_of ps) (Some rs)) where
       -- the exchanges in the order of the probes
@@ -177,72 +100,6 @@ module _ (tells alone : Bool) (es : List EndpointParts) where
       all_faultless truths are =
           All-permutation (IsAskRead ps) ordered h.exchanges h.done.2
           (all_read es ps ps (λ p m. m) truths ordered (subst (λ (v : List JobReply). AreDone es (map job_of ps) v ordered) are h.done.1))
-
-      -- the replies are truth values, or one of them is refused
-      pub asked_at_once : (r : Result (List Bool) FlowError) → AreTruthsOf ps rs r → AskedAll tells alone s t es ps r
-      asked_at_once r k = record {
-        exchanges = h.exchanges;
-        gained = h.gained;
-        after_all = h.left;
-        quiet = λ is. quiet r k is;
-        asked = ps;
-        unasked = [];
-        split = all_of ps;
-        wanted = parts.wanted;
-        left = parts.left;
-        texts = parts.texts;
-        sent = sent_laws.any_order parts.wanted parts.left ordered h.exchanges h.done.2 parts.sent;
-        whole = whole r k;
-        many = many r k;
-        faultless = faultless r k;
-        answered = answered r k;
-        told = told r k;
-        cause = cause_in r k;
-        failed = failed_in r k;
-      }
-        where
-          quiet : (o : Result (List Bool) FlowError) → AreTruthsOf ps rs o → IsTrue alone → IfOk o (λ _. (address : List ℕ) → faults_at t address ≡ faults_at s address)
-          quiet (Ok truths) are is = all_quiet truths are is
-          quiet (Err e) are is = tt
-
-          done : (truths : List Bool) → rs ≡ map (λ truth. reply.Truth truth) truths → AreDone es (map job_of ps) (map (λ truth. reply.Truth truth) truths) ordered
-          done truths are = subst (λ (v : List JobReply). AreDone es (map job_of ps) v ordered) are h.done.1
-
-          whole : (o : Result (List Bool) FlowError) → AreTruthsOf ps rs o → IfOk o (λ _. parts.left ≡ [])
-          whole (Ok truths) are = parts.none_left truths are
-          whole (Err e) are = tt
-
-          many : (o : Result (List Bool) FlowError) → AreTruthsOf ps rs o → IfOk o (λ truths. length truths ≡ length ps)
-          many (Ok truths) are = sym (length-map truths (λ truth. reply.Truth truth)) ∙ ap length (sym are) ∙ as_many es ps rs ordered h.done.1
-          many (Err e) are = tt
-
-          faultless : (o : Result (List Bool) FlowError) → AreTruthsOf ps rs o → IfOk o (λ _. All (IsAskRead ps) h.exchanges)
-          faultless (Ok truths) are = all_faultless truths are
-          faultless (Err e) are = tt
-
-          answered : (o : Result (List Bool) FlowError) → AreTruthsOf ps rs o → IfOk o (λ truths. All (IsAnsweredBy es h.exchanges) (zip ps truths))
-          answered (Ok truths) are = All-from_recursion (IsAnsweredBy es h.exchanges) (zip ps truths) (all_answered es ps truths ordered h.exchanges among_all (done truths are))
-          answered (Err e) are = tt
-
-          told : (o : Result (List Bool) FlowError) → AreTruthsOf ps rs o → IfOk o (λ truths. (graphs : List (List Triple)) → TellAll s es graphs → All (source.Tells graphs) (zip ps truths))
-          told (Ok truths) are = λ graphs tells_all.
-              All-from_recursion (source.Tells graphs) (zip ps truths)
-              (all_told es s graphs tells_all ps truths ordered h.exchanges among_all h.honest (recursion_from_All (λ (p : Probe). IsTriple p.key.pattern) ps triples) (done truths are))
-          told (Err e) are = tt
-
-          cause_in : (o : Result (List Bool) FlowError) → AreTruthsOf ps rs o → IfErr o (HasProbeCause s t es ps h.exchanges)
-          cause_in (Ok truths) are = tt
-          cause_in (Err (flow.Member at)) are = cause_of (flow.Member at) are
-          cause_in (Err (flow.BadReply at bad)) are = cause_of (flow.BadReply at bad) are
-          cause_in (Err (flow.RequestTooLong at size)) are = cause_of (flow.RequestTooLong at size) are
-          cause_in (Err flow.Memory) are = tt
-
-          failed_in : (o : Result (List Bool) FlowError) → AreTruthsOf ps rs o → IfErr o (HasFailedAsk s t es ps parts.left)
-          failed_in (Ok truths) are = tt
-          failed_in (Err (flow.Member at)) are = failed_of (flow.Member at) are
-          failed_in (Err (flow.BadReply at bad)) are = tt
-          failed_in (Err (flow.RequestTooLong at size)) are = tt
-          failed_in (Err flow.Memory) are = tt
 
   -- ---- in pieces
 

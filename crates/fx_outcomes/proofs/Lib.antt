@@ -12,7 +12,6 @@ pub mod MediationLemmas
 pub mod MembersLemmas
 pub mod OccurrenceLemmas
 pub mod ProbeLemmas
-pub mod RepliesLemmas
 pub mod RunsSentLemmas
 pub mod ServableLemmas
 pub mod SortingLemmas

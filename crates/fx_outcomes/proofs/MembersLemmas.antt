@@ -1,6 +1,6 @@
 -- What asking members for probes comes to, where those that are marked may be left out.
-use Rattle.std.proofs.Common.{◌≡◌, ◌∙◌, ap, sym, subst, refl, ℕ, ◌<◌, Bool, true, false, cond, List, [], ◌∷◌, ◌++◌, map, Option, Some, None, IfErr, IfOk, IsTrue, Result, Ok, Err, All, Contains, IsPermutation, length, inl, inr, arith, append-nil}
-use Rattle.std.specs.List.{AllByRecursion, cons_option, zip}
+use Rattle.std.proofs.Common.{◌≡◌, ◌∙◌, ap, sym, subst, refl, ℕ, ◌<◌, Bool, true, false, cond, List, [], ◌∷◌, ◌++◌, map, Option, Some, None, IfErr, IfOk, IsTrue, Result, Ok, Err, All, Contains, IsPermutation, length, inl, inr, arith, append-nil, slice_get, ◌+◌, ◌≤◌}
+use Rattle.std.specs.List.{AllByRecursion, cons_option, zip, flat_map}
 use Rattle.std.proofs.lemmas.List.{length-map}
 use Rattle.std.proofs.lemmas.List.Elements.{All-contains, All-from_recursion, All-weaker, Contains-append_right, recursion_from_All}
 use Rattle.std.proofs.lemmas.List.Sorted.{IsPermutation-cons, IsPermutation-middle, IsPermutation-refl, IsPermutation-trans}
@@ -22,15 +22,17 @@ use Rattle.fx_flows.specs.declared.flows.FlowError.{FlowError}
 use Rattle.fx_flows.specs.declared.flows.FlowError.TheVariants as flow
 use Rattle.fx_pool.specs.declared.jobs.JobReply.{JobReply}
 use Rattle.fx_pool.specs.declared.jobs.JobReply.TheVariants as reply
-use Rattle.fx_outcomes.specs.AskSteps.{IsRefused, job_of}
+use Rattle.fx_outcomes.specs.AskSteps.{IsRefused, job_of, IsForAsk, IsRefusal}
 use Rattle.fx_outcomes.specs.Asks.{HasFailedAsk, HasProbeCause, IsAnsweredBy, IsAskRead, IsProbeCause}
-use Rattle.fx_outcomes.specs.Rounds.{AreAnswers, AskedMembers, IsLeftAtAsk, IsLeftBy, IsMarked, IsRequired, everybody, without_all}
+use Rattle.fx_outcomes.specs.Rounds.{AreAnswers, AskedMembers, IsLeftAtAsk, IsLeftBy, IsMarked, IsRequired, everybody, without_all, AreMissed, ComeByMember, failed_at, unsent_to}
 use Rattle.fx_outcomes.specs.Sorting.{AreSorted, AreSortedOut, IsFirstRefused, IsLeftFor, IsPassed, Replied, answer_of, answered}
 use Rattle.fx_outcomes.specs.declared.rounds.Answers.{Answers}
 use Rattle.fx_outcomes.specs.declared.rounds.Left.{Left}
 use Rattle.fx_outcomes.proofs.AsksLemmas.{all_faultless, all_quiet, among_all, cause_of, failed_of}
-use Rattle.fx_outcomes.proofs.ProbeLemmas.{AllAmong, SplitAsks, among_probes, answered as answered_here, as_many, asks_sent, done_at, split_asks, told as told_here}
+use Rattle.fx_outcomes.proofs.ProbeLemmas.{AllAmong, SplitAsks, among_probes, answered as answered_here, as_many, asks_sent, done_at, split_asks, told as told_here, cause as cause_here, failed_counts, for_ask, unsent_for, unsent_of}
 use Rattle.fx_outcomes.proofs.SortingLemmas.{refusal_names}
+use Rattle.fx_pool.specs.Jobs.{failures_at, is_at, is_failure}
+use Rattle.fx_traffic.specs.Sent.{Sent}
 
 -- ---- pairs
 
@@ -91,6 +93,104 @@ all_split : (xs : List Replied) → IsPermutation (probes_of (answered xs) ++ la
 all_split [] = IsPermutation-refl []
 all_split (x ∷ xs) = one_split x.0 x.1 (answered xs) (lacking xs) (map (λ y. y.0) xs) (all_split xs)
 
+-- ---- and why they have none
+
+-- (a reply that is no reply to an ASK never comes)
+abbrev missed_by : Probe → JobReply → Option (Probe × FlowError)
+missed_by p (reply.Truth truth) = None
+missed_by p reply.Failed = Some (p, flow.Member p.at)
+missed_by p (reply.Bad bad) = Some (p, flow.BadReply p.at bad)
+missed_by p (reply.TooLong size) = Some (p, flow.RequestTooLong p.at size)
+missed_by p (reply.Found founds) = Some (p, flow.Memory)
+missed_by p (reply.Table rows) = Some (p, flow.Memory)
+
+abbrev missed_in : List Replied → List (Probe × FlowError)
+missed_in [] = []
+missed_in (x ∷ xs) = cons_option (missed_by x.0 x.1) (missed_in xs)
+
+one_lacking : (p : Probe) (r : JobReply) (L : List Probe) (M : List (Probe × FlowError)) → L ≡ map (λ m. m.0) M → cons_option (lack_of p r) L ≡ map (λ m. m.0) (cons_option (missed_by p r) M)
+one_lacking p (reply.Truth truth) L M e = e
+one_lacking p reply.Failed L M e = ap (λ (v : List Probe). p ∷ v) e
+one_lacking p (reply.Bad bad) L M e = ap (λ (v : List Probe). p ∷ v) e
+one_lacking p (reply.TooLong size) L M e = ap (λ (v : List Probe). p ∷ v) e
+one_lacking p (reply.Found founds) L M e = ap (λ (v : List Probe). p ∷ v) e
+one_lacking p (reply.Table rows) L M e = ap (λ (v : List Probe). p ∷ v) e
+
+those_lacking : (xs : List Replied) → lacking xs ≡ map (λ m. m.0) (missed_in xs)
+those_lacking [] = refl
+those_lacking (x ∷ xs) = one_lacking x.0 x.1 (lacking xs) (missed_in xs) (those_lacking xs)
+
+module _ (P : Probe × FlowError → Type 0) where
+  one_missed : (p : Probe) (r : JobReply) → IsForAsk r → ((why : FlowError) → IsRefusal p.at r why → P (p, why)) → (M : List (Probe × FlowError)) → AllByRecursion P M → AllByRecursion P (cons_option (missed_by p r) M)
+  one_missed p (reply.Truth truth) of_ask f M h = h
+  one_missed p reply.Failed of_ask f M h = (f (flow.Member p.at) refl, h)
+  one_missed p (reply.Bad bad) of_ask f M h = (f (flow.BadReply p.at bad) refl, h)
+  one_missed p (reply.TooLong size) of_ask f M h = (f (flow.RequestTooLong p.at size) refl, h)
+  one_missed p (reply.Found founds) of_ask f M h = absurd of_ask
+  one_missed p (reply.Table rows) of_ask f M h = absurd of_ask
+
+  -- what holds of each refusal holds of each that is missed
+  each_missed : (xs : List Replied) → ((p : Probe) (r : JobReply) → Among (p, r) xs → IsForAsk r × ((why : FlowError) → IsRefusal p.at r why → P (p, why))) → AllByRecursion P (missed_in xs)
+  each_missed [] f = tt
+  each_missed (x ∷ xs) f = let k = f x.0 x.1 (inl refl) in one_missed x.0 x.1 k.0 k.1 (missed_in xs) (each_missed xs (λ p r m. f p r (inr m)))
+
+module _ (es : List EndpointParts) where
+  -- failures are counted alike
+  module _ (address : List ℕ) where
+    no_one : (b : Bool) (n : ℕ) → n ≡ cond {A = ℕ} b 0 0 + n
+    no_one true n = omega arith
+    no_one false n = omega arith
+
+    one_failed : (p : Probe) (r : JobReply) (M : List (Probe × FlowError)) → failed_at es address (cons_option (missed_by p r) M) ≡ cond {A = ℕ} (is_at address (slice_get es p.at)) (is_failure r) 0 + failed_at es address M
+    one_failed p (reply.Truth truth) M = no_one (is_at address (slice_get es p.at)) (failed_at es address M)
+    one_failed p reply.Failed M = refl
+    one_failed p (reply.Bad bad) M = refl
+    one_failed p (reply.TooLong size) M = refl
+    one_failed p (reply.Found founds) M = refl
+    one_failed p (reply.Table rows) M = refl
+
+    failed_alike : (ps : List Probe) (rs : List JobReply) → failed_at es address (missed_in (zip ps rs)) ≡ failures_at es address (map job_of ps) rs
+    failed_alike [] rs = refl
+    failed_alike (p ∷ ps) [] = refl
+    failed_alike (p ∷ ps) (r ∷ rs) = one_failed p r (missed_in (zip ps rs)) ∙ ap (λ (n : ℕ). cond {A = ℕ} (is_at address (slice_get es p.at)) (is_failure r) 0 + n) (failed_alike ps rs)
+
+  abbrev Unsent : Probe × FlowError → List Sent
+  Unsent m = unsent_to (slice_get es m.0.at) m.0 m.1
+
+  -- and what wasn't sent is the same
+  abbrev unsent_out : Option EndpointParts → Option (Probe × FlowError) → List Sent
+  unsent_out o None = []
+  unsent_out o (Some m) = unsent_to o m.0 m.1
+
+  same_unsent : (o : Option EndpointParts) (p : Probe) (r : JobReply) → unsent_out o (missed_by p r) ≡ unsent_for es o p r
+  same_unsent None p (reply.Truth truth) = refl
+  same_unsent None p reply.Failed = refl
+  same_unsent None p (reply.Bad bad) = refl
+  same_unsent None p (reply.TooLong size) = refl
+  same_unsent None p (reply.Found founds) = refl
+  same_unsent None p (reply.Table rows) = refl
+  same_unsent (Some e) p (reply.Truth truth) = refl
+  same_unsent (Some e) p reply.Failed = refl
+  same_unsent (Some e) p (reply.Bad bad) = refl
+  same_unsent (Some e) p (reply.TooLong size) = refl
+  same_unsent (Some e) p (reply.Found founds) = refl
+  same_unsent (Some e) p (reply.Table rows) = refl
+
+  first_unsent : (p : Probe) (r : JobReply) (M : List (Probe × FlowError)) → flat_map Unsent (cons_option (missed_by p r) M) ≡ unsent_out (slice_get es p.at) (missed_by p r) ++ flat_map Unsent M
+  first_unsent p (reply.Truth truth) M = refl
+  first_unsent p reply.Failed M = refl
+  first_unsent p (reply.Bad bad) M = refl
+  first_unsent p (reply.TooLong size) M = refl
+  first_unsent p (reply.Found founds) M = refl
+  first_unsent p (reply.Table rows) M = refl
+
+  one_unsent : (p : Probe) (r : JobReply) (M : List (Probe × FlowError)) → flat_map Unsent (cons_option (missed_by p r) M) ≡ unsent_for es (slice_get es p.at) p r ++ flat_map Unsent M
+  one_unsent p r M = first_unsent p r M ∙ ap (λ (v : List Sent). v ++ flat_map Unsent M) (same_unsent (slice_get es p.at) p r)
+
+  unsent_alike : (xs : List Replied) → unsent_of es xs ≡ flat_map Unsent (missed_in xs)
+  unsent_alike [] = refl
+  unsent_alike (x ∷ xs) = ap (λ (v : List Sent). unsent_for es (slice_get es x.0.at) x.0 x.1 ++ v) (unsent_alike xs) ∙ sym (one_unsent x.0 x.1 (missed_in xs))
+
 -- ---- members that are kept
 
 never : (p : Probe) (r : JobReply) (truth : Bool) → answer_of p r ≡ None → r ≡ reply.Truth truth → ⊥
@@ -144,6 +244,15 @@ required_of es (flow.BadReply it bad) at names marked = subst (IsMarked false es
 required_of es (flow.RequestTooLong it size) at names marked = subst (IsMarked false es) (sym names) marked
 required_of es flow.Memory at names marked = tt
 
+-- a reply is never refused for want of memory
+never_memory : (at : ℕ) (r : JobReply) → IsRefusal at r flow.Memory → ⊥
+never_memory at (reply.Truth truth) h = h
+never_memory at (reply.Found founds) h = h
+never_memory at (reply.Table rows) h = h
+never_memory at reply.Failed h = cc
+never_memory at (reply.Bad bad) h = cc
+never_memory at (reply.TooLong size) h = cc
+
 -- ---- all probes
 
 all_of : (ps : List Probe) → IsPermutation (ps ++ []) ps
@@ -170,6 +279,8 @@ module _ (tells alone : Bool) (es : List EndpointParts) (s t : List Seen) (ps : 
     quiet = λ is. tt;
     whole = tt;
     faultless = tt;
+    each_asked = tt;
+    missed = tt;
     cause = tt;
     failed = tt;
     required = tt;
@@ -208,6 +319,28 @@ module _ (tells alone : Bool) (es : List EndpointParts) (s t : List Seen) (ps : 
           probe_cause k.why l k.named
           (cause_of tells alone es s t ps triples rs h k.why (record { probe = k.probe; reply = k.reply; among = pair_among k.before k.behind k.probe k.reply k.split; refused = k.refused }));
     }
+
+    -- the cause at a probe of its own
+    own_cause : (p : Probe) (r : JobReply) → Among (p, r) (zip ps rs) → (why : FlowError) → IsRefusal p.at r why → IsProbeCause s t es (p ∷ []) h.exchanges why
+    own_cause p r m why is =
+        let d = done_at es ps rs order p r h.done.1 m in
+        let triple = All-contains (λ (q : Probe). IsTriple q.key.pattern) ps p triples (contains_from ps p (among_probes es ps rs p r m)) in
+        no_memory why is
+        (cause_here es p d.own h.exchanges (λ x own. more x (d.more x own)) s t (p ∷ []) h.honest triple (contains_from (p ∷ []) p (inl refl)) r why d.done
+        (λ failed.
+        let one : 1 ≤ failures_at es d.done.endpoint.iri (map job_of ps) rs = failed_counts es d.done.endpoint p d.done.found ps rs (subst (λ (x : JobReply). Among (p, x) (zip ps rs)) failed m) in
+        let counted : faults_at s d.done.endpoint.iri + failures_at es d.done.endpoint.iri (map job_of ps) rs ≤ faults_at t d.done.endpoint.iri = h.counted d.done.endpoint.iri in
+        omega (arith, one, counted))
+        is)
+      where
+        no_memory : (e : FlowError) → IsRefusal p.at r e → HasProbeCause s t es (p ∷ []) h.exchanges e → IsProbeCause s t es (p ∷ []) h.exchanges e
+        no_memory (flow.Member at) is k = k
+        no_memory (flow.BadReply at bad) is k = k
+        no_memory (flow.RequestTooLong at size) is k = k
+        no_memory flow.Memory is k = absurd (never_memory p.at r is)
+
+    abbrev Missed : Probe × FlowError → Type 0
+    Missed m = IsProbeCause s t es (m.0 ∷ []) h.exchanges m.1
 
     -- ---- the answers
 
@@ -251,6 +384,30 @@ module _ (tells alone : Bool) (es : List EndpointParts) (s t : List Seen) (ps : 
             ∙ ap (kept_probes a.kept.items) (firsts_of ps rs many_replies);
         may_leave = k.may_leave;
         those_kept = k.those_kept;
+        by_number = λ come. k.by_number (subst (ComeByMember 0) (sym (firsts_of ps rs many_replies)) come);
+      }
+
+      -- why a probe has no answer
+      is_missed : (p : Probe) (r : JobReply) → Among (p, r) (zip ps rs) → IsForAsk r × ((why : FlowError) → IsRefusal p.at r why → IsProbeCause s t es (p ∷ []) h.exchanges why)
+      is_missed p r m =
+          let d = done_at es ps rs order p r h.done.1 m in (
+            for_ask es p d.own h.exchanges (λ x own. more x (d.more x own)) r d.done,
+            λ why is. own_cause p r m why is,
+          )
+
+      are_missed : AreMissed s t es ps h.exchanges sends.left a
+      are_missed = record {
+        missed = missed_in (zip ps rs);
+        split =
+            subst (λ (v : List Probe). IsPermutation (v ++ map (λ m. m.0) (missed_in (zip ps rs))) ps) (sym k.probes_are)
+            (subst (λ (v : List Probe). IsPermutation (probes_of (answered (zip ps rs)) ++ v) ps) (those_lacking (zip ps rs))
+            (subst (IsPermutation (probes_of (answered (zip ps rs)) ++ lacking (zip ps rs))) (firsts_of ps rs many_replies) (all_split (zip ps rs))));
+        each = All-from_recursion Missed (missed_in (zip ps rs)) (each_missed Missed (zip ps rs) is_missed);
+        counted = λ address.
+            let counted : faults_at s address + failures_at es address (map job_of ps) rs ≤ faults_at t address = h.counted address in
+            let same : failed_at es address (missed_in (zip ps rs)) ≡ failures_at es address (map job_of ps) rs = failed_alike es address ps rs in
+            omega (arith, counted, same);
+        unsent = sends.left_is ∙ unsent_alike es (zip ps rs);
       }
 
       -- nobody is left out
@@ -288,11 +445,21 @@ module _ (tells alone : Bool) (es : List EndpointParts) (s t : List Seen) (ps : 
       quiet = λ is. quiet_in r k is;
       whole = whole_in r k;
       faultless = faultless_in r k;
+      each_asked = asked_in r;
+      missed = missed_at r k;
       cause = cause_in r k;
       failed = failed_in r k;
       required = required_in r k;
     }
       where
+        asked_in : (o : Result Answers FlowError) → IfOk o (λ _. ◌≡◌ {A = List Probe} [] [])
+        asked_in (Ok a) = refl
+        asked_in (Err e) = tt
+
+        missed_at : (o : Result Answers FlowError) → AreSortedOut es (zip ps rs) o → IfOk o (AreMissed s t es ps h.exchanges sends.left)
+        missed_at (Ok a) k = are_missed a k
+        missed_at (Err e) k = tt
+
         fit_in : (o : Result Answers FlowError) → AreSortedOut es (zip ps rs) o → IfOk o (AreAnswers es ps)
         fit_in (Ok a) k = are_answers a k
         fit_in (Err e) k = tt

@@ -1,5 +1,5 @@
 -- What one reply to the ASK of a probe tells, or why there is no answer.
-use Rattle.std.proofs.Common.{◌≡◌, ◌∙◌, ap, sym, subst, refl, ℕ, zero, suc, ◌<◌, ◌≤◌, Bool, true, false, List, [], ◌∷◌, ◌++◌, map, Some, All, Contains, IsPermutation, cond, length, ltb, slice_get, inl, inr, ◌⊎◌, arith}
+use Rattle.std.proofs.Common.{◌≡◌, ◌∙◌, ap, sym, subst, refl, ℕ, zero, suc, ◌<◌, ◌≤◌, Bool, true, false, List, [], ◌∷◌, ◌++◌, map, Option, None, Some, All, Contains, IsPermutation, cond, length, ltb, slice_get, inl, inr, ◌⊎◌, arith}
 use Rattle.std.specs.List.{AllByRecursion, zip}
 use Rattle.std.proofs.lemmas.List.Elements.{All-append, All-contains, All-from_recursion, All-nil, Contains-append_left, Contains-append_right}
 use Rattle.std.proofs.lemmas.List.Sorted.{IsPermutation-refl}
@@ -9,7 +9,6 @@ use Rattle.fx_terms.proofs.SetLemmas.{Among, contains_from}
 use Rattle.fx_outside.specs.Endpoints.{EndpointParts}
 use Rattle.fx_algebra.specs.Units.{fits, graph_of}
 use Rattle.fx_algebra.specs.declared.answers.Answer.TheVariants.{Truth}
-use Rattle.fx_http.specs.Requests.{request_of}
 use Rattle.fx_http.specs.declared.replies.ReplyError.TheVariants.{TooLong}
 use Rattle.fx_spelling.specs.Printable.{IsTriple}
 use Rattle.fx_keys.specs.declared.probes.Probe.{Probe}
@@ -38,6 +37,7 @@ use Rattle.fx_outcomes.specs.AskSteps.{IsForAsk, IsRefusal, job_of}
 use Rattle.fx_outcomes.specs.Asks.{HasProbeCause, IsAnsweredBy, IsAskRead, IsBadAsk}
 use Rattle.fx_outcomes.proofs.TruthLemmas.{honest_truth, same_truth}
 use Rattle.fx_services.proofs.WentLemmas.{long_or_short}
+use Rattle.fx_outcomes.specs.Rounds.{ask_for}
 
 -- all of these exchanges are among those
 abbrev pub AllAmong : List Exchange → List Exchange → Type 0
@@ -185,22 +185,47 @@ module _ (es : List EndpointParts) where
 
   -- ---- what was sent, and what is left
 
-  abbrev pub ask_for : EndpointParts → Probe → Sent
-  ask_for e p = record { at = e; request = request_of e (ask_text p.key.pattern) }
+  -- what wasn't sent, by the reply
+  abbrev pub unsent_by : EndpointParts → Probe → JobReply → List Sent
+  unsent_by e p reply.Failed = ask_for e p ∷ []
+  unsent_by e p (reply.TooLong size) = ask_for e p ∷ []
+  unsent_by e p (reply.Truth truth) = []
+  unsent_by e p (reply.Bad bad) = []
+  unsent_by e p (reply.Found founds) = []
+  unsent_by e p (reply.Table rows) = []
+
+  abbrev pub unsent_for : Option EndpointParts → Probe → JobReply → List Sent
+  unsent_for None p r = []
+  unsent_for (Some e) p r = unsent_by e p r
+
+  abbrev pub unsent_of : List (Probe × JobReply) → List Sent
+  unsent_of [] = []
+  unsent_of (x ∷ xs) = unsent_for (slice_get es x.0.at) x.0 x.1 ++ unsent_of xs
 
   record SplitOne (e : EndpointParts) (p : Probe) (r : JobReply) (own : List Exchange) : Type 0 where
     left : List Sent
     sent : Sends (ask_for e p ∷ []) left own
     unsent : r ≡ reply.Failed → Contains left (ask_for e p)
     none_left : (truth : Bool) → r ≡ reply.Truth truth → left ≡ []
+    left_is : left ≡ unsent_by e p r
 
-  nothing_sent : (e : EndpointParts) (p : Probe) (r : JobReply) (own : List Exchange) → own ≡ [] → ((truth : Bool) → r ≡ reply.Truth truth → ⊥) → SplitOne e p r own
-  nothing_sent e p r own none untold = record {
+  nothing_sent : (e : EndpointParts) (p : Probe) (r : JobReply) (own : List Exchange) → own ≡ [] → ((truth : Bool) → r ≡ reply.Truth truth → ⊥) → ask_for e p ∷ [] ≡ unsent_by e p r → SplitOne e p r own
+  nothing_sent e p r own none untold is_left = record {
     left = ask_for e p ∷ [];
     sent = subst (Sends (ask_for e p ∷ []) (ask_for e p ∷ [])) (sym none) (IsPermutation-refl (ask_for e p ∷ []));
     unsent = λ is. contains_from (ask_for e p ∷ []) (ask_for e p) (inl refl);
     none_left = λ truth is. absurd (untold truth is);
+    left_is = is_left;
   }
+
+  -- where there is a reply nothing is left
+  all_sent : (e : EndpointParts) (p : Probe) (r : JobReply) (request bytes : List ℕ) → IsReplyTo (job_of p).work (posted.Replied request bytes) r → [] ≡ unsent_by e p r
+  all_sent e p (reply.Truth truth) request bytes told = refl
+  all_sent e p (reply.Bad bad) request bytes told = refl
+  all_sent e p (reply.Found founds) request bytes told = refl
+  all_sent e p (reply.Table rows) request bytes told = refl
+  all_sent e p reply.Failed request bytes told = absurd told
+  all_sent e p (reply.TooLong size) request bytes told = absurd told
 
   no_failure : (truth : Bool) → reply.Failed ≡ reply.Truth truth → ⊥
   no_failure truth e = cc
@@ -216,9 +241,10 @@ module _ (es : List EndpointParts) where
         (subst (λ (v : List ℕ). IsPermutation (record { at = e; request = v } ∷ []) (ask_for e p ∷ [])) (sym sent.exact) (IsPermutation-refl (ask_for e p ∷ [])));
     unsent = λ same. absurd (subst (IsReplyTo (job_of p).work (posted.Replied request bytes)) same told);
     none_left = λ truth is. refl;
+    left_is = all_sent e p r request bytes told;
   }
-  split_one e p r own posted.Failed sent told is = nothing_sent e p r own is (λ truth truly. no_failure truth (sym told ∙ truly))
-  split_one e p r own (posted.TooLong size) sent told is = nothing_sent e p r own is (λ truth truly. never_long size truth (sym told ∙ truly))
+  split_one e p r own posted.Failed sent told is = nothing_sent e p r own is (λ truth truly. no_failure truth (sym told ∙ truly)) (ap (unsent_by e p) (sym told))
+  split_one e p r own (posted.TooLong size) sent told is = nothing_sent e p r own is (λ truth truly. never_long size truth (sym told ∙ truly)) (ap (unsent_by e p) (sym told))
 
   pub record SplitAsks (ps : List Probe) (rs : List JobReply) (xs : List Exchange) : Type 0 where
     pub wanted : List Sent
@@ -227,10 +253,11 @@ module _ (es : List EndpointParts) where
     pub sent : Sends wanted left xs
     pub unsent : (p : Probe) (e : EndpointParts) → Among (p, reply.Failed) (zip ps rs) → slice_get es p.at ≡ Some e → Contains left (ask_for e p)
     pub none_left : (truths : List Bool) → rs ≡ truths_of truths → left ≡ []
+    pub left_is : left ≡ unsent_of (zip ps rs)
 
   -- the ASK of each probe whose exchange failed is left, and none where all replies are truth values
   pub split_asks : (ps : List Probe) (rs : List JobReply) (xs : List Exchange) → AreDone es (map job_of ps) rs xs → SplitAsks ps rs xs
-  split_asks [] [] xs h = record { wanted = []; left = []; texts = refl; sent = subst (Sends [] []) (sym h) (IsPermutation-refl []); unsent = λ p e m found. absurd m; none_left = λ truths is. refl }
+  split_asks [] [] xs h = record { wanted = []; left = []; texts = refl; sent = subst (Sends [] []) (sym h) (IsPermutation-refl []); unsent = λ p e m found. absurd m; none_left = λ truths is. refl; left_is = refl }
   split_asks [] (r ∷ rs) xs h = absurd h
   split_asks (p ∷ ps) [] xs h = absurd h
   split_asks (p ∷ ps) (r ∷ rs) xs h =
@@ -245,6 +272,9 @@ module _ (es : List EndpointParts) where
         sent = subst (Sends (ask_for d.endpoint p ∷ rest.wanted) all) (sym h.2) (sent_laws.together (ask_for d.endpoint p ∷ []) one.left rest.wanted rest.left h.0 h.1 one.sent rest.sent);
         unsent = λ q e m found. left_of q e m found d one rest.left rest.unsent;
         none_left = λ truths is. none truths is one.left rest.left one.none_left rest.none_left;
+        left_is =
+            ap (λ (v : List Sent). v ++ rest.left) (one.left_is ∙ sym (ap (λ (o : Option EndpointParts). unsent_for o p r) d.found))
+            ∙ ap (λ (v : List Sent). unsent_for (slice_get es p.at) p r ++ v) rest.left_is;
       }
     where
       none : (truths : List Bool) → r ∷ rs ≡ truths_of truths → (own more : List Sent) → ((truth : Bool) → r ≡ reply.Truth truth → own ≡ []) → ((others : List Bool) → rs ≡ truths_of others → more ≡ []) → own ++ more ≡ []

@@ -1,8 +1,8 @@
 -- Sorting the replies to probes, one after the other.
-use Rattle.std.proofs.Common.{◌≡◌, ◌∙◌, ap, sym, subst, refl, ℕ, zero, suc, ◌<◌, Bool, true, false, List, [], ◌∷◌, ◌++◌, map, Option, None, Err, All, length, inl, inr, ◌⊎◌, arith, append-nil, append_assoc}
+use Rattle.std.proofs.Common.{◌≡◌, ◌∙◌, ap, sym, subst, refl, ℕ, zero, suc, ◌<◌, Bool, true, false, List, [], ◌∷◌, ◌++◌, map, Option, None, Err, All, length, inl, inr, ◌⊎◌, arith, append-nil, append_assoc, ◌≤◌}
 use Rattle.std.specs.List.{AllByRecursion, cons_option, zip}
 use Rattle.std.proofs.lemmas.List.{length-replicate, length-set, map-append}
-use Rattle.std.proofs.lemmas.List.Elements.{All-nil, All-push, All-weaker, filter_map-append}
+use Rattle.std.proofs.lemmas.List.Elements.{All-nil, All-push, All-weaker, filter_map-append, All-contains}
 use Rattle.fx_outside.specs.Endpoints.{EndpointParts}
 use Rattle.fx_algebra.specs.Units.{is_kept}
 use Rattle.fx_keys.specs.declared.probes.Probe.{Probe}
@@ -12,10 +12,11 @@ use Rattle.fx_flows.specs.declared.flows.FlowError.TheVariants as flow
 use Rattle.fx_pool.specs.declared.jobs.JobReply.{JobReply}
 use Rattle.fx_pool.specs.declared.jobs.JobReply.TheVariants as reply
 use Rattle.fx_outcomes.specs.AskSteps.{IsForAsk, IsRefusal}
-use Rattle.fx_outcomes.specs.Rounds.{IsLeftBy, IsMarked, MayAllLeave, MayLeave, everybody, without, without_all}
+use Rattle.fx_outcomes.specs.Rounds.{IsLeftBy, IsMarked, MayAllLeave, MayLeave, everybody, without, without_all, ComeByMember, RiseByNumber}
 use Rattle.fx_outcomes.specs.Sorting.{AreNone, AreSorted, AreSortedOut, IsAdded, IsAnswer, IsAnswered, IsFirstRefused, IsLeftFor, IsLeftOut, IsOut, IsPassed, IsPassedOver, IsTakenIn, Leaves, Replied, answer_of, answered}
 use Rattle.fx_outcomes.specs.declared.rounds.Answers.{Answers}
 use Rattle.fx_outcomes.specs.declared.rounds.Left.{Left}
+use Rattle.fx_terms.proofs.SetLemmas.{Among, contains_from}
 
 -- ---- numbers
 
@@ -98,6 +99,66 @@ more_behind pairs x l k = record {
 all_behind : (pairs : List Replied) (x : Replied) (left : List Left) → All (IsLeftFor pairs) left → All (IsLeftFor (pairs ++ x ∷ [])) left
 all_behind pairs x left h = All-weaker (IsLeftFor pairs) (IsLeftFor (pairs ++ x ∷ [])) (more_behind pairs x) left h
 
+-- ---- by number
+
+-- of probes that come by member, the last one's comes last
+front_comes : (low : ℕ) (ps : List Probe) (p : Probe) → ComeByMember low (ps ++ p ∷ []) → ComeByMember low ps
+front_comes low [] p h = tt
+front_comes low (q ∷ ps) p h = (h.0, front_comes q.at ps p h.1)
+
+low_before : (low : ℕ) (ps : List Probe) (p : Probe) → ComeByMember low (ps ++ p ∷ []) → low ≤ p.at
+low_before low [] p h = h.0
+low_before low (q ∷ ps) p h = let first : low ≤ q.at = h.0 in let rest = low_before q.at ps p h.1 in omega (arith, first, rest)
+
+comes_last : (low : ℕ) (ps : List Probe) (p q : Probe) → ComeByMember low (ps ++ p ∷ []) → Among q ps → q.at ≤ p.at
+comes_last low [] p q h m = absurd m
+comes_last low (o ∷ ps) p q h (inl same) = subst (λ (v : Probe). v.at ≤ p.at) same (low_before o.at ps p h.1)
+comes_last low (o ∷ ps) p q h (inr m) = comes_last o.at ps p q h.1 m
+
+-- a number that is no greater is less or the same
+leq_or : (k n : ℕ) → k ≤ n → (k < n) ⊎ (k ≡ n)
+leq_or zero zero h = inr refl
+leq_or zero (suc n) h = inl (omega arith)
+leq_or (suc k) zero h = absurd (omega (arith, h))
+leq_or (suc k) (suc n) h = by (leq_or k n (omega (arith, h)))
+  where
+    by : (k < n) ⊎ (k ≡ n) → (suc k < suc n) ⊎ (suc k ≡ suc n)
+    by (inl less) = inl (omega (arith, less))
+    by (inr same) = inr (ap suc same)
+
+strictly : (k n it : ℕ) → k ≤ n → (k ≡ n → ⊥) → it ≡ n → k < it
+strictly k n it low apart is = by (leq_or k n low)
+  where
+    by : (k < n) ⊎ (k ≡ n) → k < it
+    by (inl less) = omega (arith, less, is)
+    by (inr same) = absurd (apart same)
+
+-- one more with a greater number
+rises_on : (low : ℕ) (left : List Left) (it : Left) → RiseByNumber low left → low ≤ it.at → ((l : Left) → Among l left → l.at < it.at) → RiseByNumber low (left ++ it ∷ [])
+rises_on low [] it h least f = (least, tt)
+rises_on low (l ∷ left) it h least f = (h.0, rises_on (suc l.at) left it h.1 (let first = f l (inl refl) in omega (arith, first)) (λ k m. f k (inr m)))
+
+-- who is left out isn't kept
+stays_gone : (left : List Left) (kept : List Bool) (at : ℕ) → is_kept kept at ≡ false → is_kept (without_all left kept) at ≡ false
+stays_gone [] kept at h = h
+stays_gone (l ∷ left) kept at h = stays_gone left (without l.at kept) at (still_gone kept l.at at h)
+
+left_gone : (left : List Left) (kept : List Bool) (l : Left) → Among l left → is_kept (without_all left kept) l.at ≡ false
+left_gone [] kept l m = absurd m
+left_gone (k ∷ left) kept l (inl same) = stays_gone left (without k.at kept) l.at (ap (λ (x : Left). is_kept (without k.at kept) x.at) (sym same) ∙ without_it kept k.at)
+left_gone (k ∷ left) kept l (inr m) = left_gone left (without k.at kept) l m
+
+in_the_middle : (before behind : List Probe) (p : Probe) → Among p (before ++ p ∷ behind)
+in_the_middle [] behind p = inl refl
+in_the_middle (q ∷ before) behind p = inr (in_the_middle before behind p)
+
+-- it is the number of one of the probes
+left_number : (pairs : List Replied) (l : Left) → IsLeftFor pairs l → (p : Probe) × Among p (map (λ x. x.0) pairs) × (l.at ≡ p.at)
+left_number pairs l k =
+    let probes : map (λ (x : Replied). x.0) pairs ≡ map (λ (x : Replied). x.0) k.before ++ k.probe ∷ map (λ (x : Replied). x.0) k.behind =
+    ap (map (λ (x : Replied). x.0)) k.split ∙ map-append (λ (x : Replied). x.0) k.before ((k.probe, k.reply) ∷ k.behind) in
+    (k.probe, subst (λ (v : List Probe). Among k.probe v) (sym probes) (in_the_middle (map (λ (x : Replied). x.0) k.before) (map (λ (x : Replied). x.0) k.behind) k.probe), left_named k.probe.at k.why l (refusal_names k.probe.at k.reply k.why k.refused) k.named)
+
 -- ---- what is sorted
 
 -- nothing yet
@@ -109,6 +170,7 @@ none_sorted es a h = record {
   left_for = subst (All (IsLeftFor [])) (sym h.left) (All-nil (IsLeftFor []));
   may_leave = subst (MayAllLeave es (everybody es)) (sym h.left) tt;
   those_kept = h.kept ∙ ap (λ (v : List Left). without_all v (everybody es)) (sym h.left);
+  by_number = λ come. subst (RiseByNumber 0) (sym h.left) tt;
 }
 
 -- so many members have a mark
@@ -116,6 +178,15 @@ pub marks_of_all : (es : List EndpointParts) (pairs : List Replied) (a : Answers
 marks_of_all es pairs a h = ap length h.those_kept ∙ as_many_marks a.left.items (everybody es) ∙ length-replicate (length es) true
 
 module _ (es : List EndpointParts) (done : List Replied) (a b : Answers) (h : AreSorted es done a) (p : Probe) (r : JobReply) where
+  abbrev before : List Probe
+  before = map (λ (x : Replied). x.0) done
+
+  come_so : ComeByMember 0 (map (λ (x : Replied). x.0) (done ++ (p, r) ∷ [])) → ComeByMember 0 (before ++ p ∷ [])
+  come_so come = subst (ComeByMember 0) (map-append (λ (x : Replied). x.0) done ((p, r) ∷ [])) come
+
+  still_rising : ComeByMember 0 (map (λ (x : Replied). x.0) (done ++ (p, r) ∷ [])) → RiseByNumber 0 a.left.items
+  still_rising come = h.by_number (front_comes 0 before p (come_so come))
+
   answered_one : IsAnswered p r a b → AreSorted es (done ++ (p, r) ∷ []) b
   answered_one k =
       let more = more_answered done p r k.truth k.told in
@@ -134,6 +205,7 @@ module _ (es : List EndpointParts) (done : List Replied) (a b : Answers) (h : Ar
         left_for = subst (All (IsLeftFor (done ++ (p, r) ∷ []))) (sym k.added.left) (all_behind done (p, r) a.left.items h.left_for);
         may_leave = subst (MayAllLeave es (everybody es)) (sym k.added.left) h.may_leave;
         those_kept = k.added.kept ∙ h.those_kept ∙ ap (λ (v : List Left). without_all v (everybody es)) (sym k.added.left);
+        by_number = λ come. subst (RiseByNumber 0) (sym k.added.left) (still_rising come);
       }
 
   module _ (k : IsPassedOver es p r a b) where
@@ -151,6 +223,7 @@ module _ (es : List EndpointParts) (done : List Replied) (a b : Answers) (h : Ar
       left_for = subst (All (IsLeftFor (done ++ (p, r) ∷ []))) (sym o.left) (all_behind done (p, r) a.left.items h.left_for);
       may_leave = subst (MayAllLeave es (everybody es)) (sym o.left) h.may_leave;
       those_kept = o.kept ∙ h.those_kept ∙ ap (λ (v : List Left). without_all v (everybody es)) (sym o.left);
+      by_number = λ come. subst (RiseByNumber 0) (sym o.left) (still_rising come);
     }
 
     -- or it is now
@@ -188,6 +261,20 @@ module _ (es : List EndpointParts) (done : List Replied) (a b : Answers) (h : Ar
         was_kept = ap (is_kept (without_all a.left.items (everybody es))) its_number ∙ ap (λ (v : List Bool). is_kept v p.at) (sym h.those_kept) ∙ o.was_kept;
       }
 
+      -- its number is greater than those before
+      below : ComeByMember 0 (map (λ (x : Replied). x.0) (done ++ (p, r) ∷ [])) → (l : Left) → Among l a.left.items → l.at < o.it.at
+      below come l m =
+          let n = left_number done l (All-contains (IsLeftFor done) a.left.items l h.left_for (contains_from a.left.items l m)) in
+          let low : n.0.at ≤ p.at = comes_last 0 before p n.0 (come_so come) n.1 in
+          let same : l.at ≡ n.0.at = n.2 in
+          strictly l.at p.at o.it.at (subst (λ (v : ℕ). v ≤ p.at) (sym same) low) (apart l m) its_number
+        where
+          apart : (l : Left) → Among l a.left.items → l.at ≡ p.at → ⊥
+          apart l m equal =
+              let gone : is_kept a.kept.items l.at ≡ false = ap (λ (v : List Bool). is_kept v l.at) h.those_kept ∙ left_gone a.left.items (everybody es) l m in
+              let both : true ≡ false = sym o.was_kept ∙ ap (is_kept a.kept.items) (sym equal) ∙ gone in
+              cc
+
       out_now : AreSorted es (done ++ (p, r) ∷ []) b
       out_now = record {
         probes_are = k.out.probes ∙ h.probes_are ∙ ap (map (λ (x : Probe × Bool). x.0)) (sym same_answers);
@@ -207,6 +294,9 @@ module _ (es : List EndpointParts) (done : List Replied) (a b : Answers) (h : Ar
             (ap (λ (v : List Left). without_all v (everybody es)) o.left
             ∙ without_more a.left.items o.it (everybody es)
             ∙ ap (λ (n : ℕ). without n (without_all a.left.items (everybody es))) its_number);
+        by_number = λ come.
+            subst (RiseByNumber 0) (sym o.left)
+            (rises_on 0 a.left.items o.it (still_rising come) (omega arith) (below come));
       }
 
     passed_one : IsOut p.at a b ⊎ Leaves p.at k.why a b → AreSorted es (done ++ (p, r) ∷ []) b

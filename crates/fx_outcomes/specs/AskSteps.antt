@@ -1,8 +1,6 @@
 -- The steps of asking for probes: the jobs, and the truths that their replies tell.
-use Rattle.std.specs.Prelude.{◌≡◌, ℕ, Bool, List, map, Contains, Result, Ok, Err}
+use Rattle.std.specs.Prelude.{◌≡◌, ℕ, Bool, List, Contains, Result, Ok, Err}
 use Rattle.std.specs.List.{zip}
-use Rattle.std.specs.declared.alloc.Global.{Global}
-use Rattle.std.specs.declared.vec.Vec.{Vec}
 use Rattle.fx_keys.specs.declared.probes.Probe.{Probe}
 use Rattle.fx_sources.specs.Sources.{ask_text}
 use Rattle.fx_flows.specs.declared.flows.FlowError.{FlowError}
@@ -40,14 +38,3 @@ pub record IsRefused (probes : List Probe) (replies : List JobReply) (e : FlowEr
   pub reply : JobReply
   pub among : Contains (zip probes replies) (probe, reply)
   pub refused : IsRefusal probe.at reply e
-
--- the replies to probes are these truth values, or one of them is refused
-abbrev pub AreTruthsOf : List Probe → List JobReply → Result (List Bool) FlowError → Type 0
-AreTruthsOf probes replies (Ok truths) = replies ≡ map (λ truth. reply.Truth truth) truths
-AreTruthsOf probes replies (Err flow.Memory) = Unit {0}
-AreTruthsOf probes replies (Err e) = IsRefused probes replies e
-
--- the truths as a list
-abbrev pub truths_in : Result (Vec Bool Global) FlowError → Result (List Bool) FlowError
-truths_in (Ok truths) = Ok truths.items
-truths_in (Err e) = Err e

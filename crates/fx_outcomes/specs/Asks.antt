@@ -1,6 +1,5 @@
 -- The ASKs of a query, over several wires.
-use Rattle.std.specs.Prelude.{[], ◌≡◌, ◌<◌, ℕ, Bool, List, IfOk, IfErr, IsTrue, All, Contains, IsPermutation, Some, Result, length, slice_get, ◌++◌}
-use Rattle.std.specs.List.{zip}
+use Rattle.std.specs.Prelude.{◌≡◌, ◌<◌, ℕ, Bool, List, Contains, Some, length, slice_get}
 use Rattle.fx_terms.specs.declared.triples.Triple.{Triple}
 use Rattle.fx_outside.specs.Endpoints.{EndpointParts}
 use Rattle.fx_algebra.specs.declared.answers.Answer.TheVariants.{Truth}
@@ -8,10 +7,8 @@ use Rattle.fx_http.specs.Requests.{request_of}
 use Rattle.fx_http.specs.declared.replies.ReplyError.TheVariants.{TooLong}
 use Rattle.fx_keys.specs.declared.probes.Probe.{Probe}
 use Rattle.fx_sources.specs.Sources.{ask_text}
-use Rattle.fx_sources.specs.Sources as source
-use Rattle.fx_traffic.specs.Gains.{AreAfter, HaveGained, Tell, TellAll, WiresSeen, faults_at}
-use Rattle.fx_traffic.specs.Sent.{Sent, Sends}
-use Rattle.fx_traffic.specs.Traffic.{AreAsksSent}
+use Rattle.fx_traffic.specs.Gains.{Tell, faults_at}
+use Rattle.fx_traffic.specs.Sent.{Sent}
 use Rattle.fx_wire.specs.Exchanges.{Exchange, Seen, exchanged}
 use Rattle.fx_flows.specs.Flows.{Names}
 use Rattle.fx_pool.specs.Reading.{an_ask, HasFault, HasResults}
@@ -85,28 +82,3 @@ HasFailedAsk before after endpoints probes left (flow.Member at) =
 HasFailedAsk before after endpoints probes left (flow.BadReply at bad) = Unit {0}
 HasFailedAsk before after endpoints probes left (flow.RequestTooLong at size) = Unit {0}
 HasFailedAsk before after endpoints probes left flow.Memory = Unit {0}
-
--- Probes were asked for over wires: what was exchanged, which of the probes' ASKs that is, each once, and their answers, which tell whether the
--- keys fit where the graphs of the endpoints are told. Where an exchange failed the ASK is left, and where each has its answer none is.
-pub record AskedAll (tells alone : Bool) (before after : List Seen) (endpoints : List EndpointParts) (probes : List Probe) (result : Result (List Bool) FlowError) : Type 0 where
-  pub exchanges : List Exchange
-  pub gained : IsTrue tells → HaveGained before after exchanges
-  pub after_all : AreAfter before after
-  pub quiet : IsTrue alone → IfOk result (λ _. (address : List ℕ) → faults_at after address ≡ faults_at before address)
-  pub asked : List Probe
-  pub unasked : List Probe
-  pub split : IsPermutation (asked ++ unasked) probes
-  pub wanted : List Sent
-  pub left : List Sent
-  pub texts : AreAsksSent endpoints asked wanted
-  pub sent : Sends wanted left exchanges
-  pub whole : IfOk result (λ _. left ≡ [])
-  pub many : IfOk result (λ truths. length truths ≡ length probes)
-  pub faultless : IfOk result (λ _. All (IsAskRead probes) exchanges)
-  pub answered : IfOk result (λ truths. All (IsAnsweredBy endpoints exchanges) (zip probes truths))
-  pub told : IfOk result (λ truths. (graphs : List (List Triple)) → TellAll before endpoints graphs → All (source.Tells graphs) (zip probes truths))
-  pub cause : IfErr result (HasProbeCause before after endpoints probes exchanges)
-  pub failed : IfErr result (HasFailedAsk before after endpoints probes left)
-
-abbrev pub AskedAllOver : WiresSeen → List EndpointParts → List Probe → Result (List Bool) FlowError → Type 0
-AskedAllOver w endpoints probes truths = AskedAll w.tells w.alone w.before w.after endpoints probes truths

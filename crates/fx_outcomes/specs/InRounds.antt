@@ -18,8 +18,8 @@ use Rattle.fx_walks.specs.Sections.{parts_with}
 use Rattle.fx_wire.specs.Exchanges.{Seen}
 use Rattle.fx_outcomes.specs.Mediation.{AreKnown, IsNamed, KnowsServices, Serve}
 use Rattle.fx_outcomes.specs.Outcomes.{Outcomed}
-use Rattle.fx_outcomes.specs.RoundEnds.{AreAbandoned, IsToldOf, LeavesOut}
-use Rattle.fx_outcomes.specs.Rounds.{AskedMembers, kept_choice, kept_entries}
+use Rattle.fx_outcomes.specs.RoundEnds.{AreAbandoned, LeavesOut}
+use Rattle.fx_outcomes.specs.Rounds.{AskedMembers, IsRequired, kept_choice, kept_entries}
 use Rattle.fx_outcomes.specs.declared.federated.FedError.{FedError}
 use Rattle.fx_outcomes.specs.declared.federated.FedError.TheVariants as fed
 use Rattle.fx_outcomes.specs.declared.federated.Outcome.{Outcome}
@@ -57,7 +57,7 @@ pub record WentRound (tells alone : Bool) (before after : List Seen) (endpoints 
   pub last_kept : List Bool
   pub rounds : AreAbandoned tells alone before between endpoints q plan block kept last_kept abandoned
   pub ended : Result Outcome FedError
-  pub last : Outcomed (IsToldOf true endpoints) (LeavesOut true endpoints) tells alone between after endpoints q (plan last_kept) block ended
+  pub last : Outcomed (IsRequired endpoints) (LeavesOut endpoints) tells alone between after endpoints q (plan last_kept) block ended
   pub told : IsLast ended result
   pub listed : IfOk result (λ all. all.abandoned ≡ abandoned)
 

@@ -24,30 +24,25 @@ use Rattle.fx_outcomes.specs.declared.rounds.Round.{Round}
 
 -- ---- a refusal of a batch
 
--- members may be left out, and this one that it names may be
-abbrev pub LeavesOut : Bool → List EndpointParts → FlowError → Type 0
-LeavesOut leaves endpoints why = (leaves ≡ true) × ((l : Left) × IsLeftBy why l × IsMarked true endpoints l.at)
+-- the member that it names may be left out
+abbrev pub LeavesOut : List EndpointParts → FlowError → Type 0
+LeavesOut endpoints why = (l : Left) × IsLeftBy why l × IsMarked true endpoints l.at
 
--- nobody may be left out, or the one that it names mustn't be
-abbrev pub IsToldOf : Bool → List EndpointParts → FlowError → Type 0
-IsToldOf leaves endpoints why = (leaves ≡ false) ⊎ IsRequired endpoints why
-
--- which of the two it is
-abbrev pub IsWhether : Bool → List EndpointParts → FlowError → Bool → Type 0
-IsWhether leaves endpoints why true = LeavesOut leaves endpoints why
-IsWhether leaves endpoints why false = IsToldOf leaves endpoints why
+-- it may be, or it mustn't
+abbrev pub IsWhether : List EndpointParts → FlowError → Bool → Type 0
+IsWhether endpoints why true = LeavesOut endpoints why
+IsWhether endpoints why false = IsRequired endpoints why
 
 -- What it makes of a round in which these occurrences are down: the round is abandoned, and the member that it names left out; or the refusal is told, unless memory ran out.
-abbrev pub IsEndFor : Bool → List EndpointParts → List Down → FlowError → Result Ended FedError → Type 0
-IsEndFor leaves endpoints down why (Ok (ended.Answered outcome)) = ⊥
-IsEndFor leaves endpoints down why (Ok (ended.Abandoned r)) =
-    (leaves ≡ true) × ((l : Left) × IsLeftBy why l × IsMarked true endpoints l.at × (r.left ≡ l ∷ [])) × (r.down ≡ places down)
-IsEndFor leaves endpoints down why (Err fed.Memory) = Unit {0}
-IsEndFor leaves endpoints down why (Err e) = IsNamed endpoints why e × IsToldOf leaves endpoints why
+abbrev pub IsEndFor : List EndpointParts → List Down → FlowError → Result Ended FedError → Type 0
+IsEndFor endpoints down why (Ok (ended.Answered outcome)) = ⊥
+IsEndFor endpoints down why (Ok (ended.Abandoned r)) = ((l : Left) × IsLeftBy why l × IsMarked true endpoints l.at × (r.left ≡ l ∷ [])) × (r.down ≡ places down)
+IsEndFor endpoints down why (Err fed.Memory) = Unit {0}
+IsEndFor endpoints down why (Err e) = IsNamed endpoints why e × IsRequired endpoints why
 
 -- Where an occurrence of SERVICE was refused, too: the batch's refusal is told, or the occurrence's, if the member may be left out.
-abbrev pub IsFirstOf : Bool → List EndpointParts → FlowError → ServiceError → FedError → Type 0
-IsFirstOf leaves endpoints why error e = (IsNamed endpoints why e × IsToldOf leaves endpoints why) ⊎ (IsTold endpoints error e × LeavesOut leaves endpoints why)
+abbrev pub IsFirstOf : List EndpointParts → FlowError → ServiceError → FedError → Type 0
+IsFirstOf endpoints why error e = (IsNamed endpoints why e × IsRequired endpoints why) ⊎ (IsTold endpoints error e × LeavesOut endpoints why)
 
 -- ---- a round
 
@@ -69,11 +64,10 @@ pub record IsAbandoned (tells alone : Bool) (before after : List Seen) (endpoint
   pub down_is : r.down ≡ places (down_in went.calls)
 
 -- how it ended
-abbrev pub RoundEnded : Bool → Bool → Bool → List Seen → List Seen → List EndpointParts → Query → List Part → ℕ → Result Ended FedError → Type 0
-RoundEnded leaves tells alone before after endpoints q plan block (Ok (ended.Answered outcome)) =
-    Outcomed (IsToldOf leaves endpoints) (LeavesOut leaves endpoints) tells alone before after endpoints q plan block (Ok outcome)
-RoundEnded leaves tells alone before after endpoints q plan block (Ok (ended.Abandoned r)) = (leaves ≡ true) × IsAbandoned tells alone before after endpoints q plan block r
-RoundEnded leaves tells alone before after endpoints q plan block (Err e) = Outcomed (IsToldOf leaves endpoints) (LeavesOut leaves endpoints) tells alone before after endpoints q plan block (Err e)
+abbrev pub RoundEnded : Bool → Bool → List Seen → List Seen → List EndpointParts → Query → List Part → ℕ → Result Ended FedError → Type 0
+RoundEnded tells alone before after endpoints q plan block (Ok (ended.Answered outcome)) = Outcomed (IsRequired endpoints) (LeavesOut endpoints) tells alone before after endpoints q plan block (Ok outcome)
+RoundEnded tells alone before after endpoints q plan block (Ok (ended.Abandoned r)) = IsAbandoned tells alone before after endpoints q plan block r
+RoundEnded tells alone before after endpoints q plan block (Err e) = Outcomed (IsRequired endpoints) (LeavesOut endpoints) tells alone before after endpoints q plan block (Err e)
 
 -- ---- rounds, one after the other
 

@@ -8,7 +8,7 @@ use Rattle.fx_flows.specs.declared.flows.FlowError.TheVariants as flow
 use Rattle.fx_pool.specs.declared.jobs.JobReply.{JobReply}
 use Rattle.fx_pool.specs.declared.jobs.JobReply.TheVariants as reply
 use Rattle.fx_outcomes.specs.AskSteps.{IsRefusal}
-use Rattle.fx_outcomes.specs.Rounds.{IsLeftBy, IsMarked, MayAllLeave, everybody, without, without_all}
+use Rattle.fx_outcomes.specs.Rounds.{ComeByMember, IsLeftBy, IsMarked, MayAllLeave, RiseByNumber, everybody, without, without_all}
 use Rattle.fx_outcomes.specs.declared.rounds.Answers.{Answers}
 use Rattle.fx_outcomes.specs.declared.rounds.Left.{Left}
 
@@ -55,6 +55,7 @@ pub record AreSorted (endpoints : List EndpointParts) (pairs : List Replied) (a 
   pub left_for : All (IsLeftFor pairs) a.left.items
   pub may_leave : MayAllLeave endpoints (everybody endpoints) a.left.items
   pub those_kept : a.kept.items ≡ without_all a.left.items (everybody endpoints)
+  pub by_number : ComeByMember 0 (map (λ x. x.0) pairs) → RiseByNumber 0 a.left.items
 
 -- the first probe without an answer whose member mustn't be left out is refused so
 pub record IsFirstRefused (endpoints : List EndpointParts) (pairs : List Replied) (e : FlowError) : Type 0 where

@@ -1,10 +1,8 @@
 //! The ASKs of a query, over several wires.
 ghost use Rattle.std.specs.Prelude.{◌≡◌, ◌<◌, ◌≤◌, All, IfOk, length, map, true};
 ghost use Rattle.fx_outside.specs.Endpoints.{is_sendable};
-ghost use Rattle.fx_spelling.specs.Printable.{IsTriple};
 ghost use Rattle.fx_outcomes.specs.AskSteps as spec;
-ghost use Rattle.fx_outcomes.specs.AskSteps.{AreTruthsOf, IsForAsk, IsTruthOf, truths_in};
-ghost use Rattle.fx_outcomes.specs.Asks.{AskedAllOver};
+ghost use Rattle.fx_outcomes.specs.AskSteps.{IsForAsk, IsTruthOf};
 ghost use Rattle.fx_traffic.specs.Gains.{seen};
 ghost use Rattle.fx_pool.specs.Runs.{WiresDidOver, all_replies};
 
@@ -20,32 +18,7 @@ use std::alloc::Global;
 /// The most probes that are asked for at once.
 const MOST: usize = 65_536;
 
-/// What the endpoints answer to probes, in their order.
-///
-/// The ASK of each probe's key goes to the probe's endpoint, once, whatever becomes of the others. Where some have no answer the refusal is that of the first of them: `Member`, the exchange
-/// with the endpoint failed, and was counted as a fault at its address; `BadReply`, with the first fault of what was replied; `RequestTooLong`, the text has more than 67,108,864
-/// bytes, and wasn't sent. `Memory` comes where memory runs out. The probes are asked for in pieces of 65,536.
-pub fn ask_all<H: DoesJobs<W>, W: Wire>(
-    hands: &H,
-    alloc: Global,
-    probes: &[Probe],
-    endpoints: &[Endpoint],
-    wires: &mut [W],
-) -> Result<Vec<bool>, FlowError>
-    requires hands { H.does hands.now }
-    requires wired { (0 < length wires.old) × (length wires.old ≤ 16) }
-    requires sendable { All (λ e. is_sendable e ≡ true) endpoints.now }
-    requires within { All (λ p. p.at < length endpoints.now) probes.now }
-    requires triples { All (λ p. IsTriple p.key.pattern) probes.now }
-    ensures { AskedAllOver (seen W.Wire wires.old wires.new) endpoints.now probes.now (truths_in result) }
-{
-    match replies_to(hands, alloc, probes, endpoints, wires) {
-        Err(Memory) => Err(FlowError::Memory),
-        Ok(replies) => truths_of(alloc, probes, replies),
-    }
-}
-
-// The replies to probes, which are asked for in pieces.
+// The replies to probes, in their order. The ASK of each goes to its endpoint, once, whatever becomes of the others; they are asked for in pieces of 65,536.
 pub(crate) fn replies_to<H: DoesJobs<W>, W: Wire>(
     hands: &H,
     alloc: Global,
@@ -121,30 +94,6 @@ fn job_of(alloc: Global, probe: &Probe) -> Result<Job, Memory>
             text: RequestText::of(text),
         },
     })
-}
-
-// The truth values that the replies to probes are, or the first refusal.
-fn truths_of(
-    alloc: Global,
-    probes: &[Probe],
-    replies: Vec<JobReply>,
-) -> Result<Vec<bool>, FlowError>
-    requires many { length replies.items ≡ length probes.now }
-    requires asked { All IsForAsk replies.items }
-    ensures { AreTruthsOf probes.now replies.items (truths_in result) }
-{
-    let mut truths = Vec::new(alloc);
-    for (probe, reply) in probes.iter().zip(replies) {
-        match truth_of(probe.at, reply) {
-            Err(error) => return Err(error),
-            Ok(truth) => {
-                if truths.push(truth).is_err() {
-                    return Err(FlowError::Memory);
-                }
-            }
-        }
-    }
-    Ok(truths)
 }
 
 // The truth value that the reply of an endpoint is, or the refusal.

@@ -1,5 +1,5 @@
 //! The parts of a query by what its endpoints answer to ASKs.
-ghost use Rattle.std.specs.Prelude.{◌≡◌, ◌<◌, ◌≤◌, ◌++◌, [], ◌∷◌, All, IfOk, List, OnOk, length, map};
+ghost use Rattle.std.specs.Prelude.{◌≡◌, ◌++◌, [], ◌∷◌, All, IfOk, List, OnOk, length};
 ghost use Rattle.std.specs.List.{zip};
 ghost use Rattle.fx_terms.specs.declared.triples.Triple.{Triple};
 ghost use Rattle.fx_algebra.specs.Units as units;
@@ -7,72 +7,16 @@ ghost use Rattle.fx_plan.specs.Explained.{HasMembers};
 ghost use Rattle.fx_sources.specs.Probes.{missing as missing_probes};
 ghost use Rattle.fx_sources.specs.Sources.{Tells};
 ghost use Rattle.fx_walks.specs.Sections.{parts_with};
-ghost use Rattle.fx_outcomes.specs.Asks.{AskedAllOver};
-ghost use Rattle.fx_traffic.specs.Gains.{seen};
-ghost use Rattle.fx_outcomes.specs.Choices.{IsChoice, answers_in, of_members, probes_in, truths_of};
+ghost use Rattle.fx_outcomes.specs.Choices.{of_members, probes_in, truths_of};
 ghost use Rattle.fx_outcomes.specs.Rounds.{AreAnswers, AreStillKept, kept_choice, kept_entries};
-ghost use Rattle.fx_grammar.specs.Accepted.{IsSpellable};
 
-use crate::asks::ask_all;
 use crate::rounds::Answers;
 use fx_algebra::Query;
-use fx_flows::FlowError;
 use fx_plan::Part;
-use fx_services::DoesJobs;
-use fx_sources::{AskCache, Probe, Registry, choose_of_kept, missing};
+use fx_sources::{AskCache, Probe, Registry, choose_of_kept};
 use fx_terms::Memory;
 use fx_walks::parts::parts;
-use fx_walks::planning::parts_by;
-use fx_wire::Wire;
 use std::alloc::Global;
-
-/// The probes that a cache lacked for a query, with their answers, and the parts of the query by these and the cache.
-#[derive(Drop)]
-pub struct Choice {
-    pub probes: Vec<Probe>,
-    pub truths: Vec<bool>,
-    pub parts: Vec<Part>,
-}
-
-/// The parts of a query over the endpoints of a registry. Each endpoint is asked which triple patterns fit its graph, unless the cache holds the
-/// answer, and nothing else is asked. The errors come as in `ask_all`.
-pub fn choose_parts<H: DoesJobs<W>, W: Wire>(
-    hands: &H,
-    alloc: Global,
-    query: &Query,
-    registry: &Registry,
-    cache: &AskCache,
-    wires: &mut [W],
-) -> Result<Choice, FlowError>
-    requires hands { H.does hands.now }
-    requires wired { (0 < length wires.old) × (length wires.old ≤ 16) }
-    requires spellable { IsSpellable query.now }
-    ensures asked { AskedAllOver (seen W.Wire wires.old wires.new) registry.now
-        (missing_probes query.now (length registry.now) cache.now) (answers_in result) }
-    ensures chosen { IfOk result (IsChoice registry.now query.now cache.now) }
-{
-    let Ok(probes) = missing(alloc, query, registry, cache) else {
-        return Err(FlowError::Memory);
-    };
-    match ask_all(hands, alloc, probes.as_slice(), registry.endpoints(), wires) {
-        Err(error) => Err(error),
-        Ok(truths) => match parts_by(
-            alloc,
-            query,
-            registry,
-            cache,
-            probes.as_slice(),
-            truths.as_slice(),
-        ) {
-            Err(Memory) => Err(FlowError::Memory),
-            Ok(parts) => Ok(Choice {
-                probes,
-                truths,
-                parts,
-            }),
-        },
-    }
-}
 
 /// The parts of a query over the kept members of a registry, by what the cache holds and the answers to what it lacked. `kept` tells of each member, by its number,
 /// whether it is kept, and keeps none that the answers leave out. Where the graphs are told, each pattern has those of its sources that are kept.

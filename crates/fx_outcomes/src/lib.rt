@@ -1,7 +1,7 @@
 //! What a federation gives, by definition; and what is asked of members before the runs of a query: its ASKs and its occurrences of SERVICE.
 #![tactic(auto)]
 
-pub mod asks;
+mod asks;
 pub mod choices;
 pub mod fault_texts;
 pub mod federated;

@@ -46,10 +46,11 @@ use Rattle.fx_outcomes.specs.InRounds.{FederatedInRounds, IsLast, IsRefusedAtAsk
 use Rattle.fx_pool.specs.declared.jobs.BadReply.{BadReply}
 use Rattle.fx_outcomes.specs.Mediation.{IsNamed, Serve}
 use Rattle.fx_outcomes.specs.Outcomes.{AllTell, HasOutcomeCause, Outcomed}
-use Rattle.fx_outcomes.specs.RoundEnds.{IsToldOf, LeavesOut}
+use Rattle.fx_outcomes.specs.RoundEnds.{LeavesOut}
 use Rattle.fx_outcomes.specs.declared.federated.Outcome.{Outcome}
 use Rattle.fx_outcomes.specs.declared.rounds.OutcomeInRounds.{OutcomeInRounds}
 use Rattle.fx_outcomes.specs.declared.rounds.PlanInRounds.{PlanInRounds}
+use Rattle.fx_outcomes.specs.Rounds.{IsRequired}
 use Rattle.fx_rounds.specs.Refused.{IsFirstFailed}
 use Rattle.fx_rounds.proofs.PlannedLemmas.{no_plan_service_fails, plan_members_failed}
 use Rattle.fx_rounds.proofs.RefusedLemmas.{members_failed, services_failed}
@@ -275,15 +276,15 @@ no_unknown iri h = cc
 
 -- the last round was refused for the cause that is told
 module _ (Untold : FlowError → Type 0) (tells alone : Bool) (u t : List Seen) (es : List EndpointParts) (q : Query) (plan : List Part) (block : ℕ) where
-  bad_at_last : (name : List ℕ) (bad : BadReply) (ended : Result Outcome FedError) → (k : Outcomed (IsToldOf true es) Untold tells alone u t es q plan block ended) → IsLast ended (Err (fed.BadReply name bad))
-      → HasOutcomeCause (IsToldOf true es) u t es plan k.found block k.calls k.texts k.of_runs (fed.BadReply name bad)
+  bad_at_last : (name : List ℕ) (bad : BadReply) (ended : Result Outcome FedError) → (k : Outcomed (IsRequired es) Untold tells alone u t es q plan block ended) → IsLast ended (Err (fed.BadReply name bad))
+      → HasOutcomeCause (IsRequired es) u t es plan k.found block k.calls k.texts k.of_runs (fed.BadReply name bad)
   bad_at_last name bad (Ok outcome) k same = absurd same
-  bad_at_last name bad (Err e) k same = subst (HasOutcomeCause (IsToldOf true es) u t es plan k.found block k.calls k.texts k.of_runs) (sym same) k.cause
+  bad_at_last name bad (Err e) k same = subst (HasOutcomeCause (IsRequired es) u t es plan k.found block k.calls k.texts k.of_runs) (sym same) k.cause
 
-  long_at_last : (name : List ℕ) (size : ℕ) (ended : Result Outcome FedError) → (k : Outcomed (IsToldOf true es) Untold tells alone u t es q plan block ended) → IsLast ended (Err (fed.RequestTooLong name size))
-      → HasOutcomeCause (IsToldOf true es) u t es plan k.found block k.calls k.texts k.of_runs (fed.RequestTooLong name size)
+  long_at_last : (name : List ℕ) (size : ℕ) (ended : Result Outcome FedError) → (k : Outcomed (IsRequired es) Untold tells alone u t es q plan block ended) → IsLast ended (Err (fed.RequestTooLong name size))
+      → HasOutcomeCause (IsRequired es) u t es plan k.found block k.calls k.texts k.of_runs (fed.RequestTooLong name size)
   long_at_last name size (Ok outcome) k same = absurd same
-  long_at_last name size (Err e) k same = subst (HasOutcomeCause (IsToldOf true es) u t es plan k.found block k.calls k.texts k.of_runs) (sym same) k.cause
+  long_at_last name size (Err e) k same = subst (HasOutcomeCause (IsRequired es) u t es plan k.found block k.calls k.texts k.of_runs) (sym same) k.cause
 
 -- it has none of them
 module _ (Told : FlowError → Type 0) (before after : List Seen) (es : List EndpointParts) (plan : List Part) (found : List (List Bindings)) (block : ℕ) (calls : List Call) (texts : List Sent) (xs : List Exchange) (well : AllIsWell es calls texts) where
@@ -311,8 +312,8 @@ module _ (w : WiresSeen) (es : List EndpointParts) (asked : Query) (graphs : Lis
       let all = all_is_well w es asked graphs graph_at entries block r alike are_told serve it well replies texts in
       let short : AreShort last.of_runs = λ x among.
       short_at_last w es asked entries block r alike it well replies x (Contains-permutation (last.of_runs ++ last.of_calls) last.exchanges x last.parted (Contains-append_left last.of_runs last.of_calls x among)) in
-      no_bad_reply (IsToldOf true es) it.went.between w.after es plan last.found block last.calls last.texts last.of_runs all graphs name bad (told_at_last w es asked entries block r alike it graphs are_told) short
-      (bad_at_last (LeavesOut true es) w.tells w.alone it.went.between w.after es asked plan block name bad it.went.ended last it.told)
+      no_bad_reply (IsRequired es) it.went.between w.after es plan last.found block last.calls last.texts last.of_runs all graphs name bad (told_at_last w es asked entries block r alike it graphs are_told) short
+      (bad_at_last (LeavesOut es) w.tells w.alone it.went.between w.after es asked plan block name bad it.went.ended last it.told)
 
   no_long : (name : List ℕ) (size : ℕ)
       → IsUnasked w.before w.after [] entries (Ended (fed.RequestTooLong name size)) ⊎ (IsRefusedAtAsks w.tells w.alone w.before w.after es asked [] entries (Ended (fed.RequestTooLong name size)) ⊎ WentInRounds w.tells w.alone w.before w.after es asked [] entries block (Ended (fed.RequestTooLong name size))) → ⊥
@@ -323,8 +324,8 @@ module _ (w : WiresSeen) (es : List EndpointParts) (asked : Query) (graphs : Lis
       let last = it.went.last in
       let plan = plan_over es asked [] it.answers it.went.last_kept in
       let all = all_is_well w es asked graphs graph_at entries block r alike are_told serve it well replies texts in
-      no_long_text (IsToldOf true es) it.went.between w.after es plan last.found block last.calls last.texts last.of_runs all name size
-      (long_at_last (LeavesOut true es) w.tells w.alone it.went.between w.after es asked plan block name size it.went.ended last it.told)
+      no_long_text (IsRequired es) it.went.between w.after es plan last.found block last.calls last.texts last.of_runs all name size
+      (long_at_last (LeavesOut es) w.tells w.alone it.went.between w.after es asked plan block name size it.went.ended last it.told)
 
   -- the endpoint of an occurrence without SILENT that failed is needed
   plain_is_needed : (iri : List ℕ) (e : EndpointParts) → IsFirstFailed w es asked iri → e.iri ≡ iri → IsNeeded asked e

@@ -48,6 +48,7 @@ use Rattle.fx_local.specs.Local.{HasLines, IsWritten}
 use Rattle.fx_commands.specs.Query.{IsQueryCut, IsQueryDone, IsQueryReported}
 use Rattle.fx_local.specs.Services.{all_numbers, silent_lines}
 use Rattle.fx_local.specs.Sinks.{SinkWritten, Wrote}
+use Rattle.fx_program.specs.Runs.{WritesGiven}
 
 -- ---- what is told
 
@@ -314,3 +315,32 @@ no_headline read w (Some (generated n)) out err = λ done. absurd (not_done done
   where
     not_done : status.NoMemory ≡ status.Done → ⊥
     not_done h = cc
+
+-- ---- what the members gave
+
+-- nothing is written with another status
+pub nothing_given : (read : List ℕ → FileRead) (w : WiresSeen) (asked : Option Asked) (s : Status) (out err : SinkWritten) → (s ≡ status.Done → ⊥) → (s ≡ status.WriteFault → ⊥) → WritesGiven read w asked s out err
+nothing_given read w None s out err not_done not_cut = tt
+nothing_given read w (Some (over_file g q)) s out err not_done not_cut = tt
+nothing_given read w (Some (over_members r q workers block)) s out err not_done not_cut = (λ done. absurd (not_done done), λ cut. absurd (not_cut cut))
+nothing_given read w (Some (planned r q)) s out err not_done not_cut = (λ done. absurd (not_done done), λ cut. absurd (not_cut cut))
+nothing_given read w (Some (served g address count)) s out err not_done not_cut = tt
+nothing_given read w (Some (generated n)) s out err not_done not_cut = tt
+
+pub want_gives_nothing : (read : List ℕ → FileRead) (w : WiresSeen) (asked : Option Asked) (out err : SinkWritten) → WritesGiven read w asked status.NoMemory out err
+want_gives_nothing read w asked out err = nothing_given read w asked status.NoMemory out err not_done not_cut
+  where
+    not_done : status.NoMemory ≡ status.Done → ⊥
+    not_done h = cc
+
+    not_cut : status.NoMemory ≡ status.WriteFault → ⊥
+    not_cut h = cc
+
+pub usage_gives_nothing : (read : List ℕ → FileRead) (w : WiresSeen) (asked : Option Asked) (out err : SinkWritten) → WritesGiven read w asked status.Usage out err
+usage_gives_nothing read w asked out err = nothing_given read w asked status.Usage out err not_done not_cut
+  where
+    not_done : status.Usage ≡ status.Done → ⊥
+    not_done h = cc
+
+    not_cut : status.Usage ≡ status.WriteFault → ⊥
+    not_cut h = cc

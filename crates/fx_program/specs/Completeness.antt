@@ -32,7 +32,7 @@ use Rattle.fx_local.specs.Files.{FileRead, Holds}
 use Rattle.fx_local.specs.GraphTexts.{IsGraphText}
 use Rattle.fx_program.specs.Headline.{IsTold}
 use Rattle.fx_local.specs.Services.{first_plain}
-use Rattle.fx_commands.specs.Asking.{IsUnmarked}
+use Rattle.fx_rounds.specs.LeftOut.{IsUnmarked}
 use Rattle.fx_local.specs.Sinks.{SinkWritten}
 
 -- ---- nothing fails

@@ -7,13 +7,13 @@ use Rattle.fx_local.specs.declared.statuses.Status.{Status}
 use Rattle.fx_local.specs.declared.statuses.Status.TheVariants as status
 use Rattle.fx_commands.specs.Asking.{IsUnasked}
 use Rattle.fx_words.specs.Commands.{Asked, over_file, over_members, planned, served, generated}
-use Rattle.fx_commands.specs.Explain.{CountsLeft, IsExplainReported, IsExplainWritten, IsExplanation}
+use Rattle.fx_commands.specs.Explain.{CountsLeft, IsExplainCut, IsExplainDone, IsExplainReported, IsExplainWritten, IsExplanation}
 use Rattle.fx_commands.specs.FedRefusals.{IsGivenEnd}
 use Rattle.fx_local.specs.Files.{FileRead}
 use Rattle.fx_commands.specs.Generator.{summary}
 use Rattle.fx_local.specs.Lines.{Gains, usage_line, no_memory}
 use Rattle.fx_local.specs.Local.{IsAnswer, IsReported, IsWritten}
-use Rattle.fx_commands.specs.Query.{CountsDown, IsQueryReported, IsQueryWritten, IsUnionAnswer}
+use Rattle.fx_commands.specs.Query.{CountsDown, IsQueryCut, IsQueryDone, IsQueryReported, IsQueryWritten, IsUnionAnswer}
 use Rattle.fx_local.specs.Serving.{IsLastCut, IsMemberReported}
 use Rattle.fx_local.specs.Sinks.{SinkWritten, HasFailed, IsCutOff, IsCutShort, IsUntouched, Wrote}
 
@@ -46,6 +46,14 @@ Writes read before (Some (over_members registry query workers block)) s old new 
 Writes read before (Some (planned registry query)) s old new = IsExplainWritten before (read registry) (read query) s old new
 Writes read before (Some (served graph address count)) s old new = new ≡ old
 Writes read before (Some (generated size)) s old new = Wrote (λ text. text ≡ summary size) s old new
+
+-- What `query` and `explain` write is what the members gave, whatever is told of files and graphs: with `Done` the document, or the text of the plan, and a line for each member that is left out and each
+-- occurrence that is down in it, and with `WriteFault` a front of the document or the text.
+abbrev pub WritesGiven : (List ℕ → FileRead) → WiresSeen → Option Asked → Status → SinkWritten → SinkWritten → Type 0
+WritesGiven read w (Some (over_members registry query workers block)) s out err =
+    (s ≡ status.Done → IsQueryDone w (read registry) (read query) block out err) × (s ≡ status.WriteFault → IsQueryCut w (read registry) (read query) block out)
+WritesGiven read w (Some (planned registry query)) s out err = (s ≡ status.Done → IsExplainDone w (read registry) (read query) out err) × (s ≡ status.WriteFault → IsExplainCut w (read registry) (read query) out)
+WritesGiven read w asked s out err = Unit {0}
 
 -- Which write failed, with the status `WriteFault`: for `local`, `query` and `explain` one of the document or the text, or of the lines behind it, for `generate` one on
 -- standard output alone, and for a member one of its lines.

@@ -6,7 +6,7 @@ ghost use Rattle.fx_program.specs.Completeness.{Completes};
 ghost use Rattle.fx_local.specs.Counts.{CountsDoor, CountsOnly};
 ghost use Rattle.fx_local.specs.Files.{file_read};
 ghost use Rattle.fx_program.specs.Headline.{Headline};
-ghost use Rattle.fx_program.specs.Runs.{CountsEndpoints, FailsToWrite, HasReport, OnWires, Writes, wires_used};
+ghost use Rattle.fx_program.specs.Runs.{CountsEndpoints, FailsToWrite, HasReport, OnWires, Writes, WritesGiven, wires_used};
 ghost use Rattle.fx_local.specs.Sinks.{sink_written};
 
 use fx_commands::{run_explain, run_generate, run_query};
@@ -58,6 +58,9 @@ pub fn run<R: Threads + Wait + Sync, F: Files, W: Wire + Send, D: Door, O: Sink,
     // members' graphs, or the text of the query's plan over these graphs; with `WriteFault` a front of it; else nothing.
     ensures written { IsTrue O.tells_held → Writes (file_read (F.seen files.old) (F.seen files.new)) (map W.seen (take (wires_used (asked (map (λ w. string_bytes w) words.now))) wires.old)) (asked (map (λ w. string_bytes w) words.now)) result (O.held out.old) (O.held out.new) }
     ensures wired { AreAfter (map W.seen wires.old) (map W.seen wires.new) }
+
+    // What `query` and `explain` write is what the members gave in this very run, also where no graph is told.
+    ensures given { OnWires W.tells_log W.counts_alone W.seen (wires_used (asked_in words.now)) wires.old wires.new (λ seen. WritesGiven (file_read (F.seen files.old) (F.seen files.new)) seen (asked_in words.now) result (sink_written O.tells_held O.held O.write_faults out.old out.new) (sink_written E.tells_held E.held E.write_faults err.old err.new)) }
 
     // `WriteFault` comes where a write of the document or the text failed, and then nothing was written on `err`, or where it is whole and one
     // of the lines behind it failed.

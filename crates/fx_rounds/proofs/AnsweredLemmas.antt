@@ -35,6 +35,7 @@ use Rattle.fx_rounds.proofs.DownLemmas.{IsUnknown, are_unregistered, failed_alik
 use Rattle.fx_rounds.proofs.GainedLemmas.{has_begun, went_gained}
 use Rattle.fx_rounds.proofs.LeftOutLemmas.{all_leave, answers_went, each_leaves, members_are_left_once}
 use Rattle.fx_rounds.proofs.LicenceLemmas.{answers_are_licensed, downs_append, last_down, licences_in_any_order}
+use Rattle.fx_rounds.proofs.NumberLemmas.{all_by_number, each_by_number, missing_come}
 use Rattle.fx_rounds.proofs.SumLemmas.{faults_and_refusals_are_enough}
 use Rattle.fx_rounds.proofs.TrafficLemmas.{rounds_are_traffic}
 
@@ -120,6 +121,8 @@ module _ (w : WiresSeen) (es : List EndpointParts) (asked : Query) (new : List E
         left_out = members_are_left_once w.tells w.alone w.before w.after es asked [] new block all it;
         leave = all_leave it.answers.left.items it.went.abandoned all.abandoned it.listed
             (each_leaves w.tells w.alone es asked plan block it.asked it.went.between it.answers.kept.items it.went.last_kept it.went.abandoned it.went.rounds);
+        by_number = all_by_number it.answers.left.items it.went.abandoned all.abandoned it.listed (it.asking.fit.by_number (missing_come asked (length es) []))
+            (each_by_number w.tells w.alone es asked plan block it.asked it.went.between it.answers.kept.items it.went.last_kept it.went.abandoned it.went.rounds);
         down = record { calls = it.went.last.calls; all_called = all_called; passed = all_passed; noted_are = down_is };
         counted = λ address.
             let counted : faults_at w.before address + (lefts_failed es address lefts + downs_failed address (downs ++ all.outcome.down)) ≤ faults_at w.after address = l.counted address in

@@ -11,3 +11,6 @@ pub mod RefusedLemmas
 pub mod ReplyLemmas
 pub mod SumLemmas
 pub mod TrafficLemmas
+pub mod UnmarkedLemmas
+pub mod NumberLemmas
+pub mod TurnLemmas

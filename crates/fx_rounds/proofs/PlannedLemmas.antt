@@ -15,12 +15,13 @@ use Rattle.fx_outcomes.specs.declared.federated.FedError.TheVariants as fed
 use Rattle.fx_outcomes.specs.declared.rounds.Left.{Left}
 use Rattle.fx_outcomes.specs.declared.rounds.PlanInRounds.{PlanInRounds}
 use Rattle.fx_rounds.specs.Answered.{IsPlanLicensed, IsPlanOver, PlansCountNone, PlansRestOnThis}
-use Rattle.fx_rounds.specs.LeftOut.{AreLeftOut, LeavesSomebody, left_in}
+use Rattle.fx_rounds.specs.LeftOut.{AreLeftOut, LeavesSomebody, left_in, IsByNumber}
 use Rattle.fx_rounds.specs.Licences.{Licence, lefts_failed}
 use Rattle.fx_rounds.specs.Refused.{NoPlanServiceFails, PlanMembersFailed, RequiredFailed}
 use Rattle.fx_rounds.proofs.LeftOutLemmas.{all_leave, left_of_asks, left_out, marked, once}
 use Rattle.fx_rounds.proofs.LicenceLemmas.{asks_licensed}
 use Rattle.fx_rounds.proofs.RefusedLemmas.{named_at_ask, no_service_named, unasked_member, unasked_service}
+use Rattle.fx_rounds.proofs.NumberLemmas.{all_by_number, missing_come}
 
 abbrev given : PlanInRounds → Result PlanInRounds FedError
 given p = Ok p
@@ -60,6 +61,7 @@ module _ (w : WiresSeen) (es : List EndpointParts) (asked : Query) (new : List E
         record {
           left_out = subst (λ (v : List Left). AreLeftOut es v it.answers.kept.items) (sym lefts_are) (left_out es left it.answers.kept.items fit.may_leave fit.those_kept);
           leave = all_leave left [] p.abandoned (it.listed ∙ sym (append-nil (by_asks left))) (All-nil LeavesSomebody);
+          by_number = all_by_number left [] p.abandoned (it.listed ∙ sym (append-nil (by_asks left))) (fit.by_number (missing_come asked (length es) [])) (All-nil IsByNumber);
           counted = λ address.
               let counted : faults_at w.before address + (lefts_failed es address (left_in p.abandoned) + 0) ≤ faults_at w.after address = licence.counted address in
               omega (arith, counted);

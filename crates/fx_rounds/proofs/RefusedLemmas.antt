@@ -22,7 +22,7 @@ use Rattle.fx_outcomes.specs.Calls.{occurrences}
 use Rattle.fx_outcomes.specs.InRounds.{IsLast, IsRefusedAtAsks, IsUnasked, WentInRounds, plan_over}
 use Rattle.fx_outcomes.specs.Mediation.{AtNamed, HasName, IsNamed}
 use Rattle.fx_outcomes.specs.Outcomes.{HasOutcomeCause, HasRefusal, Outcomed}
-use Rattle.fx_outcomes.specs.RoundEnds.{AreAbandoned, IsToldOf, LeavesOut}
+use Rattle.fx_outcomes.specs.RoundEnds.{AreAbandoned, LeavesOut}
 use Rattle.fx_outcomes.specs.Rounds.{IsMarked, IsRequired, without_all}
 use Rattle.fx_outcomes.specs.declared.federated.FedError.{FedError}
 use Rattle.fx_outcomes.specs.declared.federated.FedError.TheVariants as fed
@@ -79,31 +79,23 @@ module _ (s u t : List Seen) (es : List EndpointParts) (name : List ℕ) (low : 
   named_at_batch us block texts xs (flow.RequestTooLong at size) k marked n = absurd n
   named_at_batch us block texts xs flow.Memory k marked n = absurd n
 
-  -- where members may be left out, a refusal is told of one that mustn't be
-  not_false : true ≡ false → ⊥
-  not_false h = cc
-
-  is_required : (why : FlowError) → IsToldOf true es why → IsRequired es why
-  is_required why (inl none) = absurd (not_false none)
-  is_required why (inr required) = required
-
-  named_at_last : (Untold : FlowError → Type 0) (tells alone : Bool) (q : Query) (plan : List Part) (block : ℕ) (ended : Result Outcome FedError) → (k : Outcomed (IsToldOf true es) Untold tells alone u t es q plan block ended) → IsLast ended (Err (fed.Member name)) → Rose
+  named_at_last : (Untold : FlowError → Type 0) (tells alone : Bool) (q : Query) (plan : List Part) (block : ℕ) (ended : Result Outcome FedError) → (k : Outcomed (IsRequired es) Untold tells alone u t es q plan block ended) → IsLast ended (Err (fed.Member name)) → Rose
   named_at_last Untold tells alone q plan block (Ok outcome) k same = absurd same
   named_at_last Untold tells alone q plan block (Err e) k same =
-      by (subst (HasOutcomeCause (IsToldOf true es) u t es plan k.found block k.calls k.texts k.of_runs) (sym same) k.cause)
+      by (subst (HasOutcomeCause (IsRequired es) u t es plan k.found block k.calls k.texts k.of_runs) (sym same) k.cause)
     where
-      by : HasOutcomeCause (IsToldOf true es) u t es plan k.found block k.calls k.texts k.of_runs (fed.Member name) → Rose
-      by (inl b) = named_at_batch (units_in (tasks_with plan k.found)) block k.texts k.of_runs b.0 b.1 (is_required b.0 b.3) b.2
+      by : HasOutcomeCause (IsRequired es) u t es plan k.found block k.calls k.texts k.of_runs (fed.Member name) → Rose
+      by (inl b) = named_at_batch (units_in (tasks_with plan k.found)) block k.texts k.of_runs b.0 b.1 b.3 b.2
       by (inr r) = absurd r
 
 -- ---- an occurrence
 
 module _ (Untold : FlowError → Type 0) (tells alone : Bool) (u t : List Seen) (es : List EndpointParts) (q : Query) (plan : List Part) (block : ℕ) (iri : List ℕ) where
-  service_at_last : (ended : Result Outcome FedError) → (k : Outcomed (IsToldOf true es) Untold tells alone u t es q plan block ended) → IsLast ended (Err (fed.Service iri)) → HasRefusal u t es k.calls (fed.Service iri)
+  service_at_last : (ended : Result Outcome FedError) → (k : Outcomed (IsRequired es) Untold tells alone u t es q plan block ended) → IsLast ended (Err (fed.Service iri)) → HasRefusal u t es k.calls (fed.Service iri)
   service_at_last (Ok outcome) k same = absurd same
-  service_at_last (Err e) k same = by (subst (HasOutcomeCause (IsToldOf true es) u t es plan k.found block k.calls k.texts k.of_runs) (sym same) k.cause)
+  service_at_last (Err e) k same = by (subst (HasOutcomeCause (IsRequired es) u t es plan k.found block k.calls k.texts k.of_runs) (sym same) k.cause)
     where
-      by : HasOutcomeCause (IsToldOf true es) u t es plan k.found block k.calls k.texts k.of_runs (fed.Service iri) → HasRefusal u t es k.calls (fed.Service iri)
+      by : HasOutcomeCause (IsRequired es) u t es plan k.found block k.calls k.texts k.of_runs (fed.Service iri) → HasRefusal u t es k.calls (fed.Service iri)
       by (inl b) = absurd (no_service_named es iri b.0 b.2)
       by (inr r) = r
 
@@ -142,7 +134,7 @@ members_failed w es asked new block name f = by f.went
     by (inr (inl h)) =
         named_at_ask w.before w.before w.after es name (λ a. omega arith) (missing asked (length es) []) h.asking.exchanges h.why h.asking.cause h.asking.required (subst (IsNamed es h.why) (sym (same h.error h.is)) h.named)
     by (inr (inr it)) =
-        named_at_last w.before it.went.between w.after es name (low_before w es asked new block (refused (fed.Member name)) it) (LeavesOut true es) w.tells w.alone asked (plan_over es asked [] it.answers it.went.last_kept) block it.went.ended it.went.last it.told
+        named_at_last w.before it.went.between w.after es name (low_before w es asked new block (refused (fed.Member name)) it) (LeavesOut es) w.tells w.alone asked (plan_over es asked [] it.answers it.went.last_kept) block it.went.ended it.went.last it.told
 
 pub services_failed : ServicesFailed
 services_failed w es asked new block iri told f = by f.went
@@ -155,7 +147,7 @@ services_failed w es asked new block iri told f = by f.went
     by (inr (inl h)) = absurd (no_service_named es iri h.why (subst (IsNamed es h.why) (sym (same h.error h.is)) h.named))
     by (inr (inr it)) =
         let last = it.went.last in
-        let k = service_at_last (LeavesOut true es) w.tells w.alone it.went.between w.after es asked (plan_over es asked [] it.answers it.went.last_kept) block iri it.went.ended it.went.last it.told in
+        let k = service_at_last (LeavesOut es) w.tells w.alone it.went.between w.after es asked (plan_over es asked [] it.answers it.went.last_kept) block iri it.went.ended it.went.last it.told in
         let before : faults_at w.before iri ≤ faults_at it.went.between iri = low_before w es asked new block (refused (fed.Service iri)) it iri in
         let later : faults_at it.went.between iri < faults_at w.after iri = k.2 in
         let risen : faults_at w.before iri < faults_at w.after iri = omega (arith, before, later) in (

@@ -27,7 +27,7 @@ use Rattle.fx_outcomes.specs.declared.rounds.OutcomeInRounds.{OutcomeInRounds}
 use Rattle.fx_outcomes.specs.declared.rounds.PlanInRounds.{PlanInRounds}
 use Rattle.fx_outcomes.specs.declared.rounds.Round.{Round}
 use Rattle.fx_rounds.specs.Down.{AreDown, unregistered}
-use Rattle.fx_rounds.specs.LeftOut.{AreLeftOut, LeavesSomebody, left_in}
+use Rattle.fx_rounds.specs.LeftOut.{AreLeftOut, IsByNumber, LeavesSomebody, left_in}
 use Rattle.fx_rounds.specs.Licences.{Licence, downs_failed, lefts_failed}
 use Rattle.fx_rounds.specs.Sums.{AreEnough}
 use Rattle.fx_rounds.specs.Traffic.{SendsRound}
@@ -61,13 +61,14 @@ pub record SentInRounds (w : WiresSeen) (endpoints : List EndpointParts) (asked 
 
 -- ---- an answer
 
--- Each round leaves somebody out. The members that rounds leave out may be left out, each once, and the others are kept. Each occurrence of SERVICE came in the last round to what it did by its own exchanges alone, which are some of that
+-- Each round leaves somebody out, and lists who it leaves out by number. The members that rounds leave out may be left out, each once, and the others are kept. Each occurrence of SERVICE came in the last round to what it did by its own exchanges alone, which are some of that
 -- round's, and these are down. No address has more members that were left out and occurrences that are down since an exchange failed than its count of faults rose by; and each that is for a bad reply
 -- has an exchange of its own with this reply, which is bad for what that exchange asks for of the query, as those have that were down in rounds which were abandoned. Where there is no other reason than
 -- that the IRI is no endpoint's, those are down of which this is so.
 pub record AreLicensed (w : WiresSeen) (endpoints : List EndpointParts) (asked : Query) (block : ℕ) (kept : List Bool) (rounds : List Round) (noted : List Down) : Type 0 where
   pub left_out : AreLeftOut endpoints (left_in rounds) kept
   pub leave : All LeavesSomebody rounds
+  pub by_number : All IsByNumber rounds
   pub down : AreDown asked noted
   pub counted : (address : List ℕ) → faults_at w.before address + (lefts_failed endpoints address (left_in rounds) + downs_failed address noted) ≤ faults_at w.after address
   pub exchanges : List Exchange
@@ -104,11 +105,12 @@ FaultsAreTold = (w : WiresSeen) (endpoints : List EndpointParts) (asked : Query)
 
 -- ---- a plan
 
--- The members that the ASKs of a query leave out may be left out, each once, and the others are kept. Nothing but ASKs was exchanged; no address has more members that were left out since an
+-- The members that the ASKs of a query leave out may be left out, each once, listed by number, and the others are kept. Nothing but ASKs was exchanged; no address has more members that were left out since an
 -- exchange failed than its count of faults rose by; and each that is for a bad reply has an exchange of its own with this reply, which is bad for what that exchange asks for of the query.
 pub record IsPlanLicensed (w : WiresSeen) (endpoints : List EndpointParts) (asked : Query) (kept : List Bool) (rounds : List Round) : Type 0 where
   pub left_out : AreLeftOut endpoints (left_in rounds) kept
   pub leave : All LeavesSomebody rounds
+  pub by_number : All IsByNumber rounds
   pub counted : (address : List ℕ) → faults_at w.before address + lefts_failed endpoints address (left_in rounds) ≤ faults_at w.after address
   pub exchanges : List Exchange
   pub gained : IsTrue w.tells → HaveGained w.before w.after exchanges

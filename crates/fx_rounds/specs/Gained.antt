@@ -1,5 +1,5 @@
 -- What a query exchanged in all that was asked in rounds.
-use Rattle.std.specs.Prelude.{◌⊎◌, ◌++◌, ◌∷◌, ℕ, Bool, List, [], IsPermutation, IsTrue, Result}
+use Rattle.std.specs.Prelude.{◌⊎◌, ◌++◌, ◌∷◌, ℕ, Bool, List, [], IsPermutation, IsTrue, Result, ◌≡◌, All, Contains, Some, slice_get}
 use Rattle.std.proofs.Common.{inl, inr}
 use Rattle.fx_outside.specs.Endpoints.{EndpointParts}
 use Rattle.fx_algebra.specs.declared.queries.Query.{Query}
@@ -14,6 +14,7 @@ use Rattle.fx_outcomes.specs.Rounds.{without_all}
 use Rattle.fx_outcomes.specs.declared.federated.FedError.{FedError}
 use Rattle.fx_outcomes.specs.declared.rounds.OutcomeInRounds.{OutcomeInRounds}
 use Rattle.fx_outcomes.specs.declared.rounds.Round.{Round}
+use Rattle.std.specs.List.{flat_map}
 
 -- what each of these rounds exchanged, in their order
 abbrev pub rounds_exchanged : (tells alone : Bool) (before after : List Seen) (endpoints : List EndpointParts) (q : Query) (plan : List Bool → List Part) (block : ℕ) (kept last : List Bool) (rounds : List Round)
@@ -47,3 +48,41 @@ abbrev pub RoundsHaveGained : Type 0
 RoundsHaveGained = (tells alone : Bool) (before after : List Seen) (endpoints : List EndpointParts) (q : Query) (old new : List Entry) (block : ℕ) (result : Result OutcomeInRounds FedError)
     → AllTell tells before → (f : FederatedInRounds tells alone before after endpoints q old new block result)
     → GainedInAll tells before after (all_exchanged tells alone before after endpoints q old new block result f.went)
+
+-- ---- one after the other
+
+-- what each of these rounds exchanged, by itself
+abbrev pub each_exchanged : (tells alone : Bool) (before after : List Seen) (endpoints : List EndpointParts) (q : Query) (plan : List Bool → List Part) (block : ℕ) (kept last : List Bool) (rounds : List Round)
+    → AreAbandoned tells alone before after endpoints q plan block kept last rounds → List (List Exchange)
+each_exchanged tells alone before after endpoints q plan block kept last [] c = []
+each_exchanged tells alone before after endpoints q plan block kept last (r ∷ rounds) c =
+    c.1.went.exchanges ∷ each_exchanged tells alone c.0 after endpoints q plan block (without_all r.left kept) last rounds c.3
+
+-- the ASKs, each round that was abandoned, and the last one
+abbrev pub stages_of : (tells alone : Bool) (before after : List Seen) (endpoints : List EndpointParts) (q : Query) (old new : List Entry) (block : ℕ) (result : Result OutcomeInRounds FedError)
+    → WentInRounds tells alone before after endpoints q old new block result → List (List Exchange)
+stages_of tells alone before after endpoints q old new block result w =
+    w.asking.exchanges ∷ (each_exchanged tells alone w.asked w.went.between endpoints q (plan_over endpoints q old w.answers) block w.answers.kept.items w.went.last_kept w.went.abandoned w.went.rounds ++ w.went.last.exchanges ∷ [])
+
+-- the logs gained these stages, each behind the one before it
+abbrev pub HaveGainedInTurn : List Seen → List Seen → List (List Exchange) → Type 0
+HaveGainedInTurn before after [] = after ≡ before
+HaveGainedInTurn before after (xs ∷ stages) = (between : List Seen) × HaveGained before between xs × HaveGainedInTurn between after stages
+
+abbrev pub RoundsGainInTurn : Type 0
+RoundsGainInTurn = (tells alone : Bool) (before after : List Seen) (endpoints : List EndpointParts) (q : Query) (old new : List Entry) (block : ℕ) (result : Result OutcomeInRounds FedError)
+    → IsTrue tells → (w : WentInRounds tells alone before after endpoints q old new block result)
+    → HaveGainedInTurn before after (stages_of tells alone before after endpoints q old new block result w)
+
+-- each of these parts is some exchanges of its stage
+abbrev pub ArePartsOf : List (List Exchange) → List (List Exchange) → Type 0
+ArePartsOf [] [] = Unit {0}
+ArePartsOf [] (xs ∷ stages) = ⊥
+ArePartsOf (own ∷ parts) [] = ⊥
+ArePartsOf (own ∷ parts) (xs ∷ stages) = All (Contains xs) own × ArePartsOf parts stages
+
+-- so what one wire's log gained is a part of each stage, in their order
+abbrev pub EachLogIsInTurn : Type 0
+EachLogIsInTurn = (before after : List Seen) (stages : List (List Exchange)) → HaveGainedInTurn before after stages
+    → (k : ℕ) (earlier later : Seen) → slice_get before k ≡ Some earlier → slice_get after k ≡ Some later
+    → (parts : List (List Exchange)) × ArePartsOf parts stages × (later.log ≡ earlier.log ++ flat_map (λ (xs : List Exchange). xs) parts)

@@ -1,5 +1,5 @@
 -- Who is left out of a query that was asked in rounds, and of whom each round asked.
-use Rattle.std.specs.Prelude.{◌≡◌, ◌≢◌, ◌<◌, ◌==◌, ℕ, Bool, true, not, List, [], ◌∷◌, All, AllPairs, Result, Ok, Some, length, slice_get}
+use Rattle.std.specs.Prelude.{◌≡◌, ◌≢◌, ◌<◌, ◌==◌, ℕ, Bool, true, false, not, List, [], ◌∷◌, All, AllPairs, Result, Ok, Some, length, slice_get}
 use Rattle.std.specs.List.{flat_map, list_any}
 use Rattle.fx_outside.specs.Endpoints.{EndpointParts}
 use Rattle.fx_algebra.specs.Units.{is_kept}
@@ -10,7 +10,7 @@ use Rattle.fx_traffic.specs.Sent.{Sent, sent_of}
 use Rattle.fx_wire.specs.Exchanges.{Exchange, Seen}
 use Rattle.fx_outcomes.specs.InRounds.{FederatedInRounds, WentInRounds, plan_over}
 use Rattle.fx_outcomes.specs.RoundEnds.{AreAbandoned}
-use Rattle.fx_outcomes.specs.Rounds.{IsMarked, everybody, without_all}
+use Rattle.fx_outcomes.specs.Rounds.{IsMarked, RiseByNumber, everybody, without_all}
 use Rattle.fx_outcomes.specs.declared.federated.FedError.{FedError}
 use Rattle.fx_outcomes.specs.declared.rounds.Left.{Left}
 use Rattle.fx_outcomes.specs.declared.rounds.OutcomeInRounds.{OutcomeInRounds}
@@ -31,6 +31,10 @@ left_in rounds = flat_map (λ r. r.left) rounds
 abbrev pub LeavesSomebody : Round → Type 0
 LeavesSomebody r = r.left ≢ []
 
+-- the members that it leaves out are listed by number
+abbrev pub IsByNumber : Round → Type 0
+IsByNumber r = RiseByNumber 0 r.left
+
 -- one of these has the number
 abbrev pub is_listed : List Left → ℕ → Bool
 is_listed left at = list_any (λ l. l.at == at) left
@@ -46,6 +50,16 @@ pub record AreLeftOut (endpoints : List EndpointParts) (left : List Left) (kept 
 abbrev pub MembersAreLeftOnce : Type 0
 MembersAreLeftOnce = (tells alone : Bool) (before after : List Seen) (endpoints : List EndpointParts) (q : Query) (old new : List Entry) (block : ℕ) (all : OutcomeInRounds)
     → (w : WentInRounds tells alone before after endpoints q old new block (Ok all)) → AreLeftOut endpoints (left_in all.abandoned) w.went.last_kept
+
+-- queries can't do without it
+abbrev pub IsUnmarked : EndpointParts → Type 0
+IsUnmarked e = e.optional ≡ false
+
+-- where that is so of each, nobody is left out
+abbrev pub NobodyIsLeft : Type 0
+NobodyIsLeft = (tells alone : Bool) (before after : List Seen) (endpoints : List EndpointParts) (q : Query) (old new : List Entry) (block : ℕ) (result : Result OutcomeInRounds FedError)
+    → (w : WentInRounds tells alone before after endpoints q old new block result) → All IsUnmarked endpoints
+    → (w.answers.left.items ≡ []) × (w.went.abandoned ≡ []) × (w.went.last_kept ≡ everybody endpoints)
 
 -- ---- of whom is asked
 

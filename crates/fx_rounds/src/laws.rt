@@ -1,8 +1,8 @@
 //! Laws of queries that were asked in rounds, each the contract of a function that does nothing.
 ghost use Rattle.fx_rounds.specs.Answered.{AnswersRestOnThis, FaultsAreTold, PlansCountNone, PlansRestOnThis};
 ghost use Rattle.fx_rounds.specs.Counts.{LicencesCount, NumbersAreTold};
-ghost use Rattle.fx_rounds.specs.Gained.{RoundsHaveGained};
-ghost use Rattle.fx_rounds.specs.LeftOut.{AnswersWent, KeptAreAsked, MembersAreLeftOnce};
+ghost use Rattle.fx_rounds.specs.Gained.{EachLogIsInTurn, RoundsGainInTurn, RoundsHaveGained};
+ghost use Rattle.fx_rounds.specs.LeftOut.{AnswersWent, KeptAreAsked, MembersAreLeftOnce, NobodyIsLeft};
 ghost use Rattle.fx_rounds.specs.Licences.{AnswersAreLicensed, LicencesInAnyOrder};
 ghost use Rattle.fx_rounds.specs.Refused.{MembersFailed, NoPlanServiceFails, PlanMembersFailed, ServicesFailed};
 ghost use Rattle.fx_rounds.specs.Sums.{FaultsAndRefusalsAreEnough};
@@ -14,6 +14,16 @@ pub fn rounds_have_gained()
     ensures { RoundsHaveGained }
 {}
 
+/// Where the wires tell their logs, these gained the ASKs first, then each round that was abandoned, and then the last one.
+pub fn rounds_gain_in_turn()
+    ensures { RoundsGainInTurn }
+{}
+
+/// So one wire's log gained a part of the ASKs, then of each round that was abandoned, and then of the last one.
+pub fn each_log_is_in_turn()
+    ensures { EachLogIsInTurn }
+{}
+
 /// Where there is an answer, the ASKs were asked, and then the rounds.
 pub fn answers_went()
     ensures { AnswersWent }
@@ -23,6 +33,11 @@ pub fn answers_went()
 /// round left out.
 pub fn members_are_left_once()
     ensures { MembersAreLeftOnce }
+{}
+
+/// Where no member may be left out, nobody is, and no round is abandoned.
+pub fn nobody_is_left()
+    ensures { NobodyIsLeft }
 {}
 
 /// Each batch that a round asks for is for a member that is kept in it.

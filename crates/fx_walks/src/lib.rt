@@ -4,7 +4,6 @@
 pub mod laws;
 pub mod optionals;
 pub mod parts;
-pub mod planning;
 pub mod sections;
 pub mod tasks;
 pub mod unknown;

@@ -4,7 +4,6 @@ use Rattle.fx_pool.proofs.WireLemmas.{after_itself}
 use Rattle.fx_pool.proofs.WiresLemmas.{all_tell}
 use Rattle.fx_rounds.proofs.GainedLemmas.{rounds_have_gained}
 use Rattle.fx_sources.specs.Probes.{Entry}
-use Rattle.fx_commands.proofs.UnmarkedLemmas.{as_federated}
 use Rattle.fx_commands.proofs.federated.outcome.Goals as goal
 
 pub returns-in-Ok-clause-answered : goal.returns-in-Ok-clause-answered
@@ -13,19 +12,18 @@ returns-in-Ok-clause-answered g c =
     let tells = g.W.Wire.tells_log in
     let alone = g.W.Wire.counts_alone in
     let s = map see c.args.wires.now in
-    let t = map see c.federate_in_rounds.new.wires in
+    let t = map see c.federate.new.wires in
     let es = c.args.members.now in
     let q = c.args.query.now in
-    let new = c.federate_in_rounds.new.cache in
+    let new = c.federate.new.cache in
     let laws = g.met.W.Wire g.world.𝓛 g.world.𝓜 g.world.𝓡 ((λ s x. x), (λ x. x), (λ x. x), λ x. x) in
     let alike = all_tell see tells laws.told c.args.wires.now in
-    let in_rounds = subst (λ (old : List Entry). FederatedInRounds tells alone s t es q old new c.args.block c.federate_in_rounds.result) c.in-Ok.ensures c.federate_in_rounds.ensures in
+    let in_rounds = subst (λ (old : List Entry). FederatedInRounds tells alone s t es q old new c.args.block c.federate.result) c.in-Ok.ensures c.federate.ensures in
     inr
     (record {
       alike = alike;
       entries = new;
       in_rounds = in_rounds;
-      in_one = λ unmarked. as_federated tells alone s t es q [] new c.args.block c.federate_in_rounds.result c.requires.spellable alike unmarked in_rounds;
     })
 
 pub returns-in-Err-clause-wired : goal.returns-in-Err-clause-wired
@@ -38,5 +36,5 @@ returns-in-Ok-clause-wired g c =
     let laws = g.met.W.Wire g.world.𝓛 g.world.𝓜 g.world.𝓡 ((λ s x. x), (λ x. x), (λ x. x), λ x. x) in
     let alike = all_tell see tells laws.told c.args.wires.now in
     let all =
-    rounds_have_gained tells g.W.Wire.counts_alone (map see c.args.wires.now) (map see c.federate_in_rounds.new.wires) c.args.members.now c.args.query.now c.in-Ok.cache c.federate_in_rounds.new.cache c.args.block c.federate_in_rounds.result alike c.federate_in_rounds.ensures in
+    rounds_have_gained tells g.W.Wire.counts_alone (map see c.args.wires.now) (map see c.federate.new.wires) c.args.members.now c.args.query.now c.in-Ok.cache c.federate.new.cache c.args.block c.federate.result alike c.federate.ensures in
     all.after_all

@@ -1,10 +1,11 @@
 use Rattle.std.proofs.Common.{subst, refl, map}
-use Rattle.fx_outcomes.specs.RoundEnds.{IsToldOf, LeavesOut}
+use Rattle.fx_outcomes.specs.RoundEnds.{LeavesOut}
+use Rattle.fx_outcomes.specs.Rounds.{IsRequired}
 use Rattle.fx_engine.specs.Asked.{HasRowsCause}
 use Rattle.fx_walks.specs.GroupsAsked.{units_in}
 use Rattle.fx_walks.specs.Tasks.{tasks_with}
 use Rattle.fx_engine.proofs.AskedLemmas.{all_tell}
-use Rattle.fx_engine.proofs.BatchCauseLemmas.{flow_placed}
+use Rattle.fx_engine.proofs.PlacedLemmas.{flow_placed}
 use Rattle.fx_engine.proofs.RefusalLemmas.{all_given, refused_as_told}
 use Rattle.fx_engine.proofs.RoundLemmas.{ended_for}
 use Rattle.fx_outcomes.proofs.TaskLemmas.{all_at_hand}
@@ -27,18 +28,16 @@ returns-in-Ok g c start tell invoked =
     let see = g.W.Wire.seen in
     let tells = g.W.Wire.tells_log in
     let told_so = g.met.W.Wire.told in
-    let leaves = c.args.question.now.leaves in
     let es = c.args.question.now.registry.now in
     all_given tells g.W.Wire.counts_alone start (map see c.args.wires.now) (map see c.answer_with.new.wires) tell (all_tell see tells told_so c.args.wires.now) es c.args.question.now.query.now c.requires.spellable.0 c.requires.spellable.1 c.args.plan.items c.args.question.now.block c.args.rows.items
-    c.args.down.items invoked (IsToldOf leaves es) (LeavesOut leaves es) _ c.in-Ok.answer c.in-Ok.ensures refl c.from_vec.ensures
+    c.args.down.items invoked (IsRequired es) (LeavesOut es) _ c.in-Ok.answer c.in-Ok.ensures refl c.from_vec.ensures
 
 pub returns-in-Err-Flow : goal.returns-in-Err-Flow
 returns-in-Err-Flow g c start tell invoked =
     let see = g.W.Wire.seen in
     let tells = g.W.Wire.tells_log in
     let told_so = g.met.W.Wire.told in
-    let leaves = c.args.question.now.leaves in
     let es = c.args.question.now.registry.now in
     ended_for tells g.W.Wire.counts_alone start (map see c.args.wires.now) (map see c.answer_with.new.wires) tell (all_tell see tells told_so c.args.wires.now) es c.args.question.now.query.now c.requires.spellable.0 c.requires.spellable.1 c.args.plan.items c.args.question.now.block c.args.rows.items
-    c.args.down.items invoked leaves c.in-Err-Flow.error (subst (refused_as_told es c.args.question.now.query.now c.args.plan.items c.args.rows.items c.args.question.now.block tells g.W.Wire.counts_alone (map see c.args.wires.now) (map see c.answer_with.new.wires)) c.in-Err-Flow.field-0-is c.in-Err-Flow.ensures)
+    c.args.down.items invoked c.in-Err-Flow.error (subst (refused_as_told es c.args.question.now.query.now c.args.plan.items c.args.rows.items c.args.question.now.block tells g.W.Wire.counts_alone (map see c.args.wires.now) (map see c.answer_with.new.wires)) c.in-Err-Flow.field-0-is c.in-Err-Flow.ensures)
     c.end_for.result c.as_slice.result.now c.as_slice.ensures.value c.end_for.ensures

@@ -1,7 +1,8 @@
 use Rattle.std.proofs.Common.{inr, subst, map}
 use Rattle.fx_outcomes.specs.Calls.{occurrences}
 use Rattle.fx_outcomes.specs.Invocations.{InvokedBy}
-use Rattle.fx_outcomes.specs.RoundEnds.{IsToldOf, LeavesOut}
+use Rattle.fx_outcomes.specs.RoundEnds.{LeavesOut}
+use Rattle.fx_outcomes.specs.Rounds.{IsRequired}
 use Rattle.fx_engine.proofs.AskedLemmas.{all_tell}
 use Rattle.fx_engine.proofs.RefusalLemmas.{lost_outcomed, placed_so}
 use Rattle.fx_engine.proofs.outcomes.outcome_by_plan.Goals as goal
@@ -11,7 +12,7 @@ returns-in-Err g c =
     let see = g.W.Wire.seen in
     let tells = g.W.Wire.tells_log in
     let told_so = g.met.W.Wire.told in
-    lost_outcomed tells g.W.Wire.counts_alone (map see c.args.wires.now) (map see c.invoke_all.new.wires) (all_tell see tells told_so c.args.wires.now) (all_tell see tells told_so c.invoke_all.new.wires) c.args.question.now.registry.now c.args.question.now.query.now c.requires.spellable.0 c.requires.spellable.1 c.args.plan.items c.args.question.now.block c.in-Err.ensures (IsToldOf c.args.question.now.leaves c.args.question.now.registry.now) (LeavesOut c.args.question.now.leaves c.args.question.now.registry.now) (inr tt)
+    lost_outcomed tells g.W.Wire.counts_alone (map see c.args.wires.now) (map see c.invoke_all.new.wires) (all_tell see tells told_so c.args.wires.now) (all_tell see tells told_so c.invoke_all.new.wires) c.args.question.now.registry.now c.args.question.now.query.now c.requires.spellable.0 c.requires.spellable.1 c.args.plan.items c.args.question.now.block c.in-Err.ensures (IsRequired c.args.question.now.registry.now) (LeavesOut c.args.question.now.registry.now) tt
 
 pub refuse-requires-clause-placed : goal.refuse-requires-clause-placed
 refuse-requires-clause-placed g c =

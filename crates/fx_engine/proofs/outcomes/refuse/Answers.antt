@@ -3,10 +3,11 @@ use Rattle.fx_outside.specs.Endpoints.{EndpointParts}
 use Rattle.fx_engine.specs.Asked.{HasRowsCause}
 use Rattle.fx_walks.specs.GroupsAsked.{units_in}
 use Rattle.fx_outcomes.specs.Outcomes.{IsTold}
-use Rattle.fx_outcomes.specs.RoundEnds.{IsToldOf, LeavesOut}
+use Rattle.fx_outcomes.specs.RoundEnds.{LeavesOut}
+use Rattle.fx_outcomes.specs.Rounds.{IsRequired}
 use Rattle.fx_walks.specs.Tasks.{tasks_with}
 use Rattle.fx_engine.proofs.AskedLemmas.{all_tell}
-use Rattle.fx_engine.proofs.BatchCauseLemmas.{flow_placed}
+use Rattle.fx_engine.proofs.PlacedLemmas.{flow_placed}
 use Rattle.fx_engine.proofs.RefusalLemmas.{refused_as_told, told_at_the_end, told_behind}
 use Rattle.fx_engine.proofs.RoundLemmas.{refused_first}
 use Rattle.fx_engine.proofs.outcomes.refuse.Goals as goal
@@ -24,7 +25,7 @@ returns-in-Err-Flow g c start tell stopped =
     let told_so = g.met.W.Wire.told in
     let es = c.args.question.now.registry.now in
     refused_first tells g.W.Wire.counts_alone start (map see c.args.wires.now) (map see c.answer_with.new.wires) tell (all_tell see tells told_so c.args.wires.now) es c.args.question.now.query.now c.requires.spellable.0 c.requires.spellable.1 c.args.plan.items c.args.question.now.block c.args.rows.items
-    c.args.error stopped c.args.question.now.leaves c.in-Err-Flow.first (subst (refused_as_told es c.args.question.now.query.now c.args.plan.items c.args.rows.items c.args.question.now.block tells g.W.Wire.counts_alone (map see c.args.wires.now) (map see c.answer_with.new.wires)) c.in-Err-Flow.field-0-is c.in-Err-Flow.ensures)
+    c.args.error stopped c.in-Err-Flow.first (subst (refused_as_told es c.args.question.now.query.now c.args.plan.items c.args.rows.items c.args.question.now.block tells g.W.Wire.counts_alone (map see c.args.wires.now) (map see c.answer_with.new.wires)) c.in-Err-Flow.field-0-is c.in-Err-Flow.ensures)
     c.first_refusal.result c.first_refusal.ensures
 
 pub returns-in-Err-Refused : goal.returns-in-Err-Refused
@@ -32,10 +33,9 @@ returns-in-Err-Refused g c start tell stopped =
     let see = g.W.Wire.seen in
     let tells = g.W.Wire.tells_log in
     let told_so = g.met.W.Wire.told in
-    let leaves = c.args.question.now.leaves in
     let es = c.args.question.now.registry.now in
     told_behind tells g.W.Wire.counts_alone start (map see c.args.wires.now) (map see c.answer_with.new.wires) tell (all_tell see tells told_so c.args.wires.now) es c.args.question.now.query.now c.requires.spellable.0 c.requires.spellable.1 c.args.plan.items c.args.question.now.block c.args.rows.items
-    c.args.error stopped (IsToldOf leaves es) (LeavesOut leaves es) (subst (refused_as_told es c.args.question.now.query.now c.args.plan.items c.args.rows.items c.args.question.now.block tells g.W.Wire.counts_alone (map see c.args.wires.now) (map see c.answer_with.new.wires)) c.in-Err-Refused.field-0-is c.in-Err-Refused.ensures) c.told.result
+    c.args.error stopped (IsRequired es) (LeavesOut es) (subst (refused_as_told es c.args.question.now.query.now c.args.plan.items c.args.rows.items c.args.question.now.block tells g.W.Wire.counts_alone (map see c.args.wires.now) (map see c.answer_with.new.wires)) c.in-Err-Refused.field-0-is c.in-Err-Refused.ensures) c.told.result
     (subst (λ (v : List EndpointParts). IsTold v c.args.error c.told.result) c.endpoints.ensures.value c.told.ensures)
 
 pub returns : goal.returns
@@ -43,8 +43,7 @@ returns g c start tell stopped =
     let see = g.W.Wire.seen in
     let tells = g.W.Wire.tells_log in
     let told_so = g.met.W.Wire.told in
-    let leaves = c.args.question.now.leaves in
     let es = c.args.question.now.registry.now in
     told_at_the_end tells g.W.Wire.counts_alone start (map see c.args.wires.now) (map see c.answer_with.new.wires) tell (all_tell see tells told_so c.args.wires.now) es c.args.question.now.query.now c.requires.spellable.0 c.requires.spellable.1 c.args.plan.items c.args.question.now.block c.args.rows.items
-    c.args.error stopped (IsToldOf leaves es) (LeavesOut leaves es) c.in-Ok.field-0 c.in-Ok.ensures c.told-in-Ok.result
+    c.args.error stopped (IsRequired es) (LeavesOut es) c.in-Ok.field-0 c.in-Ok.ensures c.told-in-Ok.result
     (subst (λ (v : List EndpointParts). IsTold v c.args.error c.told-in-Ok.result) c.endpoints-in-Ok.ensures.value c.told-in-Ok.ensures)

@@ -17,5 +17,5 @@ outcome_by_plan-requires-clause-asked g c found =
 
 pub returns-in-Ok : goal.returns-in-Ok
 returns-in-Ok g c =
-    over_round g.W.Wire.tells_log g.W.Wire.counts_alone c.args.question.now c.args.cache.now c.args.answers.now (map g.W.Wire.seen c.args.wires.now) (map g.W.Wire.seen c.outcome_by_plan.new.wires) c.args.kept.now c.in-Ok.parts.items c.requires.leaves c.in-Ok.ensures.parts
+    over_round g.W.Wire.tells_log g.W.Wire.counts_alone c.args.question.now c.args.cache.now c.args.answers.now (map g.W.Wire.seen c.args.wires.now) (map g.W.Wire.seen c.outcome_by_plan.new.wires) c.args.kept.now c.in-Ok.parts.items c.in-Ok.ensures.parts
     c.outcome_by_plan.result c.outcome_by_plan.ensures

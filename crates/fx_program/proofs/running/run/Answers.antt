@@ -10,12 +10,12 @@ use Rattle.fx_program.specs.Headline.{Headline}
 use Rattle.fx_local.specs.Lines.{Gains, usage_line, no_memory}
 use Rattle.fx_local.specs.Local.{IsAnswer}
 use Rattle.fx_commands.specs.Query.{IsQueryWritten, IsUnionAnswer}
-use Rattle.fx_program.specs.Runs.{Reports, wires_used}
+use Rattle.fx_program.specs.Runs.{Reports, WritesGiven, wires_used}
 use Rattle.fx_local.specs.Sinks.{IsCutShort, sink_written}
 use Rattle.fx_local.specs.declared.statuses.Status.TheVariants as status
 use Rattle.fx_program.proofs.CompletenessLemmas.{explain_completes, local_completes, making_completes, member_completes, query_completes, want_completes}
 use Rattle.fx_local.proofs.GainLemmas.{gains_alone}
-use Rattle.fx_program.proofs.HeadlineLemmas.{explain_headline, local_headline, making_headline, no_headline, query_headline}
+use Rattle.fx_program.proofs.HeadlineLemmas.{explain_headline, local_headline, making_headline, no_headline, query_headline, usage_gives_nothing, want_gives_nothing}
 use Rattle.fx_program.proofs.ReportLemmas.{file_counts, file_reported, making_counts, making_cut, making_reported, making_written, members_counts, members_cut, members_reported, members_written, memory_reported, nothing_written, plan_counts, plan_cut, plan_reported, plan_written, serving_counts, serving_reported, usage_reported}
 use Rattle.fx_commands.proofs.FaultLemmas.{counts_down}
 use Rattle.fx_program.proofs.UsedLemmas.{on_same, on_taken, on_used, used_after, used_down, used_left}
@@ -34,6 +34,14 @@ returns-in-Err-Usage-clause-reported g c =
     (wires_used a) c.args.wires.now
     ([], usage_line, usage_reported read _ door a err (rw c.in-Err-Usage.field-0-is at c.in-Err-Usage.ensures.asked) refl, λ tells. gains_alone _ _ _ _ usage_line (c.write_usage.ensures tells))
 
+pub returns-in-Err-Usage-clause-given : goal.returns-in-Err-Usage-clause-given
+returns-in-Err-Usage-clause-given g c =
+    let a = asked (map (λ w. string_bytes w) c.args.words.now) in
+    let read = file_read (g.F.Files.seen c.args.files.now) (g.F.Files.seen c.args.files.now) in
+    let out = sink_written g.O.Ends.tells_held g.O.Ends.held g.O.Ends.write_faults c.args.out.now c.args.out.now in
+    let err = sink_written g.E.Ends.tells_held g.E.Ends.held g.E.Ends.write_faults c.args.err.now c.write_usage.new.err in
+    on_same g.W.Wire.seen g.W.Wire.tells_log g.W.Wire.counts_alone (λ (w : WiresSeen). WritesGiven read w a status.Usage out err) (wires_used a) c.args.wires.now (usage_gives_nothing read _ a out err)
+
 pub returns-in-Err-Usage-clause-wired : goal.returns-in-Err-Usage-clause-wired
 returns-in-Err-Usage-clause-wired g c = after_itself (map g.W.Wire.seen c.args.wires.now)
 
@@ -44,6 +52,14 @@ returns-in-Err-Memory-clause-headline g c =
     let out = sink_written g.O.Ends.tells_held g.O.Ends.held g.O.Ends.write_faults c.args.out.now c.args.out.now in
     let err = sink_written g.E.Ends.tells_held g.E.Ends.held g.E.Ends.write_faults c.args.err.now c.write_refusal.new.err in
     on_same g.W.Wire.seen g.W.Wire.tells_log g.W.Wire.counts_alone (λ (w : WiresSeen). Headline read w a status.NoMemory out err) (wires_used a) c.args.wires.now (no_headline read _ a out err)
+
+pub returns-in-Err-Memory-clause-given : goal.returns-in-Err-Memory-clause-given
+returns-in-Err-Memory-clause-given g c =
+    let a = asked (map (λ w. string_bytes w) c.args.words.now) in
+    let read = file_read (g.F.Files.seen c.args.files.now) (g.F.Files.seen c.args.files.now) in
+    let out = sink_written g.O.Ends.tells_held g.O.Ends.held g.O.Ends.write_faults c.args.out.now c.args.out.now in
+    let err = sink_written g.E.Ends.tells_held g.E.Ends.held g.E.Ends.write_faults c.args.err.now c.write_refusal.new.err in
+    on_same g.W.Wire.seen g.W.Wire.tells_log g.W.Wire.counts_alone (λ (w : WiresSeen). WritesGiven read w a status.NoMemory out err) (wires_used a) c.args.wires.now (want_gives_nothing read _ a out err)
 
 pub returns-in-Err-Memory-clause-completes : goal.returns-in-Err-Memory-clause-completes
 returns-in-Err-Memory-clause-completes g c =
@@ -83,6 +99,17 @@ returns-in-Ok-Local-clause-headline g c =
     on_same g.W.Wire.seen g.W.Wire.tells_log g.W.Wire.counts_alone (λ (w : WiresSeen). Headline read w a c.run_local.result out err) (wires_used a) c.args.wires.now
     (subst (λ (o : Option Asked). Headline read w o c.run_local.result out err) (sym (rw c.in-Ok-Local.field-0-is at c.in-Ok-Local.ensures.asked))
     (local_headline (read c.in-Ok-Local.graph.now) (read c.in-Ok-Local.query.now) c.run_local.result out err c.run_local.ensures.written c.run_local.ensures.lines))
+
+pub returns-in-Ok-Local-clause-given : goal.returns-in-Ok-Local-clause-given
+returns-in-Ok-Local-clause-given g c =
+    let a = asked (map (λ w. string_bytes w) c.args.words.now) in
+    let w : WiresSeen = wires_seen g.W.Wire.tells_log g.W.Wire.counts_alone g.W.Wire.seen (take (wires_used a) c.args.wires.now) (take (wires_used a) c.args.wires.now) in
+    let read = file_read (g.F.Files.seen c.args.files.now) (g.F.Files.seen c.run_local.new.files) in
+    let out = sink_written g.O.Ends.tells_held g.O.Ends.held g.O.Ends.write_faults c.args.out.now c.run_local.new.out in
+    let err = sink_written g.E.Ends.tells_held g.E.Ends.held g.E.Ends.write_faults c.args.err.now c.run_local.new.err in
+    on_same g.W.Wire.seen g.W.Wire.tells_log g.W.Wire.counts_alone (λ (w : WiresSeen). WritesGiven read w a c.run_local.result out err) (wires_used a) c.args.wires.now
+    (subst (λ (o : Option Asked). WritesGiven read w o c.run_local.result out err) (sym (rw c.in-Ok-Local.field-0-is at c.in-Ok-Local.ensures.asked))
+    tt)
 
 pub returns-in-Ok-Local-clause-completes : goal.returns-in-Ok-Local-clause-completes
 returns-in-Ok-Local-clause-completes g c =
@@ -130,6 +157,19 @@ returns-in-Ok-Query-clause-headline g c =
     (ap wires_used is) c.min.ensures c.split_at_mut-used.ensures.front c.split_at_mut-used.ensures.back
     (subst (λ (o : Option Asked). Headline read w o c.run_query.result out err) (sym is)
     (query_headline w (read c.in-Ok-Query.registry.now) (read c.in-Ok-Query.query.now) c.in-Ok-Query.block c.run_query.result told.0 out err told.1 told.2 c.run_query.ensures.done c.run_query.ensures.cut))
+
+pub returns-in-Ok-Query-clause-given : goal.returns-in-Ok-Query-clause-given
+returns-in-Ok-Query-clause-given g c =
+    let a = asked (map (λ w. string_bytes w) c.args.words.now) in
+    let is : a ≡ Some (over_members c.in-Ok-Query.registry.now c.in-Ok-Query.query.now c.in-Ok-Query.workers c.in-Ok-Query.block) = rw c.in-Ok-Query.field-0-is at c.in-Ok-Query.ensures.asked in
+    let w : WiresSeen = wires_seen g.W.Wire.tells_log g.W.Wire.counts_alone g.W.Wire.seen c.split_at_mut-used.result.0.now c.run_query.new.wires in
+    let read = file_read (g.F.Files.seen c.args.files.now) (g.F.Files.seen c.run_query.new.files) in
+    let out = sink_written g.O.Ends.tells_held g.O.Ends.held g.O.Ends.write_faults c.args.out.now c.run_query.new.out in
+    let err = sink_written g.E.Ends.tells_held g.E.Ends.held g.E.Ends.write_faults c.args.err.now c.run_query.new.err in
+    on_used g.W.Wire.seen g.W.Wire.tells_log g.W.Wire.counts_alone (λ (w : WiresSeen). WritesGiven read w a c.run_query.result out err) (wires_used a) c.in-Ok-Query.workers c.min.result c.args.wires.now c.split_at_mut-used.result.0.now c.split_at_mut-used.result.1.now c.run_query.new.wires
+    (ap wires_used is) c.min.ensures c.split_at_mut-used.ensures.front c.split_at_mut-used.ensures.back
+    (subst (λ (o : Option Asked). WritesGiven read w o c.run_query.result out err) (sym is)
+    (c.run_query.ensures.done, c.run_query.ensures.cut))
 
 pub returns-in-Ok-Query-clause-completes : goal.returns-in-Ok-Query-clause-completes
 returns-in-Ok-Query-clause-completes g c =
@@ -245,6 +285,19 @@ returns-in-Ok-Explain-clause-headline g c =
     (subst (λ (o : Option Asked). Headline read w o c.run_explain.result out err) (sym is)
     (explain_headline w (read c.in-Ok-Explain.registry.now) (read c.in-Ok-Explain.query.now) c.run_explain.result told.0 out err told.1 told.2 c.run_explain.ensures.done c.run_explain.ensures.cut))
 
+pub returns-in-Ok-Explain-clause-given : goal.returns-in-Ok-Explain-clause-given
+returns-in-Ok-Explain-clause-given g c =
+    let a = asked (map (λ w. string_bytes w) c.args.words.now) in
+    let is : a ≡ Some (planned c.in-Ok-Explain.registry.now c.in-Ok-Explain.query.now) = rw c.in-Ok-Explain.field-0-is at c.in-Ok-Explain.ensures.asked in
+    let w : WiresSeen = wires_seen g.W.Wire.tells_log g.W.Wire.counts_alone g.W.Wire.seen c.split_at_mut-used-in-Ok-Explain.result.0.now c.run_explain.new.wires in
+    let read = file_read (g.F.Files.seen c.args.files.now) (g.F.Files.seen c.run_explain.new.files) in
+    let out = sink_written g.O.Ends.tells_held g.O.Ends.held g.O.Ends.write_faults c.args.out.now c.run_explain.new.out in
+    let err = sink_written g.E.Ends.tells_held g.E.Ends.held g.E.Ends.write_faults c.args.err.now c.run_explain.new.err in
+    on_used g.W.Wire.seen g.W.Wire.tells_log g.W.Wire.counts_alone (λ (w : WiresSeen). WritesGiven read w a c.run_explain.result out err) (wires_used a) 4 c.min-in-Ok-Explain.result c.args.wires.now c.split_at_mut-used-in-Ok-Explain.result.0.now c.split_at_mut-used-in-Ok-Explain.result.1.now c.run_explain.new.wires
+    (ap wires_used is) c.min-in-Ok-Explain.ensures c.split_at_mut-used-in-Ok-Explain.ensures.front c.split_at_mut-used-in-Ok-Explain.ensures.back
+    (subst (λ (o : Option Asked). WritesGiven read w o c.run_explain.result out err) (sym is)
+    (c.run_explain.ensures.done, c.run_explain.ensures.cut))
+
 pub returns-in-Ok-Explain-clause-completes : goal.returns-in-Ok-Explain-clause-completes
 returns-in-Ok-Explain-clause-completes g c =
     let a = asked (map (λ w. string_bytes w) c.args.words.now) in
@@ -307,6 +360,16 @@ returns-in-Ok-Member-clause-reported g c =
     (wires_used a) c.args.wires.now
     (told.0, told.1, serving_reported read _ door later a err c.in-Ok-Member.graph.now c.in-Ok-Member.address.now c.in-Ok-Member.count c.run_member.result told.0 told.1 (rw c.in-Ok-Member.field-0-is at c.in-Ok-Member.ensures.asked) told.2 refl told.4, told.3)
 
+pub returns-in-Ok-Member-clause-given : goal.returns-in-Ok-Member-clause-given
+returns-in-Ok-Member-clause-given g c =
+    let a = asked (map (λ w. string_bytes w) c.args.words.now) in
+    let w : WiresSeen = wires_seen g.W.Wire.tells_log g.W.Wire.counts_alone g.W.Wire.seen (take (wires_used a) c.args.wires.now) (take (wires_used a) c.args.wires.now) in
+    let read = file_read (g.F.Files.seen c.args.files.now) (g.F.Files.seen c.run_member.new.files) in
+    let out = sink_written g.O.Ends.tells_held g.O.Ends.held g.O.Ends.write_faults c.args.out.now c.args.out.now in
+    let err = sink_written g.E.Ends.tells_held g.E.Ends.held g.E.Ends.write_faults c.args.err.now c.run_member.new.err in
+    on_same g.W.Wire.seen g.W.Wire.tells_log g.W.Wire.counts_alone (λ (w : WiresSeen). WritesGiven read w a c.run_member.result out err) (wires_used a) c.args.wires.now
+    (subst (λ (o : Option Asked). WritesGiven read w o c.run_member.result out err) (sym (rw c.in-Ok-Member.field-0-is at c.in-Ok-Member.ensures.asked)) tt)
+
 pub returns-in-Ok-Member-clause-wired : goal.returns-in-Ok-Member-clause-wired
 returns-in-Ok-Member-clause-wired g c = after_itself (map g.W.Wire.seen c.args.wires.now)
 
@@ -325,6 +388,16 @@ returns-in-Ok-Generate-clause-headline g c =
     on_same g.W.Wire.seen g.W.Wire.tells_log g.W.Wire.counts_alone (λ (w : WiresSeen). Headline read w a c.run_generate.result out err) (wires_used a) c.args.wires.now
     (subst (λ (o : Option Asked). Headline read (wires_seen g.W.Wire.tells_log g.W.Wire.counts_alone g.W.Wire.seen (take (wires_used a) c.args.wires.now) (take (wires_used a) c.args.wires.now)) o c.run_generate.result out err) (sym (rw c.in-Ok-Generate.field-0-is at c.in-Ok-Generate.ensures.asked))
     (making_headline c.in-Ok-Generate.size c.run_generate.result told.0 out err told.1 told.2 c.run_generate.ensures.written))
+
+pub returns-in-Ok-Generate-clause-given : goal.returns-in-Ok-Generate-clause-given
+returns-in-Ok-Generate-clause-given g c =
+    let a = asked (map (λ w. string_bytes w) c.args.words.now) in
+    let read = file_read (g.F.Files.seen c.args.files.now) (g.F.Files.seen c.args.files.now) in
+    let out = sink_written g.O.Ends.tells_held g.O.Ends.held g.O.Ends.write_faults c.args.out.now c.run_generate.new.out in
+    let err = sink_written g.E.Ends.tells_held g.E.Ends.held g.E.Ends.write_faults c.args.err.now c.run_generate.new.err in
+    on_same g.W.Wire.seen g.W.Wire.tells_log g.W.Wire.counts_alone (λ (w : WiresSeen). WritesGiven read w a c.run_generate.result out err) (wires_used a) c.args.wires.now
+    (subst (λ (o : Option Asked). WritesGiven read (wires_seen g.W.Wire.tells_log g.W.Wire.counts_alone g.W.Wire.seen (take (wires_used a) c.args.wires.now) (take (wires_used a) c.args.wires.now)) o c.run_generate.result out err) (sym (rw c.in-Ok-Generate.field-0-is at c.in-Ok-Generate.ensures.asked))
+    tt)
 
 pub returns-in-Ok-Generate-clause-completes : goal.returns-in-Ok-Generate-clause-completes
 returns-in-Ok-Generate-clause-completes g c =

@@ -1,0 +1,5 @@
+pub mod AloneLemmas
+pub mod LicenceLemmas
+pub mod RequestLemmas
+pub mod StepLemmas
+pub mod ToldLemmas

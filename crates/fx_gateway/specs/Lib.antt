@@ -1,0 +1,4 @@
+pub mod Connected
+pub mod Laws
+pub mod Replies
+pub mod Steps

@@ -1,0 +1,5 @@
+pub mod AskedLemmas
+pub mod PlanLemmas
+pub mod BatchLemmas
+pub mod FederatedLemmas
+pub mod UnmarkedLemmas

@@ -1,0 +1,3 @@
+pub mod Causes
+pub mod Federated
+pub mod Unmarked
