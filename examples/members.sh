@@ -2,7 +2,7 @@
 # Starts the two members of registry.txt on this machine, runs a command, and ends with its status: examples/members.sh [-- COMMAND..]
 #
 # The members serve lab.nt and library.nt at the ports 8001 and 8002. Where no command is given it is
-# `./fedx query examples/registry.txt examples/across.rq`.
+# `./fedx query examples/registry.txt examples/enzymes.rq`.
 set -u
 here=$(cd "$(dirname "$0")" && pwd)
 fedx=$here/../fedx
@@ -12,7 +12,7 @@ if [ $# -gt 0 ]; then
     [ "$1" = -- ] && [ $# -gt 1 ] || { echo "usage: examples/members.sh [-- COMMAND..]" >&2; exit 2; }
     shift
 else
-    set -- "$fedx" query "$here/registry.txt" "$here/across.rq"
+    set -- "$fedx" query "$here/registry.txt" "$here/enzymes.rq"
 fi
 
 # A member that isn't ready yet refuses connections.
