@@ -1,0 +1,4 @@
+pub mod TripleLemmas
+pub mod ToldLemmas
+pub mod GateLemmas
+pub mod OwnLemmas
