@@ -5,6 +5,7 @@ use fx_bound_cases::batches;
 use fx_mediator_cases::{engine, gateways, mediations};
 use fx_plan_cases::{plans, registries, sources};
 use fx_pool_cases::jobs;
+use fx_tape_cases::tapes;
 use fx_text_cases::{
     algebra, expressions, ntriples, print, results, solutions, syntax, terms, tokens,
 };
@@ -47,6 +48,7 @@ fn of_one_thread(alloc: Global, table: &str, call: &str, inputs: &[&str]) -> Opt
         "print" => print::answer(alloc, call, inputs),
         "results" => results::answer(alloc, call, inputs),
         "solutions" => solutions::answer(alloc, call, inputs),
+        "tapes" => tapes::answer(alloc, call, inputs),
         _ => of_members_and_plans(alloc, table, call, inputs),
     }
 }

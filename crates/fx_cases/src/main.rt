@@ -16,7 +16,7 @@ use std::{fs, io};
 use tables::{Outcome, try_table};
 
 // The tables, in the order of the crates whose calls they try.
-const TABLES: [&str; 28] = [
+const TABLES: [&str; 29] = [
     "terms",
     "outside",
     "ntriples",
@@ -30,6 +30,7 @@ const TABLES: [&str; 28] = [
     "solutions",
     "stores",
     "wires",
+    "tapes",
     "members",
     "registries",
     "sources",

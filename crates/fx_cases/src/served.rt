@@ -1,12 +1,13 @@
-//! Calls of `fx_program::run` that serve a graph at a door in memory.
+//! Calls of `fx_program::run` that serve a graph, or two members that answer by their graphs, at a door in memory.
 //!
-//! Calls that are to fail are those of the door, and of `err`.
+//! Calls that are to fail are those of the door, of its connections and of `err`, and exchanges with a member.
 
 use crate::runs::ran_at;
 use fx_command_cases::commands::words_of;
 use fx_command_cases::doors::door_of;
 use fx_command_cases::ends::both_texts;
 use fx_command_cases::files::{contents, files_of};
+use fx_command_cases::wires::fault_wire;
 use fx_outside::MemoryDoor;
 use fx_wire::ScriptWire;
 use std::alloc::Global;
@@ -24,6 +25,16 @@ pub fn answer<R: Threads + Wait + Sync>(
     match (call, inputs) {
         ("run member", [words, file, failing, inputs @ ..]) => {
             served(rt, alloc, words, file, failing, inputs)
+        }
+        ("run serve", [words, failing, registry, first, second, inputs @ ..]) => {
+            federation_served(
+                rt,
+                alloc,
+                words,
+                failing,
+                &[registry, first, second],
+                inputs,
+            )
         }
         _ => None,
     }
@@ -57,12 +68,71 @@ fn served_by<R: Threads + Wait + Sync>(
     step: u64,
 ) -> Option<String> {
     let mut door = door_of(alloc, failing, inputs, step)?;
-    let mut text = ran(rt, alloc, words, file, failing, &mut door)?;
+    let text = ran(rt, alloc, words, file, failing, &mut door)?;
+    with_replies(text, &door)
+}
+
+// A text, with the reply of each connection that was ended.
+fn with_replies(mut text: String, door: &MemoryDoor) -> Option<String> {
     for link in door.finished() {
         text.push_str(" | reply ").ok()?;
         text.push_str(from_utf8(link.written()).ok()?).ok()?;
     }
     Some(text)
+}
+
+// The same of a run that serves two members, which answer by their graphs.
+fn federation_served<R: Threads + Wait + Sync>(
+    rt: &R,
+    alloc: Global,
+    words: &str,
+    failing: &str,
+    fields: &[&str],
+    inputs: &[&str],
+) -> Option<String> {
+    let whole = federation_served_by(rt, alloc, words, failing, fields, inputs, 4096)?;
+    if failing.contains("write.") {
+        return Some(whole);
+    }
+    let cut = federation_served_by(rt, alloc, words, failing, fields, inputs, 1)?;
+    both_texts(alloc, whole, cut.as_str())
+}
+
+fn federation_served_by<R: Threads + Wait + Sync>(
+    rt: &R,
+    alloc: Global,
+    words: &str,
+    failing: &str,
+    fields: &[&str],
+    inputs: &[&str],
+    step: u64,
+) -> Option<String> {
+    let mut door = door_of(alloc, failing, inputs, step)?;
+    let text = federation_ran(rt, alloc, words, failing, fields, &mut door)?;
+    with_replies(text, &door)
+}
+
+fn federation_ran<R: Threads + Wait + Sync>(
+    rt: &R,
+    alloc: Global,
+    words: &str,
+    failing: &str,
+    fields: &[&str],
+    door: &mut MemoryDoor,
+) -> Option<String> {
+    let words = words_of(alloc, words)?;
+    let mut files = files_of(alloc, failing, contents(alloc, fields)?)?;
+    let mut wires = [fault_wire(alloc, failing, fields)?];
+    ran_at(
+        rt,
+        alloc,
+        words.as_slice(),
+        failing,
+        4096,
+        &mut files,
+        &mut wires,
+        door,
+    )
 }
 
 fn ran<R: Threads + Wait + Sync>(

@@ -47,6 +47,15 @@ fn command_text(alloc: Global, command: Command<'_>) -> Option<String> {
             address,
             count,
         } => format!(in alloc; "Member of graph {graph} at {address}, {count} times").ok(),
+        Command::Serve {
+            registry,
+            address,
+            count,
+            workers,
+            block,
+        } => format!(in alloc;
+            "Serve of registry {registry} at {address}, {count} times, {workers} workers, blocks of {block}"
+        ).ok(),
         Command::Generate { size } => format!(in alloc; "Generate of size {size}").ok(),
     }
 }

@@ -22,7 +22,7 @@ use Rattle.fx_commands.specs.Explain.{IsExplainCut, IsExplainDone, IsExplainRepo
 use Rattle.fx_commands.specs.FedRefusals.{IsGivenEnd, fed_line, fed_status_of}
 use Rattle.fx_local.specs.Files.{FileRead}
 use Rattle.fx_local.specs.LocalSteps.{GivesQuery}
-use Rattle.fx_commands.specs.MemberLines.{plan_lines}
+use Rattle.fx_lines.specs.MemberLines.{plan_lines}
 use Rattle.fx_commands.specs.MemberSteps.{IsLaidOut, IsLayoutCut, IsLayoutDone, IsLayoutReported}
 use Rattle.fx_local.specs.RegistryFiles.{GivesRegistry}
 use Rattle.fx_local.specs.Sinks.{SinkWritten}

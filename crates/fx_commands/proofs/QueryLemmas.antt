@@ -29,7 +29,7 @@ use Rattle.fx_local.specs.declared.statuses.Status.TheVariants as status
 use Rattle.fx_commands.specs.Asking.{IsRefusedBefore}
 use Rattle.fx_commands.specs.FedRefusals.{IsGivenEnd, fed_line, fed_status_of}
 use Rattle.fx_local.specs.Files.{FileRead, IsRegistryFile}
-use Rattle.fx_commands.specs.MemberLines.{answer_lines}
+use Rattle.fx_lines.specs.MemberLines.{answer_lines}
 use Rattle.fx_local.specs.LocalSteps.{GivesQuery, IsDocumentWritten, IsLineReported, query_line}
 use Rattle.fx_commands.specs.MemberSteps.{IsAnswerCut, IsAnswerDone, IsAnswerReported, IsAnswered, IsWant}
 use Rattle.fx_local.specs.RegistryFiles.{GivesRegistry, registry_line}

@@ -21,7 +21,7 @@ use Rattle.fx_local.specs.declared.statuses.Status.{Status}
 use Rattle.fx_commands.specs.Asking.{IsUnasked, IsRefusedBefore, WasPlanned}
 use Rattle.fx_commands.specs.FedRefusals.{IsEnd}
 use Rattle.fx_local.specs.Files.{FileRead, IsQueryOf, IsRegistryOf}
-use Rattle.fx_commands.specs.MemberLines.{left_lines, plan_lines}
+use Rattle.fx_lines.specs.MemberLines.{left_lines, plan_lines}
 use Rattle.fx_local.specs.Sinks.{SinkWritten, Wrote}
 
 -- ---- the text of the plan

@@ -5,7 +5,7 @@ use Rattle.fx_outcomes.specs.declared.federated.FedError.TheVariants as fed
 use Rattle.fx_local.specs.declared.statuses.Status.{Status}
 use Rattle.fx_local.specs.declared.statuses.Status.TheVariants as status
 use Rattle.fx_local.specs.Lines.{no_memory, unknown_service}
-use Rattle.fx_commands.specs.MemberLines.{member_failed, service_failed, bad_reply, request_too_long}
+use Rattle.fx_lines.specs.MemberLines.{member_failed, service_failed, bad_reply, request_too_long}
 
 abbrev pub fed_status_of : FedError → Status
 fed_status_of (fed.Member name) = status.EndpointFault

@@ -6,4 +6,3 @@ pub mod Generator
 pub mod GeneratorSteps
 pub mod MemberSteps
 pub mod Query
-pub mod MemberLines

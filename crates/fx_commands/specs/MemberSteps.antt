@@ -13,7 +13,7 @@ use Rattle.fx_commands.specs.Asking.{IsUnasked, WasAsked, WasPlanned}
 use Rattle.fx_traffic.specs.Gains.{WiresSeen}
 use Rattle.fx_commands.specs.FedRefusals.{IsEnd}
 use Rattle.fx_local.specs.Lines.{no_memory}
-use Rattle.fx_commands.specs.MemberLines.{answer_lines, plan_lines}
+use Rattle.fx_lines.specs.MemberLines.{answer_lines, plan_lines}
 use Rattle.fx_commands.specs.Explain.{IsPlanCut, IsPlanWritten}
 use Rattle.fx_commands.specs.Query.{IsOutcomeCut, IsOutcomeWritten}
 use Rattle.fx_local.specs.Sinks.{SinkWritten}

@@ -26,7 +26,7 @@ use Rattle.fx_local.specs.declared.statuses.Status.{Status}
 use Rattle.fx_commands.specs.Asking.{IsUnasked, IsRefusedBefore, WasAsked}
 use Rattle.fx_commands.specs.FedRefusals.{IsEnd}
 use Rattle.fx_local.specs.Files.{FileRead, IsQueryOf, IsRegistryOf}
-use Rattle.fx_commands.specs.MemberLines.{answer_lines, down_lines, left_lines}
+use Rattle.fx_lines.specs.MemberLines.{answer_lines, down_lines, left_lines}
 use Rattle.fx_local.specs.Sinks.{SinkWritten, Wrote}
 
 -- ---- the answer over the union

@@ -8,14 +8,14 @@ ghost use Rattle.fx_commands.specs.Explain.{CountsLeft, IsExplainCut, IsExplainD
 ghost use Rattle.fx_commands.specs.FedRefusals.{IsGivenEnd};
 ghost use Rattle.fx_local.specs.Files.{file_read};
 ghost use Rattle.fx_local.specs.Lines.{Gains};
-ghost use Rattle.fx_commands.specs.MemberLines.{plan_lines};
+ghost use Rattle.fx_lines.specs.MemberLines.{plan_lines};
 ghost use Rattle.fx_commands.specs.MemberSteps.{IsLaidOut, IsLayoutCut, IsLayoutDone, IsLayoutReported};
 ghost use Rattle.fx_local.specs.Sinks.{IsCutShort, Wrote, sink_written};
 
-use crate::lines::left_lines;
 use crate::refusals::{fed_status, write_fed_error};
 use fx_algebra::Query;
 use fx_engine::{FedError, PlanInRounds, plan_parts};
+use fx_lines::left_lines;
 use fx_local::reports::{write_no_memory, write_query_refusal, write_registry_refusal};
 use fx_local::{Report, Status, load_query, load_registry, write_report};
 use fx_outside::{Endpoint, Files, Sink};

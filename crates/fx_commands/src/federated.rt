@@ -7,15 +7,15 @@ ghost use Rattle.fx_local.specs.Counts.{CountsOnly};
 ghost use Rattle.fx_commands.specs.FedRefusals.{IsGivenEnd};
 ghost use Rattle.fx_local.specs.Files.{file_read};
 ghost use Rattle.fx_local.specs.Lines.{Gains};
-ghost use Rattle.fx_commands.specs.MemberLines.{answer_lines};
+ghost use Rattle.fx_lines.specs.MemberLines.{answer_lines};
 ghost use Rattle.fx_commands.specs.MemberSteps.{IsAnswerCut, IsAnswerDone, IsAnswerReported, IsAnswered};
 ghost use Rattle.fx_commands.specs.Query.{CountsDownBy, IsOutcomeWritten, IsQueryCut, IsQueryDone, IsQueryReported, IsQueryWritten, IsUnionAnswer, IsUnionDocument};
 ghost use Rattle.fx_local.specs.Sinks.{IsCutShort, Wrote, sink_written};
 
-use crate::lines;
 use crate::refusals::{fed_status, write_fed_error};
 use fx_algebra::Query;
 use fx_engine::{FedError, Options, OutcomeInRounds, federate};
+use fx_lines::lines;
 use fx_local::reports::{write_no_memory, write_query_refusal, write_registry_refusal};
 use fx_local::{Report, Status, load_query, load_registry, write_report};
 use fx_outside::{Endpoint, Files, Sink};

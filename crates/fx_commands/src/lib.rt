@@ -6,7 +6,6 @@ pub mod explained;
 pub mod federated;
 pub mod generated;
 mod generator;
-mod lines;
 pub mod refusals;
 
 pub use counting::count_rows;

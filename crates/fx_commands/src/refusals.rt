@@ -4,7 +4,7 @@ ghost use Rattle.std.specs.Fmt.{decimal};
 ghost use Rattle.fx_outcomes.specs.FaultTexts.{fault_text, with_code};
 ghost use Rattle.fx_local.specs.Lines.{Gains, line};
 ghost use Rattle.fx_commands.specs.FedRefusals.{fed_line, fed_status_of};
-ghost use Rattle.fx_commands.specs.MemberLines.{bad_reply, request_too_long};
+ghost use Rattle.fx_lines.specs.MemberLines.{bad_reply, request_too_long};
 
 use fx_engine::{FedError, fault_code, fault_words};
 use fx_local::Status;

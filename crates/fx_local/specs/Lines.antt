@@ -20,7 +20,7 @@ abbrev pub line : List ℕ → List ℕ
 line text = text ++ 10 ∷ []
 
 abbrev pub usage_line : List ℕ
-usage_line = line (codes "usage: fedx local GRAPH QUERY | query REGISTRY QUERY [--workers N] [--block B] | explain REGISTRY QUERY | member GRAPH ADDRESS [COUNT] | generate N")
+usage_line = line (codes "usage: fedx local GRAPH QUERY | query REGISTRY QUERY [--workers N] [--block B] | explain REGISTRY QUERY | member GRAPH ADDRESS [COUNT] | generate N | serve REGISTRY ADDRESS [COUNT] [--workers N] [--block B]")
 
 abbrev pub cannot_read : List ℕ → List ℕ
 cannot_read name = codes "cannot read " ++ (name ++ 10 ∷ [])

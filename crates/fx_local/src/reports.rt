@@ -22,7 +22,7 @@ pub fn write_usage<E: Sink>(err: &mut E)
 {
     write_line(
         err,
-        b"usage: fedx local GRAPH QUERY | query REGISTRY QUERY [--workers N] [--block B] | explain REGISTRY QUERY | member GRAPH ADDRESS [COUNT] | generate N\n",
+        b"usage: fedx local GRAPH QUERY | query REGISTRY QUERY [--workers N] [--block B] | explain REGISTRY QUERY | member GRAPH ADDRESS [COUNT] | generate N | serve REGISTRY ADDRESS [COUNT] [--workers N] [--block B]\n",
     );
 }
 

@@ -148,8 +148,8 @@ fn serve_conn<L: Source + Sink>(
     }
 }
 
-// Writes why serving ended.
-fn end<E: Sink>(err: &mut E, error: DoorError) -> Status
+/// Writes why serving ended, and gives its status.
+pub fn end<E: Sink>(err: &mut E, error: DoorError) -> Status
     ensures status { result ≡ end_status error }
     ensures line { IsTrue E.tells_held → Gains (E.held err.old) (E.held err.new) (E.write_faults err.old) (E.write_faults err.new) (end_line error) }
 {
@@ -190,8 +190,8 @@ fn write_ending<E: Sink>(err: &mut E, number: u64, ending: Ending) -> Result<(),
     )
 }
 
-// How a connection ended, in words. A status is written to the buffer.
-fn ending_text(ending: Ending, buffer: &mut Buffer) -> &str
+/// How a connection ended, in words. A status is written to the buffer.
+pub fn ending_text(ending: Ending, buffer: &mut Buffer) -> &str
     ensures { result.now ≡ ending_text ending }
 {
     match ending {

@@ -1,5 +1,5 @@
 -- That runs come to their ends, from what their commands report.
-use Rattle.std.proofs.Common.{◌≡◌, ◌∙◌, ap, sym, subst, refl, ℕ, zero, suc, ◌≤◌, ◌<◌, ◌⊎◌, Bool, true, Result, List, [], ◌∷◌, All, Option, Some, None, Ok, Err, length, inl, inr, arith}
+use Rattle.std.proofs.Common.{◌≡◌, ◌∙◌, ap, sym, subst, refl, ℕ, zero, suc, ◌≤◌, ◌<◌, ◌⊎◌, Bool, Result, List, [], ◌∷◌, All, Option, Some, None, Ok, Err, length, inl, inr, arith}
 use Rattle.std.specs.Prelude.{◌++◌, Contains, slice_get}
 use Rattle.std.proofs.lemmas.List.Elements.{All-contains, Contains-append_left}
 use Rattle.std.proofs.lemmas.List.Sorted.{Contains-permutation}
@@ -60,7 +60,7 @@ use Rattle.fx_local.specs.declared.statuses.Status.{Status}
 use Rattle.fx_local.specs.declared.statuses.Status.TheVariants as status
 use Rattle.fx_commands.specs.Asking.{IsRefusedBefore, WasAsked, WasPlanned}
 use Rattle.fx_program.specs.Completeness.{Completes, AreAsksShort, AreRepliesShort, AreTextsShort, AreWell, IsDoneOrWant, IsNeeded, IsReadWell, IsWrittenWell}
-use Rattle.fx_words.specs.Commands.{Asked, over_file, over_members, planned, served, generated}
+use Rattle.fx_words.specs.Commands.{Asked, over_file, over_members, planned, served, gated, generated}
 use Rattle.fx_commands.specs.Explain.{IsExplainReported}
 use Rattle.fx_commands.specs.FedRefusals.{IsGivenEnd}
 use Rattle.fx_local.proofs.GraphTextLemmas.{never_refused}
@@ -68,8 +68,9 @@ use Rattle.fx_local.specs.GraphTexts.{IsGraphFault, IsGraphText, is_turtle}
 use Rattle.fx_local.specs.declared.refusals.GraphFault.{GraphFault}
 use Rattle.fx_local.specs.Files.{FileRead, Holds, IsNoGraph, IsNoQuery, IsNoRegistry, IsQueryThat, IsTooLong}
 use Rattle.fx_program.specs.Headline.{IsTold}
-use Rattle.fx_commands.specs.MemberLines.{answer_lines, plan_lines}
+use Rattle.fx_lines.specs.MemberLines.{answer_lines, plan_lines}
 use Rattle.fx_local.specs.Local.{HasPlain, IsReported}
+use Rattle.fx_serve.specs.Serving.{IsServeReported}
 use Rattle.fx_commands.specs.Query.{IsQueryReported}
 use Rattle.fx_local.specs.Serving.{IsMemberReported}
 use Rattle.fx_local.specs.Services.{first_plain}
@@ -458,6 +459,27 @@ member_completes g door later address count status.BadReply before text err repo
 member_completes g door later address count status.UnknownService before text err reported cut graph h a same lines = absurd reported.2
 member_completes g door later address count status.RequestTooLong before text err reported cut graph h a same lines = absurd reported.2
 
+-- ---- `serve`
+
+pub serve_completes : (r : FileRead) (w : WiresSeen) (door later : DoorSeen) (address : List ℕ) (count block : ℕ) (s : Status) (before text : List ℕ) (err : SinkWritten) → IsServeReported r w door later address count block s before text → (s ≡ status.WriteFault → sink.HasFailed err)
+    → (endpoints : List EndpointParts) → Holds r registry_limit (λ content. read_registry content ≡ Ok endpoints) → IsReadWell r → later.faults ≡ door.faults → IsWrittenWell err → IsDoneOrWant s
+serve_completes r w door later address count block status.Done before text err reported cut endpoints h a same lines = inl refl
+serve_completes r w door later address count block status.NoMemory before text err reported cut endpoints h a same lines = inr refl
+serve_completes r w door later address count block status.WriteFault before text err reported cut endpoints h a same lines = absurd (lines (cut refl))
+serve_completes r w door later address count block status.RegistryRefused before text err reported cut endpoints h a same lines = absurd (a_registry_is r endpoints reported.0 h reported.1)
+serve_completes r w door later address count block status.ReadFault before text err reported cut endpoints h a same lines = absurd (read_well r a reported.0)
+serve_completes r w door later address count block status.FileTooLong before text err reported cut endpoints h a same lines = absurd (within_limit r registry_limit _ h reported.0)
+serve_completes r w door later address count block status.DoorFault before text err reported cut endpoints h a same lines =
+    let rose : door.faults < later.faults = reported.reported.0 in
+    let stayed : later.faults ≡ door.faults = same in absurd (omega (arith, rose, stayed))
+serve_completes r w door later address count block status.Usage before text err reported cut endpoints h a same lines = absurd reported.reported
+serve_completes r w door later address count block status.QueryRefused before text err reported cut endpoints h a same lines = absurd reported.reported
+serve_completes r w door later address count block status.GraphRefused before text err reported cut endpoints h a same lines = absurd reported.reported
+serve_completes r w door later address count block status.EndpointFault before text err reported cut endpoints h a same lines = absurd reported.reported
+serve_completes r w door later address count block status.BadReply before text err reported cut endpoints h a same lines = absurd reported.reported
+serve_completes r w door later address count block status.UnknownService before text err reported cut endpoints h a same lines = absurd reported.reported
+serve_completes r w door later address count block status.RequestTooLong before text err reported cut endpoints h a same lines = absurd reported.reported
+
 -- ---- `generate`
 
 pub making_completes : (s : Status) (text : List ℕ) (out : SinkWritten) → IsGivenEnd [] s text → (s ≡ status.WriteFault → sink.HasFailed out) → IsWrittenWell out → IsDoneOrWant s
@@ -471,4 +493,5 @@ want_completes read w door later (Some (over_members r q workers block)) out err
 want_completes read w door later (Some (planned r q)) out err = λ es asked graphs told known a b well written lines replies asks. inr refl
 want_completes read w door later (Some (over_file g q)) out err = λ graph asked h k silent a b well lines. inr refl
 want_completes read w door later (Some (served g address count)) out err = λ graph h a same lines. inr refl
+want_completes read w door later (Some (gated r address count workers block)) out err = λ endpoints h a same lines. inr refl
 want_completes read w door later (Some (generated n)) out err = λ written. inr refl

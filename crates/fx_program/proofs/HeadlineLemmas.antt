@@ -32,7 +32,7 @@ use Rattle.fx_rounds.proofs.RefusedLemmas.{members_failed, services_failed}
 use Rattle.fx_local.specs.Limits.{graph_limit, query_limit, registry_limit}
 use Rattle.fx_local.specs.declared.statuses.Status.{Status}
 use Rattle.fx_local.specs.declared.statuses.Status.TheVariants as status
-use Rattle.fx_words.specs.Commands.{Asked, over_file, over_members, planned, served, generated}
+use Rattle.fx_words.specs.Commands.{Asked, over_file, over_members, planned, served, gated, generated}
 use Rattle.fx_commands.specs.Asking.{WasAsked, WasPlanned}
 use Rattle.fx_commands.specs.Explain.{IsExplainCut, IsExplainDone, IsExplainReported}
 use Rattle.fx_local.proofs.GraphTextLemmas.{one_graph}
@@ -43,7 +43,7 @@ use Rattle.fx_commands.specs.Generator.{summary}
 use Rattle.fx_program.specs.Given.{Gives, Plans}
 use Rattle.fx_program.specs.Headline.{AreWritten, Headline, IsFront, IsTold, NamesFailed}
 use Rattle.fx_local.specs.Lines.{Gains}
-use Rattle.fx_commands.specs.MemberLines.{answer_lines, member_failed, plan_lines, service_failed}
+use Rattle.fx_lines.specs.MemberLines.{answer_lines, member_failed, plan_lines, service_failed}
 use Rattle.fx_local.specs.Local.{HasLines, IsWritten}
 use Rattle.fx_commands.specs.Query.{IsQueryCut, IsQueryDone, IsQueryReported}
 use Rattle.fx_local.specs.Services.{all_numbers, silent_lines}
@@ -311,6 +311,7 @@ no_headline read w (Some (over_file g q)) out err = λ graph asked h k done. abs
     not_done : status.NoMemory ≡ status.Done → ⊥
     not_done h = cc
 no_headline read w (Some (served g address count)) out err = tt
+no_headline read w (Some (gated r address count workers block)) out err = tt
 no_headline read w (Some (generated n)) out err = λ done. absurd (not_done done)
   where
     not_done : status.NoMemory ≡ status.Done → ⊥
@@ -325,6 +326,7 @@ nothing_given read w (Some (over_file g q)) s out err not_done not_cut = tt
 nothing_given read w (Some (over_members r q workers block)) s out err not_done not_cut = (λ done. absurd (not_done done), λ cut. absurd (not_cut cut))
 nothing_given read w (Some (planned r q)) s out err not_done not_cut = (λ done. absurd (not_done done), λ cut. absurd (not_cut cut))
 nothing_given read w (Some (served g address count)) s out err not_done not_cut = tt
+nothing_given read w (Some (gated r address count workers block)) s out err not_done not_cut = tt
 nothing_given read w (Some (generated n)) s out err not_done not_cut = tt
 
 pub want_gives_nothing : (read : List ℕ → FileRead) (w : WiresSeen) (asked : Option Asked) (out err : SinkWritten) → WritesGiven read w asked status.NoMemory out err

@@ -5,7 +5,7 @@ use Rattle.fx_local.specs.declared.statuses.Status.TheVariants as status
 use Rattle.fx_traffic.specs.Gains.{WiresSeen}
 use Rattle.fx_wire.specs.Exchanges.{Seen}
 use Rattle.fx_commands.specs.Asking.{IsUnasked}
-use Rattle.fx_words.specs.Commands.{Asked, over_file, over_members, planned, served, generated}
+use Rattle.fx_words.specs.Commands.{Asked, over_file, over_members, planned, served, gated, generated}
 use Rattle.fx_commands.specs.Explain.{CountsLeft, IsExplainReported, IsExplainWritten, IsExplanation}
 use Rattle.fx_commands.specs.FedRefusals.{IsGivenEnd}
 use Rattle.fx_local.specs.Files.{FileRead}
@@ -15,8 +15,9 @@ use Rattle.fx_local.specs.Local.{IsReported}
 use Rattle.fx_commands.specs.Query.{CountsDown, IsQueryReported, IsQueryWritten, IsUnionAnswer}
 use Rattle.fx_local.specs.Serving.{IsLastCut, IsMemberReported}
 use Rattle.fx_program.specs.Runs.{CountsEndpoints, FailsToWrite, Reports, Writes}
-use Rattle.fx_local.specs.Sinks.{SinkWritten, IsCutOff, IsCutShort, Wrote}
+use Rattle.fx_local.specs.Sinks.{SinkWritten, HasFailed, IsCutOff, IsCutShort, IsUntouched, Wrote}
 use Rattle.fx_local.specs.declared.statuses.Status.{Status}
+use Rattle.fx_serve.specs.Serving.{IsServeReported}
 
 pub usage_reported : (read : List ℕ → FileRead) (w : WiresSeen) (door : DoorSeen) (asked : Option Asked) (err : SinkWritten) → asked ≡ None → IsUnasked w → Reports read w door door asked status.Usage [] usage_line err
 usage_reported read w door None err h u = (refl, refl, u, refl)
@@ -31,6 +32,7 @@ memory_reported read w door (Some (over_file g q)) err u = (refl, refl, u, refl)
 memory_reported read w door (Some (over_members r q workers block)) err u = (inl (u, refl), refl, refl)
 memory_reported read w door (Some (planned r q)) err u = (inl (u, refl), refl, refl)
 memory_reported read w door (Some (served g a n)) err u = (inl (refl, refl, refl), u, λ is. absurd (want_otherwise is))
+memory_reported read w door (Some (gated r a n workers block)) err u = (inl (record { unasked = u; untouched = refl; no_lines = refl; last_line = refl }), λ is. absurd (want_otherwise is))
 memory_reported read w door (Some (generated n)) err u = (refl, refl, u, refl)
 
 -- without memory nothing is written on standard output
@@ -40,6 +42,7 @@ nothing_written read wires (Some (over_file g q)) held = refl
 nothing_written read wires (Some (over_members r q workers block)) held = refl
 nothing_written read wires (Some (planned r q)) held = refl
 nothing_written read wires (Some (served g a n)) held = refl
+nothing_written read wires (Some (gated r a n workers block)) held = refl
 nothing_written read wires (Some (generated n)) held = refl
 
 -- ---- by the command
@@ -55,6 +58,18 @@ plan_reported read w door asked err r q s text is h = subst (λ o. Reports read 
 
 pub serving_reported : (read : List ℕ → FileRead) (w : WiresSeen) (door later : DoorSeen) (asked : Option Asked) (err : SinkWritten) (g a : List ℕ) (n : ℕ) (s : Status) (lines text : List ℕ) → asked ≡ Some (served g a n) → IsMemberReported (read g) door later a n s lines text → IsUnasked w → IsLastCut s err lines text → Reports read w door later asked s lines text err
 serving_reported read w door later asked err g a n s lines text is h u cut = subst (λ o. Reports read w door later o s lines text err) (sym is) (h, u, cut)
+
+pub gated_reported : (read : List ℕ → FileRead) (w : WiresSeen) (door later : DoorSeen) (asked : Option Asked) (err : SinkWritten) (r a : List ℕ) (n workers block : ℕ) (s : Status) (lines text : List ℕ) → asked ≡ Some (gated r a n workers block) → IsServeReported (read r) w door later a n block s lines text → IsLastCut s err lines text → Reports read w door later asked s lines text err
+gated_reported read w door later asked err r a n workers block s lines text is h cut = subst (λ o. Reports read w door later o s lines text err) (sym is) (h, cut)
+
+pub gated_written : (read : List ℕ → FileRead) (before : List Seen) (asked : Option Asked) (r a : List ℕ) (n workers block : ℕ) (s : Status) (held : List ℕ) → asked ≡ Some (gated r a n workers block) → Writes read before asked s held held
+gated_written read before asked r a n workers block s held is = subst (λ o. Writes read before o s held held) (sym is) refl
+
+pub gated_cut : (read : List ℕ → FileRead) (before : List Seen) (asked : Option Asked) (r a : List ℕ) (n workers block : ℕ) (out err : SinkWritten) → asked ≡ Some (gated r a n workers block) → IsUntouched out → HasFailed err → FailsToWrite read before asked out err
+gated_cut read before asked r a n workers block out err is u h = subst (λ o. FailsToWrite read before o out err) (sym is) (u, h)
+
+pub gated_counts : (read : List ℕ → FileRead) (asked : Option Asked) (before after : List Seen) (err : SinkWritten) (r a : List ℕ) (n workers block : ℕ) → asked ≡ Some (gated r a n workers block) → CountsEndpoints read asked before after err
+gated_counts read asked before after err r a n workers block is = subst (λ o. CountsEndpoints read o before after err) (sym is) tt
 
 pub making_reported : (read : List ℕ → FileRead) (w : WiresSeen) (door : DoorSeen) (asked : Option Asked) (err : SinkWritten) (n : ℕ) (s : Status) (text : List ℕ) → asked ≡ Some (generated n) → IsGivenEnd [] s text → IsUnasked w → Reports read w door door asked s [] text err
 making_reported read w door asked err n s text is h u = subst (λ o. Reports read w door door o s [] text err) (sym is) (h, refl, u, refl)

@@ -1,6 +1,6 @@
 -- That a run comes to its end: where its files are accepted, each SERVICE is such as it can take, nothing fails and nothing is too long, it is done, or memory
 -- ran out. A fault at an endpoint that queries can do without ends neither `query` nor `explain`, unless a SERVICE without SILENT names its address.
-use Rattle.std.specs.Prelude.{◌≡◌, ◌≤◌, ◌⊎◌, ℕ, Bool, false, true, List, [], length, slice_get, All, Contains, IsTrue, None, Option, Some}
+use Rattle.std.specs.Prelude.{◌≡◌, ◌≤◌, ◌⊎◌, ℕ, Bool, false, true, List, [], length, slice_get, All, Contains, IsTrue, None, Ok, Option, Some}
 use Rattle.fx_terms.specs.declared.triples.Triple.{Triple}
 use Rattle.fx_outside.specs.Doors.{DoorSeen}
 use Rattle.fx_outside.specs.Endpoints.{EndpointParts}
@@ -15,6 +15,7 @@ use Rattle.fx_grammar.specs.Accepted.{Accepted}
 use Rattle.fx_http.specs.Requests.{request_of}
 use Rattle.fx_keys.specs.declared.probes.Probe.{Probe}
 use Rattle.fx_sources.specs.Probes.{missing}
+use Rattle.fx_sources.specs.Registries.{read_registry}
 use Rattle.fx_sources.specs.Sources.{ask_text}
 use Rattle.fx_traffic.specs.Gains.{HaveGained, WiresSeen, faults_at}
 use Rattle.fx_traffic.specs.Sent.{Sent}
@@ -24,10 +25,10 @@ use Rattle.fx_outcomes.specs.Calls.{occurrences}
 use Rattle.fx_outcomes.specs.Mediation.{Serve}
 use Rattle.fx_services.specs.Beside.{Occurrence}
 use Rattle.fx_walks.specs.Unknown.{is_registered, unknown_of}
-use Rattle.fx_local.specs.Limits.{graph_limit, query_limit}
+use Rattle.fx_local.specs.Limits.{graph_limit, query_limit, registry_limit}
 use Rattle.fx_local.specs.declared.statuses.Status.{Status}
 use Rattle.fx_local.specs.declared.statuses.Status.TheVariants as status
-use Rattle.fx_words.specs.Commands.{Asked, over_file, over_members, planned, served, generated}
+use Rattle.fx_words.specs.Commands.{Asked, over_file, over_members, planned, served, gated, generated}
 use Rattle.fx_local.specs.Files.{FileRead, Holds}
 use Rattle.fx_local.specs.GraphTexts.{IsGraphText}
 use Rattle.fx_program.specs.Headline.{IsTold}
@@ -105,5 +106,9 @@ Completes read w door later (Some (over_file g q)) s out err =
 Completes read w door later (Some (served g address count)) s out err =
     (graph : List Triple) → Holds (read g) graph_limit (λ content. IsGraphText g content graph)
     → IsReadWell (read g) → later.faults ≡ door.faults → IsWrittenWell err
+    → IsDoneOrWant s
+Completes read w door later (Some (gated r address count workers block)) s out err =
+    (endpoints : List EndpointParts) → Holds (read r) registry_limit (λ content. read_registry content ≡ Ok endpoints)
+    → IsReadWell (read r) → later.faults ≡ door.faults → IsWrittenWell err
     → IsDoneOrWant s
 Completes read w door later (Some (generated size)) s out err = IsWrittenWell out → IsDoneOrWant s

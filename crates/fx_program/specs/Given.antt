@@ -14,7 +14,7 @@ use Rattle.fx_outcomes.specs.declared.rounds.OutcomeInRounds.{OutcomeInRounds}
 use Rattle.fx_outcomes.specs.declared.rounds.PlanInRounds.{PlanInRounds}
 use Rattle.fx_rounds.specs.Answered.{AreLicensed, IsPlanLicensed}
 use Rattle.fx_commands.specs.Asking.{WasAsked, WasPlanned}
-use Rattle.fx_commands.specs.MemberLines.{down_lines, left_lines}
+use Rattle.fx_lines.specs.MemberLines.{down_lines, left_lines}
 
 -- The members were asked for the query in rounds, and gave an answer, of which this is so: its document is that over the union of the graphs of those that weren't left out in these very rounds, where the SERVICEs
 -- are down that were in the last, each by its own cause; each of both has its line; no member is left out that may not be; and what was exchanged is the traffic of the query in these rounds.

@@ -22,7 +22,7 @@ use Rattle.fx_local.specs.GraphTexts.{IsGraphText}
 use Rattle.fx_commands.specs.Asking.{WasAsked, WasPlanned}
 use Rattle.fx_commands.specs.Generator.{summary}
 use Rattle.fx_local.specs.Lines.{Gains}
-use Rattle.fx_commands.specs.MemberLines.{member_failed, service_failed}
+use Rattle.fx_lines.specs.MemberLines.{member_failed, service_failed}
 use Rattle.fx_local.specs.Services.{all_numbers, silent_lines}
 use Rattle.fx_program.specs.Given.{Gives, Plans}
 use Rattle.fx_local.specs.Sinks.{SinkWritten}

@@ -6,7 +6,7 @@ use Rattle.fx_wire.specs.Exchanges.{Seen}
 use Rattle.fx_local.specs.declared.statuses.Status.{Status}
 use Rattle.fx_local.specs.declared.statuses.Status.TheVariants as status
 use Rattle.fx_commands.specs.Asking.{IsUnasked}
-use Rattle.fx_words.specs.Commands.{Asked, over_file, over_members, planned, served, generated}
+use Rattle.fx_words.specs.Commands.{Asked, over_file, over_members, planned, served, gated, generated}
 use Rattle.fx_commands.specs.Explain.{CountsLeft, IsExplainCut, IsExplainDone, IsExplainReported, IsExplainWritten, IsExplanation}
 use Rattle.fx_commands.specs.FedRefusals.{IsGivenEnd}
 use Rattle.fx_local.specs.Files.{FileRead}
@@ -16,6 +16,7 @@ use Rattle.fx_local.specs.Local.{IsAnswer, IsReported, IsWritten}
 use Rattle.fx_commands.specs.Query.{CountsDown, IsQueryCut, IsQueryDone, IsQueryReported, IsQueryWritten, IsUnionAnswer}
 use Rattle.fx_local.specs.Serving.{IsLastCut, IsMemberReported}
 use Rattle.fx_local.specs.Sinks.{SinkWritten, HasFailed, IsCutOff, IsCutShort, IsUntouched, Wrote}
+use Rattle.fx_serve.specs.Serving.{IsServeReported}
 
 -- words that are no command give the usage line, unless memory ran out
 abbrev pub IsRefused : Status → List ℕ → Type 0
@@ -23,8 +24,8 @@ IsRefused status.Usage text = text ≡ usage_line
 IsRefused status.NoMemory text = text ≡ no_memory
 IsRefused s text = ⊥
 
--- What a run reports, by the files that its words name, if they are a command: the lines of connections, which a member alone writes and
--- which are whole, and the line behind them, which isn't whole where a member's write failed. All that is seen of the wires is as it was where the command asks no members, and all that is
+-- What a run reports, by the files that its words name, if they are a command: the lines of connections, which `member` and `serve` alone write and
+-- which are whole, and what is written behind them, which isn't whole where a write of theirs failed. All that is seen of the wires is as it was where the command asks no members, and all that is
 -- seen of the door where it serves nothing.
 abbrev pub Reports : (List ℕ → FileRead) → WiresSeen → DoorSeen → DoorSeen → Option Asked → Status → List ℕ → List ℕ → SinkWritten → Type 0
 Reports read w door later None s lines text err = IsRefused s text × (lines ≡ []) × IsUnasked w × (later ≡ door)
@@ -32,6 +33,7 @@ Reports read w door later (Some (over_file graph query)) s lines text err = IsRe
 Reports read w door later (Some (over_members registry query workers block)) s lines text err = IsQueryReported w (read registry) (read query) block s text × (lines ≡ []) × (later ≡ door)
 Reports read w door later (Some (planned registry query)) s lines text err = IsExplainReported w (read registry) (read query) s text × (lines ≡ []) × (later ≡ door)
 Reports read w door later (Some (served graph address count)) s lines text err = IsMemberReported (read graph) door later address count s lines text × IsUnasked w × IsLastCut s err lines text
+Reports read w door later (Some (gated registry address count workers block)) s lines text err = IsServeReported (read registry) w door later address count block s lines text × IsLastCut s err lines text
 Reports read w door later (Some (generated size)) s lines text err = IsGivenEnd [] s text × (lines ≡ []) × IsUnasked w × (later ≡ door)
 
 -- what a run reports, and that its sink of lines gained these
@@ -45,6 +47,7 @@ Writes read before (Some (over_file graph query)) s old new = IsWritten (read gr
 Writes read before (Some (over_members registry query workers block)) s old new = IsQueryWritten before (read registry) (read query) s old new
 Writes read before (Some (planned registry query)) s old new = IsExplainWritten before (read registry) (read query) s old new
 Writes read before (Some (served graph address count)) s old new = new ≡ old
+Writes read before (Some (gated registry address count workers block)) s old new = new ≡ old
 Writes read before (Some (generated size)) s old new = Wrote (λ text. text ≡ summary size) s old new
 
 -- What `query` and `explain` write is what the members gave, whatever is told of files and graphs: with `Done` the document, or the text of the plan, and a line for each member that is left out and each
@@ -56,20 +59,22 @@ WritesGiven read w (Some (planned registry query)) s out err = (s ≡ status.Don
 WritesGiven read w asked s out err = Unit {0}
 
 -- Which write failed, with the status `WriteFault`: for `local`, `query` and `explain` one of the document or the text, or of the lines behind it, for `generate` one on
--- standard output alone, and for a member one of its lines.
+-- standard output alone, and for `member` and `serve` one of their lines.
 abbrev pub FailsToWrite : (List ℕ → FileRead) → List Seen → Option Asked → SinkWritten → SinkWritten → Type 0
 FailsToWrite read before None out err = ⊥
 FailsToWrite read before (Some (over_file graph query)) out err = IsCutShort (IsAnswer (read graph) (read query)) out err
 FailsToWrite read before (Some (over_members registry query workers block)) out err = IsCutShort (IsUnionAnswer before (read registry) (read query)) out err
 FailsToWrite read before (Some (planned registry query)) out err = IsCutShort (IsExplanation before (read registry) (read query)) out err
 FailsToWrite read before (Some (served graph address count)) out err = IsUntouched out × HasFailed err
+FailsToWrite read before (Some (gated registry address count workers block)) out err = IsUntouched out × HasFailed err
 FailsToWrite read before (Some (generated size)) out err = IsCutOff out err
 
 -- How many faults a run that is done counts at each address, by wires that count each address alone: none, but for `query` and `explain` at least as many as their lines say that the wire failed, and
--- where no member is left out exactly so many.
+-- where no member is left out exactly so many. What `serve` counts is said of each connection.
 abbrev pub CountsEndpoints : (List ℕ → FileRead) → Option Asked → List Seen → List Seen → SinkWritten → Type 0
 CountsEndpoints read (Some (over_members registry query workers block)) before after err = CountsDown (read registry) (read query) before after err
 CountsEndpoints read (Some (planned registry query)) before after err = CountsLeft (read registry) before after err
+CountsEndpoints read (Some (gated registry address count workers block)) before after err = Unit {0}
 CountsEndpoints read asked before after err = (address : List ℕ) → faults_at after address ≡ faults_at before address
 
 -- how many wires a run uses at most, from the first on: none where it asks no members
@@ -79,6 +84,7 @@ wires_used (Some (over_file graph query)) = 0
 wires_used (Some (over_members registry query workers block)) = workers
 wires_used (Some (planned registry query)) = 4
 wires_used (Some (served graph address count)) = 0
+wires_used (Some (gated registry address count workers block)) = workers
 wires_used (Some (generated size)) = 0
 
 -- So many wires at most are used, from the first on: what they are before and after. The others are as they were.

@@ -12,6 +12,7 @@ ghost use Rattle.fx_local.specs.Sinks.{sink_written};
 use fx_commands::{run_explain, run_generate, run_query};
 use fx_local::{Refusal, Status, run_local, run_member, write_refusal, write_usage};
 use fx_outside::{Door, Files, Sink};
+use fx_serve::{Serve, run_serve};
 use fx_wire::Wire;
 use fx_words::{Command, CommandError, read_command};
 use std::alloc::Global;
@@ -22,8 +23,8 @@ use std::thread::Threads;
 const EXPLAIN_WIRES: usize = 4;
 
 /// Runs the command that the words behind the program's name are, over these files, the first of these wires, and this door: `query` uses as many
-/// wires as the words say, 16 at most, and `explain` 4; `generate` makes its own, and uses none of these. It
-/// writes the command's document or text on `out`, and the line of any other end on `err`, as well as a line for each connection that it
+/// wires as the words say, 16 at most, as does `serve`, and `explain` 4; `generate` makes its own, and uses none of these. It
+/// writes the command's document or text on `out`, and the line of any other end on `err`, as well as the lines of each connection that it
 /// serves.
 ///
 /// The document or text and the lines behind it are whole before the first byte is written, so that on every status but `Done` and
@@ -50,8 +51,9 @@ pub fn run<R: Threads + Wait + Sync, F: Files, W: Wire + Send, D: Door, O: Sink,
     // registry marks as optional don't count, unless a SERVICE without SILENT names its address.
     ensures completes { OnWires W.tells_log W.counts_alone W.seen (wires_used (asked_in words.now)) wires.old wires.new (λ seen. Completes (file_read (F.seen files.old) (F.seen files.new)) seen (D.seen door.old) (D.seen door.new) (asked_in words.now) result (sink_written O.tells_held O.held O.write_faults out.old out.new) (sink_written E.tells_held E.held E.write_faults err.old err.new)) }
 
-    // Each status comes with its cause alone, and with its line on `err`, behind the lines of the connections that a member served, which are
-    // whole. Where members were asked it also says what for.
+    // Each status comes with its cause alone, and with its line on `err`, behind the lines of the connections that `member` or `serve` served, which are
+    // whole. Where members were asked it also says what for. Where the wires tell the graphs of the members, and the door what comes in and goes out, each connection of `serve` has the reply that
+    // is due over the union of the graphs of the members that its lines don't name.
     ensures reported { OnWires W.tells_log W.counts_alone W.seen (wires_used (asked_in words.now)) wires.old wires.new (λ seen. HasReport (file_read (F.seen files.old) (F.seen files.new)) seen (D.seen door.old) (D.seen door.new) (asked_in words.now) result (sink_written E.tells_held E.held E.write_faults err.old err.new)) }
 
     // With `Done`, `out` gained exactly the document of the query's answer, over the file's graph or over the union of the
@@ -70,7 +72,7 @@ pub fn run<R: Threads + Wait + Sync, F: Files, W: Wire + Send, D: Door, O: Sink,
 
     // No fault of files and of the door is hidden: each count is as it was, or the status names the one fault, which is counted once. Where
     // wires count each address alone, `Done` says that none was counted there, but for `query` and `explain` one for each line that says that the wire failed, and
-    // perhaps more where a member is left out.
+    // perhaps more where a member is left out. `serve` may count some in each connection.
     ensures read_faults { CountsOnly Status.ReadFault result (F.seen files.old).faults (F.seen files.new).faults }
     ensures endpoint_faults { IsTrue W.counts_alone → result ≡ Status.Done → CountsEndpoints (file_read (F.seen files.old) (F.seen files.new)) (asked (map (λ w. string_bytes w) words.now)) (map W.seen wires.old) (map W.seen wires.new) (sink_written E.tells_held E.held E.write_faults err.old err.new) }
     ensures door_faults { CountsDoor result (D.seen door.old).faults (D.seen door.new).faults }
@@ -109,6 +111,24 @@ pub fn run<R: Threads + Wait + Sync, F: Files, W: Wire + Send, D: Door, O: Sink,
                 count,
             },
         ) => run_member(alloc, files, door, graph, address, count, err),
+        Ok(
+            Command::Serve {
+                registry,
+                address,
+                count,
+                workers,
+                block,
+            },
+        ) => {
+            let (used, _) = wires.split_at_mut((workers as usize).min(wires.len()));
+            let asked = Serve {
+                registry,
+                address,
+                count,
+                block,
+            };
+            run_serve(rt, alloc, files, used, door, asked, err)
+        }
         Ok(Command::Generate { size }) => run_generate(rt, alloc, size, out, err),
     }
 }

@@ -4,7 +4,7 @@ use Rattle.std.specs.Borrow.{Bor}
 use Rattle.std.specs.Str.{all_ascii_digits, bytes_eq}
 use Rattle.std.specs.Str.Parse.{digits_value}
 use Rattle.fx_words.specs.declared.commands.Command.{Command}
-use Rattle.fx_words.specs.declared.commands.Command.TheVariants.{Local, Query, Explain, Member, Generate}
+use Rattle.fx_words.specs.declared.commands.Command.TheVariants.{Local, Query, Explain, Member, Serve, Generate}
 use Rattle.fx_words.specs.declared.commands.CommandError.{CommandError}
 use Rattle.fx_words.specs.declared.commands.CommandError.TheVariants.{Usage, Memory}
 
@@ -19,6 +19,9 @@ explain_word = codes "explain"
 
 abbrev pub member_word : List ℕ
 member_word = codes "member"
+
+abbrev pub serve_word : List ℕ
+serve_word = codes "serve"
 
 abbrev pub generate_word : List ℕ
 generate_word = codes "generate"
@@ -45,12 +48,14 @@ positionals (w ∷ ws) = if bytes_eq w end_of_options then Some ws else if is_op
 
 -- what a command is asked to do: to answer the query of a file over the graph of a file, or over the members of a registry, with so
 -- many workers and so many rows in a block; to print the plan of a query over such members; to serve the graph of a file at an
--- address, for so many connections; or to make members of a size, and to count with them
+-- address, for so many connections; to serve the members of a registry so, as if they were one, for so many connections, with so
+-- many workers and so many rows in a block; or to make members of a size, and to count with them
 pub data Asked : Type 0 where
   over_file : List ℕ → List ℕ → Asked
   over_members : List ℕ → List ℕ → ℕ → ℕ → Asked
   planned : List ℕ → List ℕ → Asked
   served : List ℕ → List ℕ → ℕ → Asked
+  gated : List ℕ → List ℕ → ℕ → ℕ → ℕ → Asked
   generated : ℕ → Asked
 
 -- two files
@@ -105,9 +110,9 @@ generate_asked [] = None
 generate_asked (n ∷ []) = of_size (number_to 10000 n)
 generate_asked (n ∷ w ∷ ws) = None
 
--- ---- the options of `query`
+-- ---- the options of `query` and `serve`
 
--- what the words of a query give: those that are no options, and the values that each option is given
+-- what the words of such a command give: those that are no options, and the values that each option is given
 pub record QueryWords : Type 0 where
   pub positionals : List (List ℕ)
   pub workers : List (List ℕ)
@@ -179,6 +184,29 @@ query_parts None workers block = None
 abbrev pub query_asked : QueryWords → Option Asked
 query_asked g = query_parts (two_files g.positionals) (number_of 16 4 g.workers) (number_of 64 15 g.blocks)
 
+-- the first two of words
+abbrev pub first_two : List (List ℕ) → Option (List ℕ × List ℕ)
+first_two [] = None
+first_two (r ∷ []) = None
+first_two (r ∷ a ∷ ws) = Some (r, a)
+
+-- the number of connections that words give: one of them says it, or there is none, and then there are as many connections as a
+-- number can say
+abbrev pub counted : List (List ℕ) → Option ℕ
+counted words = number_of 18446744073709551615 18446744073709551615 words
+
+-- a file, an address and three numbers, where there are such
+abbrev pub gated_parts : Option (List ℕ × List ℕ) → Option ℕ → Option ℕ → Option ℕ → Option Asked
+gated_parts (Some places) (Some count) (Some workers) (Some block) = Some (gated places.0 places.1 count workers block)
+gated_parts (Some places) (Some count) (Some workers) None = None
+gated_parts (Some places) (Some count) None block = None
+gated_parts (Some places) None workers block = None
+gated_parts None count workers block = None
+
+-- a file, an address, a number of connections, 1 to 16 workers, and 1 to 64 rows in a block
+abbrev pub serve_asked : QueryWords → Option Asked
+serve_asked g = gated_parts (first_two g.positionals) (counted (drop 2 g.positionals)) (number_of 16 4 g.workers) (number_of 64 15 g.blocks)
+
 -- ---- commands
 
 -- what the words ask for, where they are a command that is built
@@ -189,6 +217,7 @@ asked (c ∷ ws) =
     else if bytes_eq c query_word then option_and_then query_asked (query_words ws)
     else if bytes_eq c explain_word then of_files planned (option_and_then two_files (positionals ws))
     else if bytes_eq c member_word then option_and_then member_asked (positionals ws)
+    else if bytes_eq c serve_word then option_and_then serve_asked (query_words ws)
     else if bytes_eq c generate_word then option_and_then generate_asked (positionals ws)
     else None
 
@@ -203,6 +232,7 @@ asked_by (Local g q) = over_file g.now q.now
 asked_by (Query r q workers block) = over_members r.now q.now workers block
 asked_by (Explain r q) = planned r.now q.now
 asked_by (Member g a n) = served g.now a.now n
+asked_by (Serve r a n workers block) = gated r.now a.now n workers block
 asked_by (Generate size) = generated size
 
 -- unless memory ran out, the answer is the command that the words are
@@ -211,12 +241,13 @@ GivesCommand (Ok command) wanted = wanted ≡ Some (asked_by command)
 GivesCommand (Err Usage) wanted = wanted ≡ None
 GivesCommand (Err Memory) wanted = Unit {0}
 
--- the numbers of a query and of making are within their limits
+-- the numbers of a query, of a served federation and of making are within their limits
 abbrev pub IsWithin : Command → Type 0
 IsWithin (Query r q workers block) = (1 ≤ workers) × (workers ≤ 16) × (1 ≤ block) × (block ≤ 64)
 IsWithin (Local g q) = Unit {0}
 IsWithin (Explain r q) = Unit {0}
 IsWithin (Member g a n) = Unit {0}
+IsWithin (Serve r a n workers block) = (1 ≤ workers) × (workers ≤ 16) × (1 ≤ block) × (block ≤ 64)
 IsWithin (Generate size) = (1 ≤ size) × (size ≤ 10000)
 
 -- unless memory ran out, the answer is the two files that the words are

@@ -7,7 +7,7 @@ use Rattle.clap.specs.declared.error.kind.ErrorKind.{ErrorKind}
 use Rattle.clap.specs.declared.error.kind.ErrorKind.TheVariants.{OutOfMemory}
 use Rattle.fx_words.specs.declared.commands.CommandError.{CommandError}
 use Rattle.fx_words.specs.declared.commands.CommandError.TheVariants.{Usage, Memory}
-use Rattle.fx_words.specs.Commands.{Asked, count_of, number_of, number_to, of_count, of_size, query_parts, served}
+use Rattle.fx_words.specs.Commands.{Asked, count_of, counted, gated_parts, number_of, number_to, of_count, of_size, query_parts, served}
 
 -- a positional argument, and an option with a value
 abbrev pub positional : Text → Bool → Rule
@@ -36,6 +36,12 @@ query_app = with_rule (with_rule (two_places (codes "query") (codes "REGISTRY") 
 abbrev pub member_app : App
 member_app = with_rule (two_places (codes "member") (codes "GRAPH") (codes "ADDRESS")) (positional (codes "COUNT") false)
 
+-- serve REGISTRY ADDRESS [COUNT] [--workers N] [--block B]
+abbrev pub serve_app : App
+serve_app =
+    let places = with_rule (two_places (codes "serve") (codes "REGISTRY") (codes "ADDRESS")) (positional (codes "COUNT") false) in
+    with_rule (with_rule places (valued (codes "workers"))) (valued (codes "block"))
+
 -- generate N
 abbrev pub generate_app : App
 generate_app = with_rule (bare (codes "generate")) (positional (codes "N") true)
@@ -55,6 +61,10 @@ two_given (Some first) (Some second) = Some (first, second)
 abbrev pub query_given : Option Text → Option Text → Option Text → Option Text → Option Asked
 query_given registry query workers block = query_parts (two_given registry query) (number_of 16 4 (given workers)) (number_of 64 15 (given block))
 
+abbrev pub serve_given : Option Text → Option Text → Option Text → Option Text → Option Text → Option Asked
+serve_given registry address count workers block =
+    gated_parts (two_given registry address) (counted (given count)) (number_of 16 4 (given workers)) (number_of 64 15 (given block))
+
 abbrev pub served_by : Option (Text × Text) → Option Text → Option Asked
 served_by None count = None
 served_by (Some p) None = Some (served p.0 p.1 18446744073709551615)
@@ -72,6 +82,10 @@ query_read rows = query_given (first_of (codes "REGISTRY") rows) (first_of (code
 
 abbrev pub member_read : List Row → Option Asked
 member_read rows = served_by (two_given (first_of (codes "GRAPH") rows) (first_of (codes "ADDRESS") rows)) (first_of (codes "COUNT") rows)
+
+abbrev pub serve_read : List Row → Option Asked
+serve_read rows =
+    serve_given (first_of (codes "REGISTRY") rows) (first_of (codes "ADDRESS") rows) (first_of (codes "COUNT") rows) (first_of (codes "workers") rows) (first_of (codes "block") rows)
 
 abbrev pub generate_read : List Row → Option Asked
 generate_read rows = generate_given (first_of (codes "N") rows)

@@ -5,15 +5,15 @@ ghost use Rattle.fx_words.specs.Commands as spec;
 ghost use Rattle.fx_words.specs.Parsed as parsed;
 
 use crate::numbers::number_to;
-use crate::parsing::{files_of, generate_of, member_of, query_of};
+use crate::parsing::{files_of, generate_of, member_of, query_of, serve_of};
 use std::alloc::{AllocError, AllocFailed, Global};
 
-// The workers of a query whose words name no number, and the most that they may name.
+// The workers of a query, or of a served federation, whose words name no number, and the most that they may name.
 const WORKERS: u32 = 4;
 
 const MOST_WORKERS: u32 = 16;
 
-// The rows in a block of a query whose words name no number, and the most that they may name.
+// The rows in a block of one whose words name no number, and the most that they may name.
 const BLOCK: u32 = 15;
 
 const MOST_BLOCK: u32 = 64;
@@ -46,6 +46,15 @@ pub enum Command<'a> {
         graph: &'a str,
         address: &'a str,
         count: u64,
+    },
+    /// Serves the members of the registry of a file at an address as one endpoint, for so many connections, with so many workers
+    /// and so many rows in a block.
+    Serve {
+        registry: &'a str,
+        address: &'a str,
+        count: u64,
+        workers: u32,
+        block: u32,
     },
     /// Makes three members of so many persons in memory, and counts the rows of a query over them.
     Generate {
@@ -85,7 +94,7 @@ impl From<AllocError> for CommandError {
 }
 
 /// The command that the words after the program's name are. The first is the command's own. Behind `--` every word is a
-/// positional; before it a word that begins with `-` and is longer than that is an option, and `query` alone has options.
+/// positional; before it a word that begins with `-` and is longer than that is an option, and `query` and `serve` alone have options.
 ///
 /// `--workers` and `--block` have a number as their value, which is the next word, or stands behind an equals sign in the same
 /// one. Each stands once at most, before, between or behind the positionals.
@@ -107,6 +116,9 @@ pub fn read_command(alloc: Global, words: &[String]) -> Result<Command<'_>, Comm
     }
     if is_member(command.as_str()) {
         return member_of(alloc, words);
+    }
+    if is_serve(command.as_str()) {
+        return serve_of(alloc, words);
     }
     if is_generate(command.as_str()) {
         return generate_of(alloc, words);
@@ -217,6 +229,45 @@ pub(crate) fn member_parts<'a>(
     }
 }
 
+pub(crate) fn serve_parts<'a>(
+    registry: Option<&'a str>,
+    address: Option<&'a str>,
+    count: Option<&str>,
+    workers: Option<&str>,
+    block: Option<&str>,
+) -> Result<Command<'a>, CommandError>
+    ensures asked { spec.GivesCommand result (parsed.serve_given (option_map (λ t. t.now) registry.entry) (option_map (λ t. t.now) address.entry) (option_map (λ t. t.now) count.entry) (option_map (λ t. t.now) workers.entry) (option_map (λ t. t.now) block.entry)) }
+    ensures within { IfOk result (λ command. spec.IsWithin command) }
+{
+    let (registry, address) = two_files(registry, address)?;
+    let Some(count) = connections(count) else {
+        return Err(CommandError::Usage);
+    };
+    let Some(workers) = number_of(MOST_WORKERS, WORKERS, workers) else {
+        return Err(CommandError::Usage);
+    };
+    let Some(block) = number_of(MOST_BLOCK, BLOCK, block) else {
+        return Err(CommandError::Usage);
+    };
+    Ok(Command::Serve {
+        registry,
+        address,
+        count,
+        workers,
+        block,
+    })
+}
+
+// The number of connections that a word says, or as many as a number can say.
+fn connections(count: Option<&str>) -> Option<u64>
+    ensures { result ≡ spec.counted (parsed.given (option_map (λ t. t.now) count.entry)) }
+{
+    match count {
+        None => Some(u64::MAX),
+        Some(count) => count_of(count),
+    }
+}
+
 pub(crate) fn generate_parts<'a>(size: Option<&str>) -> Result<Command<'a>, CommandError>
     ensures asked { spec.GivesCommand result (parsed.generate_given (option_map (λ t. t.now) size.entry)) }
     ensures within { IfOk result (λ command. spec.IsWithin command) }
@@ -272,6 +323,12 @@ fn is_member(word: &str) -> bool
     ensures { result ≡ bytes_eq word.now (spec.member_word) }
 {
     word == "member"
+}
+
+fn is_serve(word: &str) -> bool
+    ensures { result ≡ bytes_eq word.now (spec.serve_word) }
+{
+    word == "serve"
 }
 
 fn is_generate(word: &str) -> bool

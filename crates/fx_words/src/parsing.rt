@@ -5,7 +5,7 @@ ghost use Rattle.fx_words.specs.Commands as spec;
 ghost use Rattle.fx_words.specs.Parsed as parsed;
 
 use crate::commands::{
-    Command, CommandError, generate_parts, member_parts, query_parts, two_files,
+    Command, CommandError, generate_parts, member_parts, query_parts, serve_parts, two_files,
 };
 use clap::error::ErrorKind;
 use clap::{Arg, ArgAction, Error};
@@ -59,6 +59,24 @@ pub(crate) fn member_of<'a>(alloc: Global, words: &'a [String]) -> Result<Comman
     }
 }
 
+// The served federation that words ask for.
+pub(crate) fn serve_of<'a>(alloc: Global, words: &'a [String]) -> Result<Command<'a>, CommandError>
+    ensures asked { spec.GivesCommand result (option_and_then spec.serve_asked (spec.query_words (drop 1 (map (λ w. string_bytes w) words.now)))) }
+    ensures within { IfOk result (λ command. spec.IsWithin command) }
+{
+    let form = serve_form(alloc)?;
+    match form.try_get_matches_from(words) {
+        Ok(found) => serve_parts(
+            found.get_str("REGISTRY"),
+            found.get_str("ADDRESS"),
+            found.get_str("COUNT"),
+            found.get_str("workers"),
+            found.get_str("block"),
+        ),
+        Err(error) => Err(refusal(&error)),
+    }
+}
+
 // The making that words ask for.
 pub(crate) fn generate_of<'a>(
     alloc: Global,
@@ -100,6 +118,16 @@ fn member_form<'a>(alloc: Global) -> Result<clap::Command<'a>, AllocError>
     ensures { IfOk result (λ form. app_of form ≡ parsed.member_app) }
 {
     two_places(alloc, "member", "GRAPH", "ADDRESS")?.arg(positional(alloc, "COUNT", false))
+}
+
+// serve REGISTRY ADDRESS [COUNT] [--workers N] [--block B]
+fn serve_form<'a>(alloc: Global) -> Result<clap::Command<'a>, AllocError>
+    ensures { IfOk result (λ form. app_of form ≡ parsed.serve_app) }
+{
+    two_places(alloc, "serve", "REGISTRY", "ADDRESS")?
+        .arg(positional(alloc, "COUNT", false))?
+        .arg(valued(alloc, "workers"))?
+        .arg(valued(alloc, "block"))
 }
 
 // generate N

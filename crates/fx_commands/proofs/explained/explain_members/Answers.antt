@@ -4,7 +4,7 @@ use Rattle.fx_plan.specs.Explained.{explained}
 use Rattle.fx_traffic.specs.Gains.{wires_seen}
 use Rattle.fx_commands.specs.Explain.{IsPlanCut, IsPlanWritten}
 use Rattle.fx_commands.specs.FedRefusals.{IsGivenEnd, fed_line}
-use Rattle.fx_commands.specs.MemberLines.{plan_lines}
+use Rattle.fx_lines.specs.MemberLines.{plan_lines}
 use Rattle.fx_local.specs.Sinks.{sink_written}
 use Rattle.fx_commands.proofs.QueryLemmas.{cut_so, fed_not_cut, fed_not_done, front_cut, refused_wrote, wrote_so}
 use Rattle.fx_commands.proofs.ExplainLemmas.{plan_cut, plan_done, plan_given, plan_refused, plan_text}

@@ -2,7 +2,7 @@ use Rattle.std.proofs.Common.{◌∙◌, List, subst, sym}
 use Rattle.fx_outside.specs.Endpoints.{EndpointParts}
 use Rattle.fx_traffic.specs.Gains.{wires_seen}
 use Rattle.fx_commands.specs.FedRefusals.{IsGivenEnd, fed_line}
-use Rattle.fx_commands.specs.MemberLines.{answer_lines}
+use Rattle.fx_lines.specs.MemberLines.{answer_lines}
 use Rattle.fx_commands.specs.Query.{IsOutcomeWritten}
 use Rattle.fx_local.specs.Sinks.{sink_written}
 use Rattle.fx_commands.proofs.QueryLemmas.{cut_so, fed_not_cut, fed_not_done, front_cut, given_cut, given_done, given_reported, refusal_reported, refused_wrote, union_document, wrote_so}

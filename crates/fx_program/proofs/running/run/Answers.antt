@@ -2,7 +2,7 @@ use Rattle.std.proofs.Common.{◌≡◌, ap, sym, subst, refl, ℕ, List, [], �
 use Rattle.fx_pool.proofs.WireLemmas.{after_itself}
 use Rattle.fx_wire.specs.Exchanges.{Seen}
 use Rattle.fx_traffic.specs.Gains.{WiresSeen, wires_seen}
-use Rattle.fx_words.specs.Commands.{Asked, asked, over_members, planned}
+use Rattle.fx_words.specs.Commands.{Asked, asked, gated, over_members, planned}
 use Rattle.fx_program.specs.Completeness.{Completes}
 use Rattle.fx_local.specs.Files.{file_read}
 use Rattle.fx_commands.specs.Explain.{IsExplainWritten, IsExplanation}
@@ -13,10 +13,10 @@ use Rattle.fx_commands.specs.Query.{IsQueryWritten, IsUnionAnswer}
 use Rattle.fx_program.specs.Runs.{Reports, WritesGiven, wires_used}
 use Rattle.fx_local.specs.Sinks.{IsCutShort, sink_written}
 use Rattle.fx_local.specs.declared.statuses.Status.TheVariants as status
-use Rattle.fx_program.proofs.CompletenessLemmas.{explain_completes, local_completes, making_completes, member_completes, query_completes, want_completes}
+use Rattle.fx_program.proofs.CompletenessLemmas.{explain_completes, local_completes, making_completes, member_completes, query_completes, serve_completes, want_completes}
 use Rattle.fx_local.proofs.GainLemmas.{gains_alone}
 use Rattle.fx_program.proofs.HeadlineLemmas.{explain_headline, local_headline, making_headline, no_headline, query_headline, usage_gives_nothing, want_gives_nothing}
-use Rattle.fx_program.proofs.ReportLemmas.{file_counts, file_reported, making_counts, making_cut, making_reported, making_written, members_counts, members_cut, members_reported, members_written, memory_reported, nothing_written, plan_counts, plan_cut, plan_reported, plan_written, serving_counts, serving_reported, usage_reported}
+use Rattle.fx_program.proofs.ReportLemmas.{file_counts, file_reported, gated_counts, gated_cut, gated_reported, gated_written, making_counts, making_cut, making_reported, making_written, members_counts, members_cut, members_reported, members_written, memory_reported, nothing_written, plan_counts, plan_cut, plan_reported, plan_written, serving_counts, serving_reported, usage_reported}
 use Rattle.fx_commands.proofs.FaultLemmas.{counts_down}
 use Rattle.fx_program.proofs.UsedLemmas.{on_same, on_taken, on_used, used_after, used_down, used_left}
 use Rattle.fx_program.proofs.running.run.Goals as goal
@@ -375,6 +375,81 @@ returns-in-Ok-Member-clause-wired g c = after_itself (map g.W.Wire.seen c.args.w
 
 pub returns-in-Ok-Member-clause-endpoint_faults : goal.returns-in-Ok-Member-clause-endpoint_faults
 returns-in-Ok-Member-clause-endpoint_faults g c = λ alone done. serving_counts _ _ _ _ c.in-Ok-Member.graph.now c.in-Ok-Member.address.now c.in-Ok-Member.count (rw c.in-Ok-Member.field-0-is at c.in-Ok-Member.ensures.asked)
+
+-- ---- `serve`
+
+pub returns-in-Ok-Serve-clause-headline : goal.returns-in-Ok-Serve-clause-headline
+returns-in-Ok-Serve-clause-headline g c =
+    let a = asked (map (λ w. string_bytes w) c.args.words.now) in
+    let is : a ≡ Some (gated c.in-Ok-Serve.registry.now c.in-Ok-Serve.address.now c.in-Ok-Serve.count c.in-Ok-Serve.workers c.in-Ok-Serve.block) = rw c.in-Ok-Serve.field-0-is at c.in-Ok-Serve.ensures.asked in
+    let w : WiresSeen = wires_seen g.W.Wire.tells_log g.W.Wire.counts_alone g.W.Wire.seen c.split_at_mut-used-in-Ok-Serve.result.0.now c.run_serve.new.wires in
+    let read = file_read (g.F.Files.seen c.args.files.now) (g.F.Files.seen c.run_serve.new.files) in
+    let out = sink_written g.O.Ends.tells_held g.O.Ends.held g.O.Ends.write_faults c.args.out.now c.args.out.now in
+    let err = sink_written g.E.Ends.tells_held g.E.Ends.held g.E.Ends.write_faults c.args.err.now c.run_serve.new.err in
+    on_used g.W.Wire.seen g.W.Wire.tells_log g.W.Wire.counts_alone (λ (w : WiresSeen). Headline read w a c.run_serve.result out err) (wires_used a) c.in-Ok-Serve.workers c.min-in-Ok-Serve.result c.args.wires.now c.split_at_mut-used-in-Ok-Serve.result.0.now c.split_at_mut-used-in-Ok-Serve.result.1.now c.run_serve.new.wires
+    (ap wires_used is) c.min-in-Ok-Serve.ensures c.split_at_mut-used-in-Ok-Serve.ensures.front c.split_at_mut-used-in-Ok-Serve.ensures.back
+    (subst (λ (o : Option Asked). Headline read w o c.run_serve.result out err) (sym is) tt)
+
+pub returns-in-Ok-Serve-clause-given : goal.returns-in-Ok-Serve-clause-given
+returns-in-Ok-Serve-clause-given g c =
+    let a = asked (map (λ w. string_bytes w) c.args.words.now) in
+    let is : a ≡ Some (gated c.in-Ok-Serve.registry.now c.in-Ok-Serve.address.now c.in-Ok-Serve.count c.in-Ok-Serve.workers c.in-Ok-Serve.block) = rw c.in-Ok-Serve.field-0-is at c.in-Ok-Serve.ensures.asked in
+    let w : WiresSeen = wires_seen g.W.Wire.tells_log g.W.Wire.counts_alone g.W.Wire.seen c.split_at_mut-used-in-Ok-Serve.result.0.now c.run_serve.new.wires in
+    let read = file_read (g.F.Files.seen c.args.files.now) (g.F.Files.seen c.run_serve.new.files) in
+    let out = sink_written g.O.Ends.tells_held g.O.Ends.held g.O.Ends.write_faults c.args.out.now c.args.out.now in
+    let err = sink_written g.E.Ends.tells_held g.E.Ends.held g.E.Ends.write_faults c.args.err.now c.run_serve.new.err in
+    on_used g.W.Wire.seen g.W.Wire.tells_log g.W.Wire.counts_alone (λ (w : WiresSeen). WritesGiven read w a c.run_serve.result out err) (wires_used a) c.in-Ok-Serve.workers c.min-in-Ok-Serve.result c.args.wires.now c.split_at_mut-used-in-Ok-Serve.result.0.now c.split_at_mut-used-in-Ok-Serve.result.1.now c.run_serve.new.wires
+    (ap wires_used is) c.min-in-Ok-Serve.ensures c.split_at_mut-used-in-Ok-Serve.ensures.front c.split_at_mut-used-in-Ok-Serve.ensures.back
+    (subst (λ (o : Option Asked). WritesGiven read w o c.run_serve.result out err) (sym is) tt)
+
+pub returns-in-Ok-Serve-clause-completes : goal.returns-in-Ok-Serve-clause-completes
+returns-in-Ok-Serve-clause-completes g c =
+    let a = asked (map (λ w. string_bytes w) c.args.words.now) in
+    let is : a ≡ Some (gated c.in-Ok-Serve.registry.now c.in-Ok-Serve.address.now c.in-Ok-Serve.count c.in-Ok-Serve.workers c.in-Ok-Serve.block) = rw c.in-Ok-Serve.field-0-is at c.in-Ok-Serve.ensures.asked in
+    let w : WiresSeen = wires_seen g.W.Wire.tells_log g.W.Wire.counts_alone g.W.Wire.seen c.split_at_mut-used-in-Ok-Serve.result.0.now c.run_serve.new.wires in
+    let read = file_read (g.F.Files.seen c.args.files.now) (g.F.Files.seen c.run_serve.new.files) in
+    let door = g.D.Door.seen c.args.door.now in
+    let later = g.D.Door.seen c.run_serve.new.door in
+    let out = sink_written g.O.Ends.tells_held g.O.Ends.held g.O.Ends.write_faults c.args.out.now c.args.out.now in
+    let err = sink_written g.E.Ends.tells_held g.E.Ends.held g.E.Ends.write_faults c.args.err.now c.run_serve.new.err in
+    let told = c.run_serve.ensures.reported in
+    on_used g.W.Wire.seen g.W.Wire.tells_log g.W.Wire.counts_alone (λ (w : WiresSeen). Completes read w door later a c.run_serve.result out err) (wires_used a) c.in-Ok-Serve.workers c.min-in-Ok-Serve.result c.args.wires.now c.split_at_mut-used-in-Ok-Serve.result.0.now c.split_at_mut-used-in-Ok-Serve.result.1.now c.run_serve.new.wires
+    (ap wires_used is) c.min-in-Ok-Serve.ensures c.split_at_mut-used-in-Ok-Serve.ensures.front c.split_at_mut-used-in-Ok-Serve.ensures.back
+    (subst (λ (o : Option Asked). Completes read w door later o c.run_serve.result out err) (sym is)
+    (serve_completes (read c.in-Ok-Serve.registry.now) w door later c.in-Ok-Serve.address.now c.in-Ok-Serve.count c.in-Ok-Serve.block c.run_serve.result told.0 told.1 err told.2 c.run_serve.ensures.write_fault))
+
+pub returns-in-Ok-Serve-clause-reported : goal.returns-in-Ok-Serve-clause-reported
+returns-in-Ok-Serve-clause-reported g c =
+    let a = asked (map (λ w. string_bytes w) c.args.words.now) in
+    let is : a ≡ Some (gated c.in-Ok-Serve.registry.now c.in-Ok-Serve.address.now c.in-Ok-Serve.count c.in-Ok-Serve.workers c.in-Ok-Serve.block) = rw c.in-Ok-Serve.field-0-is at c.in-Ok-Serve.ensures.asked in
+    let w : WiresSeen = wires_seen g.W.Wire.tells_log g.W.Wire.counts_alone g.W.Wire.seen c.split_at_mut-used-in-Ok-Serve.result.0.now c.run_serve.new.wires in
+    let read = file_read (g.F.Files.seen c.args.files.now) (g.F.Files.seen c.run_serve.new.files) in
+    let door = g.D.Door.seen c.args.door.now in
+    let later = g.D.Door.seen c.run_serve.new.door in
+    let err = sink_written g.E.Ends.tells_held g.E.Ends.held g.E.Ends.write_faults c.args.err.now c.run_serve.new.err in
+    let told = c.run_serve.ensures.reported in
+    on_used g.W.Wire.seen g.W.Wire.tells_log g.W.Wire.counts_alone
+    (λ (w : WiresSeen). (lines : List ℕ) × (text : List ℕ) × Reports read w door later a c.run_serve.result lines text err × (IsTrue g.E.Ends.tells_held → Gains (g.E.Ends.held c.args.err.now ++ lines) (g.E.Ends.held c.run_serve.new.err) (g.E.Ends.write_faults c.args.err.now) (g.E.Ends.write_faults c.run_serve.new.err) text))
+    (wires_used a) c.in-Ok-Serve.workers c.min-in-Ok-Serve.result c.args.wires.now c.split_at_mut-used-in-Ok-Serve.result.0.now c.split_at_mut-used-in-Ok-Serve.result.1.now c.run_serve.new.wires
+    (ap wires_used is) c.min-in-Ok-Serve.ensures c.split_at_mut-used-in-Ok-Serve.ensures.front c.split_at_mut-used-in-Ok-Serve.ensures.back
+    (told.0, told.1, gated_reported read w door later a err c.in-Ok-Serve.registry.now c.in-Ok-Serve.address.now c.in-Ok-Serve.count c.in-Ok-Serve.workers c.in-Ok-Serve.block c.run_serve.result told.0 told.1 is told.2 told.4, told.3)
+
+pub returns-in-Ok-Serve-clause-wired : goal.returns-in-Ok-Serve-clause-wired
+returns-in-Ok-Serve-clause-wired g c = used_after g.W.Wire.seen c.args.wires.now c.split_at_mut-used-in-Ok-Serve.result.0.now c.split_at_mut-used-in-Ok-Serve.result.1.now c.run_serve.new.wires c.split_at_mut-used-in-Ok-Serve.ensures.value c.run_serve.ensures.wired
+
+pub returns-in-Ok-Serve-clause-written : goal.returns-in-Ok-Serve-clause-written
+returns-in-Ok-Serve-clause-written g c = λ tells.
+    gated_written (file_read (g.F.Files.seen c.args.files.now) (g.F.Files.seen c.run_serve.new.files)) _ _ c.in-Ok-Serve.registry.now c.in-Ok-Serve.address.now c.in-Ok-Serve.count c.in-Ok-Serve.workers c.in-Ok-Serve.block c.run_serve.result (g.O.Ends.held c.args.out.now) (rw c.in-Ok-Serve.field-0-is at c.in-Ok-Serve.ensures.asked)
+
+pub returns-in-Ok-Serve-clause-write_fault : goal.returns-in-Ok-Serve-clause-write_fault
+returns-in-Ok-Serve-clause-write_fault g c = λ cut.
+    let out = sink_written g.O.Ends.tells_held g.O.Ends.held g.O.Ends.write_faults c.args.out.now c.args.out.now in
+    let err = sink_written g.E.Ends.tells_held g.E.Ends.held g.E.Ends.write_faults c.args.err.now c.run_serve.new.err in
+    gated_cut (file_read (g.F.Files.seen c.args.files.now) (g.F.Files.seen c.run_serve.new.files)) _ _ c.in-Ok-Serve.registry.now c.in-Ok-Serve.address.now c.in-Ok-Serve.count c.in-Ok-Serve.workers c.in-Ok-Serve.block out err (rw c.in-Ok-Serve.field-0-is at c.in-Ok-Serve.ensures.asked) (λ _. refl, refl) (c.run_serve.ensures.write_fault cut)
+
+pub returns-in-Ok-Serve-clause-endpoint_faults : goal.returns-in-Ok-Serve-clause-endpoint_faults
+returns-in-Ok-Serve-clause-endpoint_faults g c = λ alone done.
+    gated_counts _ _ _ _ _ c.in-Ok-Serve.registry.now c.in-Ok-Serve.address.now c.in-Ok-Serve.count c.in-Ok-Serve.workers c.in-Ok-Serve.block (rw c.in-Ok-Serve.field-0-is at c.in-Ok-Serve.ensures.asked)
 
 -- ---- `generate`
 

@@ -1,29 +1,47 @@
 //! Lines on standard error behind an answer or a plan: of members that are left out, and of SERVICEs that are down.
 ghost use Rattle.std.specs.Prelude.{◌≡◌, ◌++◌, IfOk, OnOk, slice_get};
 ghost use Rattle.std.specs.List.{flat_map};
-ghost use Rattle.fx_commands.specs.MemberLines.{down_line, left_line};
-ghost use Rattle.fx_commands.specs.MemberLines as spec;
+ghost use Rattle.fx_lines.specs.MemberLines.{down_line, left_line};
+ghost use Rattle.fx_lines.specs.MemberLines as spec;
 
-use fx_engine::{Down, DownCause, Left, LeftCause, OutcomeInRounds, Round};
+use fx_outcomes::{Left, LeftCause, OutcomeInRounds, Round};
 use fx_outside::Endpoint;
+use fx_services::{Down, DownCause};
 use fx_terms::Memory;
 use std::alloc::Global;
 
 /// The lines behind an answer: one for each member that is left out, round by round, and then one for each occurrence of SERVICE SILENT that is down.
-pub(crate) fn answer_lines(
+pub fn answer_lines(
     alloc: Global,
     endpoints: &[Endpoint],
     all: &OutcomeInRounds,
 ) -> Result<Vec<u8>, Memory>
     ensures { IfOk result (λ lines. lines.items ≡ spec.answer_lines endpoints.now all.now) }
 {
-    let mut lines = left_lines(alloc, endpoints, all.abandoned.as_slice())?;
-    push_down_lines(&mut lines, all.outcome.down.as_slice())?;
+    noted_lines(
+        alloc,
+        endpoints,
+        all.abandoned.as_slice(),
+        all.outcome.down.as_slice(),
+    )
+}
+
+/// One line for each member that these rounds leave out, round by round, and then one for each of these occurrences of SERVICE SILENT.
+pub fn noted_lines(
+    alloc: Global,
+    endpoints: &[Endpoint],
+    rounds: &[Round],
+    down: &[Down],
+) -> Result<Vec<u8>, Memory>
+    ensures { IfOk result (λ lines. lines.items ≡ spec.noted_lines endpoints.now rounds.now down.now) }
+{
+    let mut lines = left_lines(alloc, endpoints, rounds)?;
+    push_down_lines(&mut lines, down)?;
     Ok(lines)
 }
 
 /// One line for each member that these rounds leave out.
-pub(crate) fn left_lines(
+pub fn left_lines(
     alloc: Global,
     endpoints: &[Endpoint],
     rounds: &[Round],

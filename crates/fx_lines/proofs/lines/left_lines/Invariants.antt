@@ -1,6 +1,6 @@
 use Rattle.std.proofs.Common.{◌≡◌, ◌++◌, drop}
-use Rattle.fx_commands.specs.MemberLines.{left_lines}
-use Rattle.fx_commands.proofs.lines.left_lines.Given as goal
+use Rattle.fx_lines.specs.MemberLines.{left_lines}
+use Rattle.fx_lines.proofs.lines.left_lines.Given as goal
 
 -- what is left completes the lines
 abbrev pub invariant-loop-round : goal.invariant-loop-round

@@ -54,9 +54,13 @@ down_line d = codes "silent " ++ (d.iri ++ line (codes ": " ++ cause_words d.why
 abbrev pub down_lines : List Down → List ℕ
 down_lines noted = flat_map down_line noted
 
--- the lines behind an answer: the members that are left out, and then what is down
+-- of both: the members that these rounds leave out, and then what is down
+abbrev pub noted_lines : List EndpointParts → List Round → List Down → List ℕ
+noted_lines endpoints rounds down = left_lines endpoints rounds ++ down_lines down
+
+-- the lines behind an answer
 abbrev pub answer_lines : List EndpointParts → OutcomeInRounds → List ℕ
-answer_lines endpoints all = left_lines endpoints all.abandoned ++ down_lines all.outcome.down
+answer_lines endpoints all = noted_lines endpoints all.abandoned all.outcome.down
 
 -- the lines behind a plan
 abbrev pub plan_lines : List EndpointParts → PlanInRounds → List ℕ

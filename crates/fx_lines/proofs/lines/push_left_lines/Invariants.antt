@@ -1,7 +1,7 @@
 use Rattle.std.proofs.Common.{◌≡◌, ◌++◌, drop}
 use Rattle.std.specs.List.{flat_map}
-use Rattle.fx_commands.specs.MemberLines.{left_line}
-use Rattle.fx_commands.proofs.lines.push_left_lines.Given as goal
+use Rattle.fx_lines.specs.MemberLines.{left_line}
+use Rattle.fx_lines.proofs.lines.push_left_lines.Given as goal
 
 -- what is left completes the lines
 abbrev pub invariant-loop-one : goal.invariant-loop-one

@@ -1,0 +1,5 @@
+pub mod ToldLemmas
+pub mod ConnectionLemmas
+pub mod ServingLemmas
+pub mod StepLemmas
+pub mod RegistryLemmas

@@ -1,0 +1,4 @@
+pub mod Connections
+pub mod Laws
+pub mod Serving
+pub mod Steps

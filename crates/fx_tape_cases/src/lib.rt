@@ -1,0 +1,4 @@
+//! The cases of the tapes of transcripts.
+#![tactic(auto)]
+
+pub mod tapes;
